@@ -1,4 +1,4 @@
-//! Certificates that are written by hand.
+//! Checks of certificates that are written by hand.
 
 use crate::sources::tables;
 use kmn_base::Memory;
@@ -7,14 +7,14 @@ use source_tests::fixtures::parted;
 use std::alloc::Global;
 use std::test::Fail;
 
-/// Records of three patterns, numbered from 0: one for each way to take `a` and `b` three times, in their order, and one of three
-/// `any`.
+/// Records with three patterns, numbered from 0: one for each sequence of three characters `a` or `b`, in their order, and one with
+/// three `any`.
 const EIGHT: &str = "\
 store(v) 'ab'¶H¶'a' 'a' 'a' + '1'¶'a' 'a' 'b' + '1'¶'a' 'b' 'a' + '1'¶'a' 'b' 'b' + '1'¶'b' 'a' 'a' + '1'¶\
 'b' 'a' 'b' + '1'¶'b' 'b' 'a' + '1'¶'b' 'b' 'b' + '1'¶any(v) any(v) any(v) + '1'";
 
-/// On each line the number of a record and a certificate for it as it is built and, behind ` ⇒ `, whether that is right: in a
-/// certificate a number is a part `By`, and `p:n` makes the last n parts a split at place p.
+/// Each line has the number of a record, the steps that build a certificate for it and, after ` ⇒ `, whether the certificate is
+/// valid. A number appends a part `By`, and `p:n` replaces the last n parts with a split at position p.
 const CASES: &str = "\
 8 0 1 2:2 2 3 2:2 1:2 4 5 2:2 6 7 2:2 1:2 0:2 ⇒ yes
 8 0 4 0:2 2 6 0:2 1:2 1 5 0:2 3 7 0:2 1:2 2:2 ⇒ yes
@@ -35,7 +35,7 @@ const CASES: &str = "\
 0 8 ⇒ no
 9 0 1 2:2 2 3 2:2 1:2 4 5 2:2 6 7 2:2 1:2 0:2 ⇒ no";
 
-/// A certificate `By`, or a split with so many of the last parts.
+/// Returns the certificate that a word builds: a `By`, or a split into as many of the last parts as the word states. Removes them.
 fn built(parts: &mut Vec<Cert>, word: &str) -> Result<Cert, Memory> {
     match word.split_once(":") {
         None => Ok(Cert::By {
@@ -52,7 +52,7 @@ fn built(parts: &mut Vec<Cert>, word: &str) -> Result<Cert, Memory> {
     }
 }
 
-/// The certificate that words build.
+/// Returns the last certificate that words build.
 fn certificate(alloc: Global, words: &str) -> Result<Option<Cert>, Memory> {
     let mut parts = Vec::new(alloc);
     for word in words.split(" ") {
@@ -62,7 +62,7 @@ fn certificate(alloc: Global, words: &str) -> Result<Option<Cert>, Memory> {
     Ok(parts.pop())
 }
 
-/// Whether a record's certificate is right or wrong as a line says.
+/// Returns whether a record's certificate is valid or not as a line expects.
 fn is_so(alloc: Global, finder: &Finder, record: &str, wanted: &str) -> Result<bool, Memory> {
     let (rule, words) = record.split_once(" ").unwrap_or((record, ""));
     let rule = rule.parse().unwrap_or(0);
@@ -72,7 +72,7 @@ fn is_so(alloc: Global, finder: &Finder, record: &str, wanted: &str) -> Result<b
     }
 }
 
-/// The first certificate of which something else is said.
+/// Returns the first case for whose certificate `covers` returns something else, if any.
 fn wrong_case(alloc: Global) -> Result<Option<&'static str>, Fail> {
     let tables = tables(alloc, EIGHT)?;
     let finder = Finder::new(alloc, &tables)?;
@@ -92,7 +92,7 @@ fn checks(rt: HostRuntime) -> Result<(), Fail> {
     Ok(())
 }
 
-/// Without a finder, of a group that isn't there, and of what isn't searched for.
+/// Checks a certificate without a finder, also for a group that does not exist. `find` does not search for such deep certificates.
 #[test]
 fn checks_alone(rt: HostRuntime) -> Result<(), Fail> {
     let tables = tables(rt.alloc(), EIGHT)?;

@@ -1,4 +1,4 @@
-//! Sources, which `source_of` reads, each with its first refusal or with `ok` behind ` ⇒ `.
+//! Sources, which `source_of` reads, each followed by ` ⇒ ` and its first refusal or `ok`.
 
 use crate::rows::source_of;
 use kmn_base::CompileError;
@@ -195,7 +195,7 @@ S:+ any(v) > 'b'¶+ any(k) > 'b'¶+ [T_x] > 'b' ⇒ ok
 S:store(x) 'a' $k $e U+FFFE¶+ any(X) > 'b' ⇒ ok
 S:U+10000 any(e) notany(m) any(m) + 'a' > U+10FFFF $m ⇒ ok"##;
 
-/// What the product leaves out, option stores, and system stores.
+/// Features that the compiler does not support, option stores, and system stores.
 const PROFILE: &str = r##"K:+ 'a' > call(d) ⇒ C11 3
 K:match > 'a' call(d) ⇒ C11 3
 K:nomatch > call('d') ⇒ C11 3
@@ -333,7 +333,7 @@ K:store(&casedkeys) $k¶store(k) [K_A] ⇒ C07 3
 K:store(k) [K_A]¶store(&casedkeys) [K_B] $k¶store(&casedkeys) ⇒ ok
 S:+ 'a' > save(o) set(v = "1") reset(e) $k2¶store(k2) 'a'¶store(k3) $k $m ⇒ ok"##;
 
-/// The limits, both sides of each.
+/// The limits, with rows on both sides of each.
 const LIMITS: &str = r##"S:⟨'a' ×60⟩+ 'b' > 'c' ⇒ ok
 S:⟨'a' ×61⟩+ 'b' > 'c' ⇒ C16 8
 S:'⟨a×60⟩' '' + any(v) > 'c' ⇒ ok
@@ -402,7 +402,7 @@ const SAMPLE: &str =
     + [CTRL ALT K_Q] > set(quotes = \"1\") save(quotes)¶+ '-' > '-'¶match > use(after)¶group(flip)¶\
     any(acute) > index(grave, 1)¶any(grave) > index(acute, 1)¶nomatch > beep¶group(after)¶'--' > U+2013 ⇒ ok";
 
-/// Whether the parser, and behind it the checker, answers of a row's source as the row has it.
+/// Returns whether the parser and then the checker accept or refuse a row's source as the row expects.
 fn is_right(alloc: Global, row: &str) -> Result<bool, Fail> {
     let (text, wanted) = parted(row)?;
     let source = source_of(alloc, text)?;

@@ -1,5 +1,5 @@
-//! Sources, and what they compile to or how they are refused. `source_of` reads the source of a row, and behind ` ⇒ ` stands
-//! the answer: the lines of the file's records in their order, as the digits of a number, and its size; or the refusal.
+//! Sources, and the results of compiling them. `source_of` reads the source of a row, and the result follows ` ⇒ `: the lines of the
+//! file's records in their order, as the digits of a number, and the file's size; or the refusal.
 
 use crate::fixtures::{KEYBOARD, ONE_RULE, with_line};
 use crate::rows::source_of;
@@ -11,7 +11,7 @@ use std::fmt::Write;
 use std::str;
 use std::test::Fail;
 
-/// Sources without a picture.
+/// Sources compiled without a bitmap.
 const SOURCES: &str =
     r##"A:store(v) 'a' \¶'e' \¶'i' c vowels \¶begin Unicode > use(main)¶group(main) using keys¶+ any(v) > 'x' ⇒ lines 666 size 194
 A:begin Unicode>use(main)¶group(main) using keys¶+ 'c' > 'x'¶'a' + 'c' > 'y' ⇒ lines 43 size 150
@@ -24,19 +24,19 @@ A:begin Unicode>use(main)¶group(main) using keys¶+ 'a' > call(d)¶any(q) + 'b'
 A:begin Unicode>use(main)¶group(main) using keys¶+ 'a' > call(d) ⇒ refused C11 line 3
 A:begin Unicode>use(main)¶group(main) using keys¶store(&version) '5.0' ⇒ refused C12 line 3"##;
 
-/// Sources with a picture of four bytes. The name of the picture stands before the answer, `-` where there is none.
+/// Sources compiled with a bitmap of four bytes. The name of the bitmap precedes the result. It is `-` if there is no name.
 const PICTURES: &str =
     r##"A:store(&bitmap) 'p.ico'¶begin Unicode > use(main)¶group(main) using keys¶+ 'a' > 'b'¶ ⇒ p.ico lines 4 size 150
 A:store(n) 'p'¶store(&bitmap) $n '.ico'¶store(&bitmap) 'q'¶begin Unicode > use(main)¶group(main) using keys¶+ 'a' > 'b'¶ ⇒ p.ico lines 6 size 186
 A:store(&bitmap) ''¶begin Unicode > use(main)¶group(main) using keys¶+ 'a' > 'b'¶ ⇒ - lines 4 size 138
 A:¶begin Unicode > use(main)¶group(main) using keys¶+ 'a' > 'b'¶ ⇒ - lines 4 size 126"##;
 
-/// Sources whose records put 1,024 characters each, with the end of the answer.
+/// Sources whose records output 1,024 characters each, with the end of the result.
 const LONG: &str =
     r##"A:store(s) '⟨x×1024⟩'¶begin Unicode > use(main)¶group(main) using keys¶⟨+ 'a' > outs(s)¶×32418⟩ ⇒  size 67107424
 A:store(s) '⟨x×1024⟩'¶begin Unicode > use(main)¶group(main) using keys¶⟨+ 'a' > outs(s)¶×32419⟩ ⇒ refused C23 size 67109494"##;
 
-/// A number, and behind its digits the lines of a group's records in their order.
+/// Returns a number followed by the lines of a group's records in their order, as further digits.
 fn with_lines(digits: u64, rules: &[Rule]) -> u64 {
     let mut lines = digits;
     for rule in rules {
@@ -45,7 +45,7 @@ fn with_lines(digits: u64, rules: &[Rule]) -> u64 {
     lines
 }
 
-/// The lines of records in their order, as the digits of a number.
+/// Returns the lines of all records in their order, as the digits of a number.
 fn record_lines(compiled: &Compiled) -> u64 {
     let mut lines: u64 = 0;
     for group in compiled.tables.groups.as_slice() {
@@ -54,7 +54,7 @@ fn record_lines(compiled: &Compiled) -> u64 {
     lines
 }
 
-/// Writes the answer for a source with a picture.
+/// Writes the result of compiling a source with a bitmap.
 fn write_answer(
     alloc: Global,
     out: &mut String,
@@ -70,7 +70,7 @@ fn write_answer(
     }
 }
 
-/// The answer for a source without a picture.
+/// Returns the result of compiling a row's source without a bitmap.
 fn answered(alloc: Global, row: &str) -> Result<String, Fail> {
     let source = source_of(alloc, row)?;
     let mut out = String::new(alloc);
@@ -78,7 +78,7 @@ fn answered(alloc: Global, row: &str) -> Result<String, Fail> {
     Ok(out)
 }
 
-/// Writes the name of a source's picture.
+/// Writes the name of a source's bitmap, or `-` if it has none.
 fn write_name(alloc: Global, out: &mut String, source: &[u8]) -> Result<(), Fail> {
     let checked = front(alloc, source)?;
     match picture_name(alloc, &checked)? {
@@ -88,7 +88,7 @@ fn write_name(alloc: Global, out: &mut String, source: &[u8]) -> Result<(), Fail
     Ok(())
 }
 
-/// The name of a source's picture, and the answer for it with a picture of four bytes.
+/// Returns the name of a source's bitmap, and the result of compiling the source with a bitmap of four bytes.
 fn pictured(alloc: Global, row: &str) -> Result<String, Fail> {
     let source = source_of(alloc, row)?;
     let mut out = String::new(alloc);
@@ -113,7 +113,7 @@ fn ends_right(alloc: Global, row: &str) -> Result<bool, Fail> {
     Ok(answered(alloc, text)?.as_str().ends_with(wanted))
 }
 
-/// Whether the keyboard of one rule is compiled to its file.
+/// Returns whether the keyboard of one rule compiles to its file.
 fn is_one_rule(alloc: Global) -> Result<bool, Fail> {
     let source = with_line(alloc, KEYBOARD.as_bytes(), b"+ 'a' > 'b'")?;
     let compiled = compile(alloc, source.as_slice(), &[])?;

@@ -1,4 +1,4 @@
-//! What is found for the records of small sources.
+//! What the finder finds for the records of short sources.
 
 use crate::sources::tables;
 use kmn_base::Memory;
@@ -9,8 +9,8 @@ use std::alloc::Global;
 use std::fmt::Write;
 use std::test::Fail;
 
-/// On each line a source, as `tables` reads it, and, behind ` ⇒ `, the records for which something is found, in their order: the
-/// line of each, and those of the records that come before it, one for each part.
+/// Each line has a source, as `tables` reads it, and, after ` ⇒ `, the records for which something is found, in their order: the
+/// line of each, and the lines of the records that cover it, one for each part.
 const CASES: &str = "\
 H¶+ 'a'¶+ [K_A] ⇒ 
 H¶+ 'a'¶+ [NCAPS K_A] ⇒ 4<3
@@ -43,12 +43,12 @@ H¶+ [CTRL K_A]¶+ [LCTRL K_A]¶+ [RCTRL K_A] ⇒ 4<3 5<3
 H¶+ [NCAPS K_1]¶+ '1' ⇒ 
 H¶+ [T_x]¶+ [T_x] ⇒ 4<3";
 
-/// The line of a record of the first group.
+/// Returns the line of a record of the first group.
 fn line_of(rules: &[Rule], rule: u32) -> u32 {
     rules.get(rule as usize).map_or(0, |rule| rule.line)
 }
 
-/// Puts the lines of records behind a sign.
+/// Appends the lines of records, separated by dots.
 fn put_lines(text: &mut String, rules: &[Rule], numbers: &[u32]) -> Result<(), Memory> {
     for n in 0..numbers.len() {
         if n > 0 {
@@ -59,7 +59,7 @@ fn put_lines(text: &mut String, rules: &[Rule], numbers: &[u32]) -> Result<(), M
     Ok(())
 }
 
-/// Puts what is found for a record, unless that is nothing.
+/// Appends what is found for a record, if anything is found.
 fn put_found(text: &mut String, rules: &[Rule], rule: u32, found: &Found) -> Result<(), Memory> {
     if matches!(found, Found::NotFound) {
         return Ok(());
@@ -72,7 +72,7 @@ fn put_found(text: &mut String, rules: &[Rule], rule: u32, found: &Found) -> Res
     }
 }
 
-/// What is found for the records of the first group, each behind a space.
+/// Returns what is found for the records of the first group, with a space before each.
 fn shown(alloc: Global, tables: &Tables, finder: &Finder) -> Result<String, Memory> {
     let mut text = String::new(alloc);
     let Some(group) = tables.groups.as_slice().first() else {
@@ -88,14 +88,14 @@ fn shown(alloc: Global, tables: &Tables, finder: &Finder) -> Result<String, Memo
     Ok(text)
 }
 
-/// Whether what is found in a source is what is wanted.
+/// Returns whether what is found for a source is the expected text.
 fn is_found(alloc: Global, source: &str, wanted: &str) -> Result<bool, Fail> {
     let tables = tables(alloc, source)?;
     let finder = Finder::new(alloc, &tables)?;
     Ok(shown(alloc, &tables, &finder)?.as_str().trim_start() == wanted)
 }
 
-/// The first source in which something else is found.
+/// Returns the first case in which something else is found, if any.
 fn wrong_case(alloc: Global) -> Result<Option<&'static str>, Fail> {
     for case in CASES.lines() {
         let (source, wanted) = parted(case)?;

@@ -1,4 +1,4 @@
-//! Sources, and the tables that they have before records are put in order.
+//! Sources, and their tables before the records are sorted.
 
 use crate::rows::source_of;
 use kmn_compiler::front;
@@ -8,8 +8,8 @@ use std::alloc::{AllocError, Global};
 use std::fmt::Write;
 use std::test::Fail;
 
-/// Cases with a blank line between them. The first line of a case is a source, as `source_of` reads it. Behind it stand a line
-/// for each store, its system id and its elements, and a line for each record: its line, twice its place in the key store, its
+/// Cases, separated by blank lines. The first line of a case is a source, as `source_of` reads it. It is followed by a line for each
+/// store, with its system id and its elements, and a line for each record, with its line, twice its position in the key store, its
 /// key, context and output.
 const CASES: &str = r##"K:+ 'a' > 'b'¶
 3 0 Char(97) [] [Char('b')]
@@ -57,7 +57,7 @@ K:store(&version) '9.0'¶store(k) 'abc'¶store(o) 'x'¶+ any(k) > index(o,1)¶
 6 4 Char(99) [] [Nul]
 "##;
 
-/// Cases with cased keys. Behind the source stands a line for each record alone: its place, its key and its output.
+/// Cases with cased keys. The source is followed only by a line for each record, with its place, its key and its output.
 const CASED: &str =
     r##"K:store(&casedkeys) [K_B]¶store(k) [K_A] [K_B] 'c' [SHIFT K_B]¶store(o) "wxyz"¶+ any(k) > index(o,1)¶
 0 Virtual { flags: 16384, code: 65 } [Char('w')]
@@ -111,7 +111,7 @@ fn write_cased_records(out: &mut String, rules: &[Rule]) -> Result<(), AllocErro
     Ok(())
 }
 
-/// The records of tables of one group.
+/// Returns the records of tables with one group.
 fn records(tables: &Tables) -> Result<&[Rule], Fail> {
     match tables.groups.as_slice() {
         [group] => Ok(group.rules.as_slice()),
@@ -119,14 +119,14 @@ fn records(tables: &Tables) -> Result<&[Rule], Fail> {
     }
 }
 
-/// The tables of a row's source.
+/// Returns the tables of a row's source.
 fn expanded(alloc: Global, row: &str) -> Result<Tables, Fail> {
     let source = source_of(alloc, row)?;
     let checked = front(alloc, source.as_bytes())?;
     Ok(expand(alloc, &checked)?)
 }
 
-/// Whether a case's source has its stores and records.
+/// Returns whether a case's source has its stores and records.
 fn is_right(alloc: Global, case: &str) -> Result<bool, Fail> {
     let (row, wanted) = case.split_once('\n').ok_or("a case without an answer")?;
     let tables = expanded(alloc, row)?;
@@ -136,7 +136,7 @@ fn is_right(alloc: Global, case: &str) -> Result<bool, Fail> {
     Ok(given.as_str().trim_end() == wanted.trim_end())
 }
 
-/// Whether a case's source has its records of cased keys.
+/// Returns whether a case's source has its records of cased keys.
 fn is_right_cased(alloc: Global, case: &str) -> Result<bool, Fail> {
     let (row, wanted) = case.split_once('\n').ok_or("a case without an answer")?;
     let tables = expanded(alloc, row)?;

@@ -1,5 +1,5 @@
-//! What several tests take: the first lines of a keyboard, the file of a source and that of one rule, a text that gets a line more,
-//! and tables of one group.
+//! What several tests use: the first lines of a keyboard, the file of a source, the file of one rule, a text with another line, and
+//! the tables of one group.
 
 ghost use Rattle.std.specs.Prelude.{◌≡◌, ◌∷◌, ◌++◌, [], IfOk};
 ghost use Rattle.kmx_format.specs.WorkedFiles.{main_tables};
@@ -23,12 +23,12 @@ pub const ONE_RULE: [u8; 122] = [
     0x61, 0, 0x69, 0, 0x6E, 0, 0, 0, 0x62, 0, 0, 0,
 ];
 
-/// The file of a source.
+/// Returns the file that a source compiles to.
 pub fn compiled(alloc: Global, source: &str) -> Result<Seq<u8>, Fail> {
     Ok(compile(alloc, source.as_bytes(), &[])?.bytes)
 }
 
-/// A text with a line behind it.
+/// Returns a text followed by a line.
 pub fn with_line(alloc: Global, text: &[u8], line: &[u8]) -> Result<Vec<u8>, AllocError>
     ensures { IfOk result (λ longer. longer.items ≡ text.now ++ line.now ++ 10 ∷ []) }
 {
@@ -38,7 +38,7 @@ pub fn with_line(alloc: Global, text: &[u8], line: &[u8]) -> Result<Vec<u8>, All
     Ok(longer)
 }
 
-/// Tables of the version 10.0 with one group, which is called main and uses keys.
+/// Returns tables of version 10.0 with one group, which is called main and uses keys.
 pub fn tables(alloc: Global, stores: Seq<Store>, rules: Seq<Rule>) -> Result<Tables, Memory>
     ensures { IfOk result (λ tables. tables ≡ main_tables stores rules) }
 {

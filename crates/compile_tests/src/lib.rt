@@ -1,11 +1,12 @@
-//! The tests of the crates that check and compile sources: `ordering` of `kmn_compiler`, `checks` of `rule_checker`,
-//! `expanding` of `rule_expand`, and `compiling` of `kmn_compiler`; and of `rule_shadow`: `dead_rules` has what it finds in small
-//! sources, and `certificates` those that are written by hand.
+//! Tests the crates that check and compile sources: `ordering` tests `rule_order`, `checks` tests `rule_checker`, `expanding` tests
+//! `rule_expand`, and `compiling` tests `kmn_compiler`. For `rule_shadow`, `dead_rules` tests what it finds in short sources, and
+//! `certificates` tests certificates that are written by hand.
 //!
-//! They stand here because a crate with tests is proved twice, once with them and once without: so each of those crates is
-//! proved once, and the tests are proved over them, beside those of `source_tests`. `rows` has the sources of rows, `sources`
-//! the tables of small ones, and `fixtures` what the tests of compiling take: the tests of files, sessions and runs take of it
-//! the file of one rule or of a source, and `file_tests` and `engine_tests` the tables of one group.
+//! The tests are in a separate crate because a crate with tests is proved twice, once with its tests and once without. So each of
+//! the tested crates is proved once, and the tests are proved after it. `source_tests` does the same for the crates below these.
+//! `rows` builds the sources of rows, `sources` the tables of short sources, and `fixtures` contains what other tests use too: the
+//! tests of files, sessions and runs use the file of one rule or of a source, and `file_tests` and `engine_tests` use the tables of
+//! one group.
 #![tactic(auto)]
 
 #[cfg(test)]

@@ -1,13 +1,13 @@
-//! Records in the order of the rules, and in that of a file.
+//! Records in the order of the rules, and in the order of a file.
 
 use kmn_base::{Memory, RuleKey, Seq};
-use kmn_compiler::order;
 use rule_model::{Group, Pat, Rule, Tables};
+use rule_order::order;
 use std::alloc::Global;
 use std::test::Fail;
 
-/// Each record as the length of its context, its line and its place, in the order of the rules; and in
-/// that of a file: the longer context, the earlier line, and the earlier place.
+/// Records, each as the length of its context, its line and its place, first in the order of the rules and then in the order of a
+/// file. A file has longer contexts before shorter ones, then earlier lines, then earlier places.
 const RECORDS: &[(&[(u32, u32, u32)], &[(u32, u32, u32)])] = &[
     (&[(0, 3, 0), (1, 4, 0)], &[(1, 4, 0), (0, 3, 0)]),
     (&[(0, 4, 0), (0, 3, 0)], &[(0, 3, 0), (0, 4, 0)]),
@@ -54,7 +54,7 @@ fn tables(alloc: Global, records: &[(u32, u32, u32)]) -> Result<Tables, Memory> 
     })
 }
 
-/// Whether the records of tables are these, in this order.
+/// Returns whether the records of tables are these, in this order.
 fn has(tables: &Tables, records: &[(u32, u32, u32)]) -> bool {
     tables.groups.as_slice().iter().all(|group| {
         group.rules.len() == records.len()

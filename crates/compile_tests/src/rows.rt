@@ -1,7 +1,7 @@
-//! The sources of rows. In a row, what stands before the first `:` opens the source: `K` two lines with the group `main` that
-//! uses keys, `S` these and five lines of stores, `N` the same seven lines with a group that uses none, `A` nothing. Then
-//! comes the source's text. In the text `¶` is a line feed, and `⟨TEXT×COUNT⟩` is the text so many times, in which `№` is the
-//! number of the copy, from 0.
+//! The sources of rows. The text before the first `:` of a row selects the first lines of the source: `K` two lines with the group
+//! `main` that uses keys, `S` these and five lines of stores, `N` the same seven lines with a group that does not use keys, and `A`
+//! no lines. Then comes the source's text. In the text, `¶` is a line feed, and `⟨TEXT×COUNT⟩` is the text repeated count times, in
+//! which `№` is the number of the copy, counted from 0.
 
 use crate::fixtures::KEYBOARD;
 use std::alloc::{AllocError, Global};
@@ -14,7 +14,7 @@ const STORES: &str = "begin Unicode > use(main)\ngroup(main) using keys\n\
 const WITHOUT_KEYS: &str = "begin Unicode > use(main)\ngroup(main)\n\
     store(v) 'ab'\nstore(k) [K_A] [SHIFT K_B]\nstore(m) dk(x)\nstore(e)\nstore(o) \"0\"\n";
 
-/// What opens a row's source.
+/// Returns the first lines of a row's source.
 fn opening(word: &str) -> &'static str {
     match word {
         "K" => KEYBOARD,
@@ -24,7 +24,7 @@ fn opening(word: &str) -> &'static str {
     }
 }
 
-/// Writes a text of a row, as the copy of this number.
+/// Writes a text of a row, as the copy with this number.
 fn write_copy(out: &mut String, text: &str, copy: u32) -> Result<(), AllocError> {
     for c in text.chars() {
         match c {
@@ -43,7 +43,7 @@ fn write_copies(out: &mut String, text: &str, count: u32) -> Result<(), AllocErr
     Ok(())
 }
 
-/// Writes a piece of a row: a text, and perhaps copies of another.
+/// Writes a piece of a row: a text, and the copies of another text if the piece has any.
 fn write_piece(out: &mut String, piece: &str) -> Result<(), Fail> {
     match piece.split_once('⟨') {
         Some((text, copies)) => {
@@ -59,7 +59,7 @@ fn write_piece(out: &mut String, piece: &str) -> Result<(), Fail> {
     }
 }
 
-/// The source of a row.
+/// Returns the source of a row.
 pub fn source_of(alloc: Global, row: &str) -> Result<String, Fail> {
     let (word, text) = row.split_once(':').ok_or("a row without an opening")?;
     let mut source = String::new(alloc);

@@ -1,4 +1,4 @@
-//! The tables of small sources.
+//! The tables of short sources.
 
 ghost use Rattle.kmx_format.specs.Writable.{IsWritable};
 ghost use Rattle.std.specs.Prelude.{IfOk};
@@ -8,11 +8,11 @@ use kmn_compiler::compile;
 use rule_model::Tables;
 use std::alloc::Global;
 
-/// The lines that `H` stands for.
+/// The lines that `H` represents.
 const HEAD: &str = "begin Unicode > use(main)\ngroup(main) using keys\n";
 
-/// A source of lines that `¶` parts: `H` stands for the start statement and the group, and a line with a key and without
-/// an output gets one.
+/// Returns a source of lines separated by `¶`: `H` represents the begin statement and the group, and a line with a key but without
+/// an output gets an output.
 fn source(alloc: Global, lines: &str) -> Result<String, Memory> {
     let mut text = String::new(alloc);
     for line in lines.split("¶") {
@@ -30,7 +30,7 @@ fn source(alloc: Global, lines: &str) -> Result<String, Memory> {
     Ok(text)
 }
 
-/// The tables of such a source.
+/// Returns the tables of such a source.
 pub fn tables(alloc: Global, lines: &str) -> Result<Tables, CompileError>
     ensures { IfOk result IsWritable }
 {

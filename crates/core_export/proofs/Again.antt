@@ -1,4 +1,4 @@
--- What was exported is exported to itself.
+-- If an exported file is exported again, it does not change.
 use Rattle.std.proofs.Common.{◌≡◌, ℕ, zero, suc, ◌+◌, ◌<◌, ◌≤◌, Bool, true, false, not, nat_eq, leb, le-leb, List, ◌++◌, length, take, drop, refl, sym, ap, ap₂, ◌∙◌, length-drop, arith}
 use Rattle.std.specs.Prelude.{if◌then◌else◌}
 use Rattle.std.specs.Int.{w32, from_le_bytes}
@@ -10,7 +10,7 @@ use Rattle.kmn_base.proofs.SmallBytes.{AreBytes, byte_small}
 use Rattle.kmx_format.specs.declared.places.TheConstants.{CHECKSUM_AT, GROUPS_AT, STORES_AT, VERSION_AT}
 use Rattle.kmx_format.specs.File.{word}
 use Rattle.kmx_format.specs.TablesOf.{word_at}
-use Rattle.kmx_parts.specs.View.{store_count, group_count}
+use Rattle.kmx_view.specs.View.{store_count, group_count}
 use Rattle.core_export.specs.Checksum.{checksum}
 use Rattle.core_export.specs.Words.{with_word}
 use Rattle.core_export.specs.Export.{pointed, pointed_stores, pointed_records, pointed_groups, played_version, are_contents_pointed, are_contexts_pointed, are_groups_pointed, replaced}
@@ -18,7 +18,7 @@ use Rattle.core_export.specs.ExportLaws.{ExportedFilesStay}
 use Rattle.core_export.proofs.Replaced.{is_replaced, overwritten}
 use Rattle.core_export.proofs.Made.{has_header}
 
--- ---- a word put where it stands
+-- ---- a word replaced by itself
 
 word_spelled : (bytes : List ℕ) (place : ℕ) → AreBytes bytes → place + 4 ≤ length bytes → word (word_at bytes place) ≡ take 4 (drop place bytes)
 unfolding word word_at
@@ -36,7 +36,7 @@ word_again bytes place h within =
     ∙ ap (λ (xs : List ℕ). take place bytes ++ xs) (take-append-drop 4 (drop place bytes))
     ∙ take-append-drop place bytes
 
--- ---- no offset 0 is left
+-- ---- if no offset 0 is left, no offset is replaced
 
 module _ (bytes : List ℕ) (unit : ℕ) where
   point_stays : (place : ℕ) (out : List ℕ) → not (nat_eq (word_at bytes place) 0) ≡ true → pointed bytes unit place out ≡ out

@@ -1,4 +1,4 @@
--- Counts of two lists together.
+-- Counts of items in two lists together.
 use Rattle.std.proofs.Common.{◌≡◌, ℕ, ◌+◌, ◌-◌, ◌^◌, min, Bool, cond, List, ◌++◌, ap, sym, ◌∙◌, arith}
 use Rattle.std.specs.Prelude.{count_by, nat_lt}
 use Rattle.std.proofs.lemmas.Bool.Decides.{nat_tests}
@@ -7,7 +7,7 @@ use Rattle.std.proofs.lemmas.List.Sums.{sum_by-append}
 pub count_append : {X : Type 0} (p : X → Bool) (xs ys : List X) → count_by p (xs ++ ys) ≡ count_by p xs + count_by p ys
 count_append p xs ys = sum_by-append (λ x. cond (p x) 1 0) xs ys
 
--- a sum that stands still at the end of a number is past 1 where the sum is
+-- a saturating sum is greater than 1 exactly where the sum is
 still_more : (sum still : ℕ) → still ≡ min sum (2 ^ 64 - 1) → nat_lt 1 still ≡ nat_lt 1 sum
 still_more sum still is = grind (arith, nat_tests)
 

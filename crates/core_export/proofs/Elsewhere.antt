@@ -1,4 +1,4 @@
--- A byte that is in none of the words which are replaced stays, and there are as many.
+-- A byte that is in none of the replaced words does not change, and neither does the number of bytes.
 use Rattle.std.proofs.Common.{◌≡◌, ℕ, zero, suc, ◌+◌, ◌*◌, ◌<◌, ◌≤◌, Bool, true, false, List, [], ◌∷◌, length, take, drop, refl, sym, ap, subst, ◌∙◌, inl, inr, arith}
 use Rattle.std.specs.Prelude.{slice_get, nat_lt, nat_eq, if◌then◌else◌}
 use Rattle.std.proofs.lemmas.Bool.{cases_Bool, eqb-true}
@@ -6,13 +6,13 @@ use Rattle.std.proofs.lemmas.Bool.Decides.{nat_tests}
 use Rattle.kmx_format.specs.declared.places.TheConstants.{CHECKSUM_AT, GROUPS_AT, STORES_AT, VERSION_AT}
 use Rattle.kmx_format.specs.declared.sizes.TheConstants.{STORE_BYTES, GROUP_BYTES, RULE_BYTES}
 use Rattle.kmx_format.specs.TablesOf.{word_at}
-use Rattle.kmx_parts.specs.View.{store_count, group_count}
+use Rattle.kmx_view.specs.View.{store_count, group_count}
 use Rattle.core_export.specs.Checksum.{checksum}
 use Rattle.core_export.specs.Words.{with_word}
 use Rattle.core_export.specs.Export.{pointed, pointed_stores, pointed_records, pointed_groups, played_version, summed, replaced, exported, IsInWord, IsInZero, IsInContents, IsInContexts, IsInGroups, InChecksum, InVersion, InContent, InContext, OnlyReplaced}
 use Rattle.core_export.proofs.Replaced.{length-with_word, before_same, behind_same}
 
--- ---- as many bytes
+-- ---- the number of bytes
 
 module _ (bytes : List ℕ) (unit : ℕ) where
   pointed_size : (place : ℕ) (out : List ℕ) → length (pointed bytes unit place out) ≡ length out
@@ -40,9 +40,9 @@ summed_size : (out : List ℕ) → length (summed out) ≡ length out
 summed_size out =
     length-with_word CHECKSUM_AT (checksum (with_word CHECKSUM_AT 0 out)) (with_word CHECKSUM_AT 0 out) ∙ length-with_word CHECKSUM_AT 0 out
 
--- ---- a byte that stays
+-- ---- a byte that does not change
 
--- it is the last of those up to it, and the first of those from it on
+-- item n of a list is the last of its first n + 1 items, and the first of the items after its first n
 last_taken : (n : ℕ) (xs : List ℕ) → slice_get (take (suc n) xs) n ≡ slice_get xs n
 last_taken zero [] = refl
 last_taken zero (x ∷ xs) = refl

@@ -1,4 +1,4 @@
--- What `==` says of the items of tables.
+-- `==` decides whether two items of tables are equal.
 use Rattle.std.proofs.Common.{◌≡◌, rules}
 use Rattle.std.specs.Bool.{Decides}
 use Rattle.kmn_base.specs.declared.items.Element.{Element}

@@ -1,4 +1,4 @@
--- A file that is written of tables has its arrays one behind the other, and all strings behind them.
+-- In a file that is written from tables, the arrays follow one another, and all strings come after them.
 use Rattle.std.proofs.Common.{◌≡◌, ℕ, ◌+◌, ◌*◌, ◌^◌, ◌<◌, ◌≤◌, ◌⊎◌, List, [], ◌∷◌, ◌++◌, length, Some, refl, sym, ap, subst, ◌∙◌, inl, inr, arith, length-append, lit<}
 use Rattle.std.specs.List.{flat_map}
 use Rattle.std.proofs.lemmas.List.Concat.{flat_map-append}
@@ -16,7 +16,7 @@ use Rattle.kmx_format.proofs.FileStands.{StandsAt, end_within, front, back, same
 use Rattle.kmx_format.proofs.FileRecords.{offset_of-le, length-store_record, length-rule_record, length-rule_records, rule_records-append}
 use Rattle.kmx_format.proofs.FileGroups.{length-group_record}
 use Rattle.kmx_format.proofs.FileLaw.{Parts, parts, law, version-small}
-use Rattle.kmx_parts.specs.View.{store_count, group_count}
+use Rattle.kmx_view.specs.View.{store_count, group_count}
 use Rattle.kmx_verifier.specs.FaultOf.{IsValid}
 use Rattle.kmx_verifier.proofs.FileValid.{file_of_valid}
 use Rattle.core_export.specs.Checksum.{checksum}
@@ -37,7 +37,7 @@ clear_at high (x ∷ xs) place h = inr h
 clear_word : {X : Type 0} (high word : ℕ) (xs : List X) (place : ℕ) → word ≡ offset_of xs place → high ≤ place → IsClear high word
 clear_word high word xs place is h = subst (IsClear high) (sym is) (clear_at high xs place h)
 
--- key records that stand between two places
+-- the key records of a group are between two places, or there are none
 laid_at : (rules : List Rule) (place keys count : ℕ) → keys ≡ offset_of rules place → count ≡ length rules → (count ≡ 0) ⊎ ((place ≤ keys) × (keys + 20 * count ≤ place + 20 * length rules))
 laid_at [] place keys count is counted = inl counted
 laid_at (rule ∷ rules) place keys count is counted = inr (omega (arith, is), omega (arith, is, counted))
@@ -167,7 +167,7 @@ module _ (bytes : List ℕ) (small : length bytes < 2 ^ 32) (unit high : ℕ) wh
         (next_rules, omega arith, omega (arith, few, counts), laid_at group.rules rules_at (word_at bytes (at + 4)) (word_at bytes (at + 16)) rules_are count_is, rest.1),
       )
 
--- stores that stand behind the header, and where there are none nothing does
+-- the stores come after the header, or there are none
 stores_first : (stores : List Store) (place count : ℕ) → count ≡ length stores → place ≡ offset_of stores 64 → (count ≡ 0) ⊎ ((64 ≤ place) × (place + 12 * count ≤ 64 + 12 * length stores))
 stores_first [] place count counted is = inl counted
 stores_first (store ∷ stores) place count counted is = inr (omega (arith, is), omega (arith, is, counted))

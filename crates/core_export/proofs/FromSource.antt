@@ -1,4 +1,4 @@
--- What a source compiles to is exported.
+-- If a source compiles to a file, the file is exported.
 use Rattle.std.proofs.Common.{◌≡◌, ◌≢◌, ℕ, ◌≤◌, ◌<◌, Bool, true, false, nat_lt, List, [], ◌∷◌, ◌++◌, length, map, Option, Some, None, refl, sym, ap, subst, ◌∙◌, arith}
 use Rattle.std.specs.Prelude.{◌+◌, ◌-◌, ◌/◌, ◌%◌, if◌then◌else◌}
 use Rattle.std.specs.Option.{is_some}
@@ -12,9 +12,9 @@ use Rattle.rule_model.specs.declared.tables.Tables.{Tables}
 use Rattle.kmn_parser.specs.ProgramLaws.{IsName, IsReadGroup, IsReadProgram}
 use Rattle.kmn_parser.proofs.ReadPrograms.{programs_are_read}
 use Rattle.kmx_format.specs.FileUnits.{name_units}
-use Rattle.kmx_format.specs.Compiles.{file_group}
-use Rattle.kmx_format.specs.Numbers.{numbers_of}
-use Rattle.kmx_format.specs.Ordered.{ordered_group, compiled_tables}
+use Rattle.compile_laws.specs.Compiles.{file_group}
+use Rattle.compile_laws.specs.Numbers.{numbers_of}
+use Rattle.compile_laws.specs.Ordered.{ordered_group, compiled_tables}
 use Rattle.kmn_compiler.specs.Source.{IsCompiledFrom}
 use Rattle.rule_checker.proofs.Sources.{accepted_parts}
 use Rattle.core_export.specs.Export.{zero_unit}
@@ -42,7 +42,7 @@ first_named : (program : Program) (groups : List GroupDef) → groups ≢ [] →
 first_named program [] some h = absurd (some refl)
 first_named program (group ∷ groups) some h = name_spelled group.name (All-head IsReadGroup group groups h).name
 
--- tables that can be written have a group
+-- if tables have a start group, they have a group
 some_group : {X : Type 0} (groups : List X) (start : ℕ) → start < length groups → groups ≢ []
 some_group [] start h none = absurd (omega (arith, h))
 some_group (group ∷ groups) start h none = absurd (cc)

@@ -1,5 +1,5 @@
--- A file whose offsets 0 point to a zero unit has the same fault and the same tables, where its strings lie behind all
--- that was replaced.
+-- If the offsets 0 of a file are pointed to a zero unit and all its strings come after the replaced words, it keeps its fault and
+-- its tables.
 use Rattle.std.proofs.Common.{◌≡◌, ◌≢◌, ℕ, zero, suc, ◌+◌, ◌*◌, ◌^◌, ◌<◌, ◌≤◌, ◌⊎◌, Bool, true, not, ◌&&◌, ◌||◌, nat_eq, nat_lt, List, [], ◌∷◌, length, map, drop, bit_and, None, refl, sym, ap, ap₂, ◌∙◌, inl, inr, arith, ne_eqb}
 use Rattle.std.specs.Prelude.{nat_le, if◌then◌else◌}
 use Rattle.std.specs.List.{filter_map}
@@ -11,12 +11,12 @@ use Rattle.kmn_base.specs.declared.codes.Code.TheVariants.{V09, V10, V15}
 use Rattle.kmn_base.specs.declared.keys.TheConstants.{SHIFT_FLAGS}
 use Rattle.kmn_base.specs.declared.limits.TheConstants.{FILE_NAME_UNITS, CONTEXT_ITEMS, OUTPUT_ITEMS, RECORDS}
 use Rattle.kmn_base.specs.declared.units.UnitItem.{UnitItem}
-use Rattle.kmx_format.specs.Walk.{results_of}
+use Rattle.item_codec.specs.Walk.{results_of}
 use Rattle.rule_model.specs.declared.tables.Store.{Store}
 use Rattle.rule_model.specs.declared.tables.Rule.{Rule}
 use Rattle.rule_model.specs.declared.tables.Group.{Group}
 use Rattle.kmx_format.specs.TablesOf.{word_at, before_zero, string_at, items_of, name_at, element_of_unit_item, pattern_of_unit_item, output_of_unit_item, stores_from, store_at, key_of, rule_at, rules_from, uses_keys_at, group_at, groups_from}
-use Rattle.kmx_parts.specs.View.{has_zero, is_ended, store_count, group_count}
+use Rattle.kmx_view.specs.View.{has_zero, is_ended, store_count, group_count}
 use Rattle.kmx_verifier.specs.declared.faults.StringKind.{StringKind}
 use Rattle.kmx_verifier.specs.declared.faults.StringKind.TheVariants as of
 use Rattle.kmx_verifier.specs.declared.faults.Target.{Target}
@@ -26,11 +26,11 @@ use Rattle.kmx_verifier.proofs.Looking.{walk_same, context_same}
 use Rattle.core_export.specs.Export.{are_contents_pointed, are_contexts_pointed, are_groups_pointed}
 use Rattle.core_export.proofs.Outside.{later, Refilled, StoresKept, RecordsKept, GroupsKept}
 
--- a string is the empty one of offset 0, or lies behind a place
+-- a string is the empty one of offset 0, or starts at or after a place
 abbrev pub IsClear : ℕ → ℕ → Type 0
 IsClear high offset = (offset ≡ 0) ⊎ (high ≤ offset)
 
--- all strings of so many records do
+-- all strings of a number of records are the empty one of offset 0, or start at or after a place
 module _ (bytes : List ℕ) (high : ℕ) where
   abbrev pub StoresClear : ℕ → ℕ → Type 0
   StoresClear place zero = Unit {0}
@@ -74,7 +74,7 @@ some n h = ap not (ne_eqb n 0 h)
 module _ (bytes fin : List ℕ) (unit high : ℕ) (sizes : length bytes ≡ length fin) (small : unit < 2 ^ 32) (tail : drop high bytes ≡ drop high fin) (positive : 0 < unit) (behind : high ≤ unit) (blank : string_at bytes unit ≡ []) (ends : is_ended bytes unit ≡ true) (stores : store_count bytes ≡ store_count fin) (groups : group_count bytes ≡ group_count fin) where
   -- ---- strings
 
-  -- the string whose offset stands at a place is the same, and where the offset isn't it is empty
+  -- the string whose offset is at a place is the same, and is empty if the offset differs
   record StringKept (place : ℕ) : Type 0 where
     same : string_at bytes (word_at bytes place) ≡ string_at fin (word_at fin place)
     ended : is_ended bytes (word_at bytes place) ≡ is_ended fin (word_at fin place)

@@ -1,4 +1,4 @@
--- A file whose arrays come one behind the other, with all strings behind them, says the same when its words are replaced.
+-- If the arrays of a file follow one another and all strings come after them, the file says the same with its words replaced.
 use Rattle.std.proofs.Common.{◌≡◌, ℕ, ◌+◌, ◌*◌, ◌^◌, ◌<◌, ◌≤◌, ◌⊎◌, true, not, ◌&&◌, ◌||◌, nat_eq, nat_lt, List, [], length, drop, min, None, refl, sym, ap, ap₂, subst, ◌∙◌, inl, inr, arith}
 use Rattle.std.specs.Prelude.{nat_le}
 use Rattle.std.specs.Option.{option_or}
@@ -9,7 +9,7 @@ use Rattle.kmn_base.proofs.Options.{option_or-none}
 use Rattle.kmx_format.specs.declared.places.TheConstants.{FLAGS_AT, GROUPS_AT, GROUP_COUNT_AT, IDENTIFIER_AT, PICTURE_AT, PICTURE_SIZE_AT, START_ANSI_AT, START_UNICODE_AT, STORES_AT, STORE_COUNT_AT, VERSION_AT}
 use Rattle.kmx_format.specs.TablesOf.{half_at, word_at, string_at, stores_from, groups_from, tables_of}
 use Rattle.kmx_format.specs.Versions.{is_version}
-use Rattle.kmx_parts.specs.View.{is_ended, store_count, group_count}
+use Rattle.kmx_view.specs.View.{is_ended, store_count, group_count}
 use Rattle.kmx_verifier.specs.FaultOf.{broken, size_fault, header_fault, arrays_fault, stores_fault, groups_fault, fault_of, IsValid, no_group}
 use Rattle.kmx_verifier.proofs.Sound.{broken-none}
 use Rattle.kmx_verifier.proofs.Clean.{both, unbroken_not}
@@ -17,7 +17,7 @@ use Rattle.core_export.specs.Export.{pointed_stores, pointed_groups, played_vers
 use Rattle.core_export.proofs.Outside.{Outside, SameWithin, unchanged, wider, later, back_same, front_same, joined, narrower, stores_outside, groups_outside, GroupsLaid, StoresKept, GroupsKept, stores_kept, groups_kept}
 use Rattle.core_export.proofs.Kept.{StoresClear, GroupsClear, stores_same, groups_same}
 
--- header, stores, groups and key records come one behind the other, and all strings behind a place that is behind these
+-- header, stores, groups and key records follow one another, and all strings come at or after a place that is after these
 pub record Laid (bytes : List ℕ) (unit high : ℕ) : Type 0 where
   pub first : ℕ
   pub second : ℕ
@@ -30,7 +30,7 @@ pub record Laid (bytes : List ℕ) (unit high : ℕ) : Type 0 where
   pub store_strings : StoresClear bytes high (word_at bytes STORES_AT) (store_count bytes)
   pub group_strings : GroupsClear bytes high (word_at bytes GROUPS_AT) (group_count bytes)
 
--- a version that the engine plays is one of the format
+-- if a version is one of the format, the version that the engine plays for it is too
 played_is_version : (version : ℕ) → is_version version ≡ true → is_version (played_version version) ≡ true
 played_is_version version known =
     elim (cases_lt version 0x0F00) [

@@ -1,9 +1,9 @@
--- What is made of a file, once it is known to say the same.
+-- If the written file says the same, it is an export of the file.
 use Rattle.std.proofs.Common.{◌≡◌, ℕ, ◌^◌, ◌<◌, ◌≤◌, false, nat_lt, ltb-false, List, length, Some, sym, subst, ap, ◌∙◌, arith}
 use Rattle.kmn_base.proofs.Options.{option_or-none}
 use Rattle.kmx_format.specs.declared.places.TheConstants.{CHECKSUM_AT, GROUPS_AT, STORES_AT, VERSION_AT}
 use Rattle.kmx_format.specs.TablesOf.{word_at}
-use Rattle.kmx_parts.specs.View.{store_count, group_count}
+use Rattle.kmx_view.specs.View.{store_count, group_count}
 use Rattle.kmx_verifier.specs.FaultOf.{size_fault, fault_of, IsValid}
 use Rattle.kmx_verifier.proofs.Sound.{broken-none}
 use Rattle.core_export.specs.Checksum.{checksum}
@@ -12,7 +12,7 @@ use Rattle.core_export.specs.Export.{zero_unit, pointed_stores, pointed_groups, 
 use Rattle.core_export.proofs.Replaced.{version_stands}
 use Rattle.core_export.proofs.Elsewhere.{only_replaced}
 
--- a valid file has a header
+-- if a file is valid, it has a header
 pub has_header : (bytes : List ℕ) → IsValid bytes → 64 ≤ length bytes
 unfolding fault_of size_fault
 has_header bytes h =
@@ -30,7 +30,7 @@ version_made bytes out unit is long =
     version_stands pointed out (played_version (word_at bytes VERSION_AT)) (checksum (with_word CHECKSUM_AT 0 (with_word VERSION_AT (played_version (word_at bytes VERSION_AT)) pointed)))
     (played_small (word_at bytes VERSION_AT)) is long
 
--- the answer of the exporter
+-- the result of the exporter meets its specification
 pub is_made : (file bytes out written : List ℕ) (unit : ℕ) → bytes ≡ file → Some unit ≡ zero_unit bytes → out ≡ exported bytes unit
     → (12 ≤ length out → word_at out CHECKSUM_AT ≡ checksum (with_word CHECKSUM_AT 0 out)) → written ≡ out → SaysTheSame file written
     → (u : ℕ) × (zero_unit file ≡ Some u) × (out ≡ exported file u) × OnlyReplaced file out × IsExport file out

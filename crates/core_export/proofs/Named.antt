@@ -1,4 +1,4 @@
--- A file whose first group has a name has a zero unit to point to, and what says the same takes the same steps.
+-- If the first group of a file has a name, the file has a zero unit to point to. If files say the same, they take the same steps.
 use Rattle.std.proofs.Common.{◌≡◌, ◌≢◌, ℕ, ◌+◌, ◌*◌, ◌^◌, ◌<◌, ◌≤◌, true, List, [], ◌∷◌, length, Option, Some, None, refl, sym, ap, subst, ◌∙◌, arith, lit<, ne_eqb}
 use Rattle.std.specs.Prelude.{if◌then◌else◌}
 use Rattle.std.specs.Option.{is_some, option_or}
@@ -17,7 +17,7 @@ use Rattle.kmx_format.specs.Writable.{IsWritable}
 use Rattle.kmx_format.proofs.FileStands.{StandsAt, front, first_word_at, nth_word_at}
 use Rattle.kmx_format.proofs.FileRecords.{offset_of-le}
 use Rattle.kmx_format.proofs.FileLaw.{Parts, parts}
-use Rattle.kmx_parts.specs.View.{store_count, group_count}
+use Rattle.kmx_view.specs.View.{store_count, group_count}
 use Rattle.core_export.specs.Export.{end_of, end_in_groups, end_in_stores, zero_unit, with_played_version}
 use Rattle.core_export.specs.ExportLaws.{IsFirstNamed, NamedFilesHaveZeroUnits, ExportingKeepsMeaning}
 

@@ -1,4 +1,4 @@
--- The exporter's answer for a file of which no event may save twice.
+-- The result of the exporter for a file if no event may save twice.
 use Rattle.std.proofs.Common.{ℕ, List, Result, Ok, Err}
 use Rattle.core_export.specs.declared.errors.ExportError.{ExportError}
 use Rattle.core_export.specs.declared.errors.ExportError.TheVariants as error

@@ -1,4 +1,4 @@
--- What stays where words are replaced: bytes before one place and from another on, and the numbers there.
+-- What stays unchanged if words are replaced: the bytes before one place and from another on, and the numbers there.
 use Rattle.std.proofs.Common.{◌≡◌, ◌≢◌, ℕ, zero, suc, ◌+◌, ◌-◌, ◌*◌, ◌^◌, ◌<◌, ◌≤◌, ◌⊎◌, Bool, true, false, nat_eq, List, length, take, drop, refl, sym, ap, ap₂, subst, ◌∙◌, inl, inr, arith}
 use Rattle.std.specs.Prelude.{nat_le, if◌then◌else◌}
 use Rattle.std.specs.Int.{w16, from_le_bytes}
@@ -9,9 +9,9 @@ use Rattle.core_export.specs.Words.{with_word}
 use Rattle.core_export.specs.Export.{pointed, pointed_stores, pointed_records, pointed_groups}
 use Rattle.core_export.proofs.Replaced.{length-with_word, before_same, behind_same, read_there, same_words}
 
--- ---- bytes that are the same
+-- ---- equal bytes
 
--- bytes of one length, the same before one place and from another on
+-- two lists of bytes have one length and are equal before one place and from another on
 pub record Outside (low high : ℕ) (xs ys : List ℕ) : Type 0 where
   pub size : length xs ≡ length ys
   pub before : take low xs ≡ take low ys
@@ -23,7 +23,7 @@ unchanged low high xs = record { size = refl; before = refl; behind = refl }
 pub after : (low high : ℕ) (xs ys zs : List ℕ) → Outside low high xs ys → Outside low high ys zs → Outside low high xs zs
 after low high xs ys zs h g = record { size = h.size ∙ g.size; before = h.before ∙ g.before; behind = h.behind ∙ g.behind }
 
--- what is the same from a place on is the same from a later one on
+-- if two lists are equal from a place on, they are equal from a later place on
 pub later : (high more : ℕ) (xs ys : List ℕ) → high ≤ more → drop high xs ≡ drop high ys → drop more xs ≡ drop more ys
 later high more xs ys h same =
     let split : high + (more - high) ≡ more = omega (arith, h) in
@@ -44,9 +44,9 @@ word_outside place number xs = record {
   behind = sym (behind_same place number (place + 4) xs (omega arith));
 }
 
--- ---- numbers that are the same
+-- ---- equal numbers
 
--- the numbers that lie between two places
+-- all words between two places are equal
 pub record SameWithin (low high : ℕ) (xs ys : List ℕ) : Type 0 where
   pub words : (at : ℕ) → low ≤ at → at + 4 ≤ high → word_at xs at ≡ word_at ys at
   pub halves : (at : ℕ) → low ≤ at → at + 2 ≤ high → half_at xs at ≡ half_at ys at
@@ -87,7 +87,7 @@ narrower low high more less xs ys h g same = record {
   halves = λ at a b. same.halves at (omega (arith, h, a)) (omega (arith, g, b));
 }
 
--- ---- words that are replaced one after the other
+-- ---- words replaced one after the other
 
 module _ (bytes : List ℕ) (unit : ℕ) where
   pub pointed_outside : (place : ℕ) (out : List ℕ) → Outside place (place + 4) out (pointed bytes unit place out)
@@ -115,7 +115,7 @@ module _ (bytes : List ℕ) (unit : ℕ) where
       (wider (place + 16) (place + 16 + 4) place (place + 20 * suc count) out first (omega arith) (omega arith) (pointed_outside (place + 16) out))
       (wider (place + 20) (place + 20 + 20 * count) place (place + 20 * suc count) first rest (omega arith) (omega arith) (records_outside (place + 20) count first))
 
-  -- the key records of so many groups lie between two places, group behind group
+  -- the key records of a number of groups are between two places, in the order of the groups
   abbrev pub GroupsLaid : ℕ → ℕ → ℕ → ℕ → Type 0
   GroupsLaid high low place zero = low ≤ high
   GroupsLaid high low place (suc count) =
@@ -136,10 +136,10 @@ module _ (bytes : List ℕ) (unit : ℕ) where
       (wider low h.0 low high out first (omega arith) h.2 (few_outside (word_at bytes (place + 4)) (word_at bytes (place + 16)) low h.0 out h.1 h.3))
       (wider h.0 high low high first rest h.1 (omega arith) (groups_outside high h.0 (place + 24) count first h.4))
 
-  -- ---- what a file then has
+  -- ---- the words of the file afterwards
 
   module _ (fin : List ℕ) (small : unit < 2 ^ 32) where
-    -- a word that stays, or an offset 0 that points to the zero unit
+    -- a word stays the same, or is an offset 0 that is pointed to the zero unit
     abbrev pub Refilled : ℕ → Type 0
     Refilled place = ((word_at bytes place ≢ 0) × (word_at fin place ≡ word_at bytes place)) ⊎ ((word_at bytes place ≡ 0) × (word_at fin place ≡ unit))
 

@@ -1,4 +1,4 @@
--- Reading a word where others are replaced.
+-- Reading words of a file in which a word is replaced.
 use Rattle.std.proofs.Common.{◌≡◌, ℕ, ◌+◌, ◌-◌, ◌/◌, ◌%◌, ◌^◌, ◌<◌, ◌≤◌, Bool, true, false, leb, le-leb, List, [], ◌∷◌, ◌++◌, length, take, drop, refl, sym, ap, ap₂, subst, ◌∙◌, append_assoc, length-append, length-drop, arith}
 use Rattle.std.specs.Prelude.{nat_le, if◌then◌else◌}
 use Rattle.std.specs.Int.{w32, from_le_bytes}
@@ -14,7 +14,7 @@ pub is_replaced : (place number : ℕ) (bytes : List ℕ) → place + 4 ≤ leng
 unfolding with_word
 is_replaced place number bytes within = ap (λ b. if b then take place bytes ++ (word number ++ drop (place + 4) bytes) else bytes) (le-leb _ _ within)
 
--- no byte more and none less
+-- replacing a word does not change the number of bytes
 length-replaced : (place number : ℕ) (bytes : List ℕ) → place + 4 ≤ length bytes → length (take place bytes ++ (word number ++ drop (place + 4) bytes)) ≡ length bytes
 length-replaced place number bytes within =
     length-append (take place bytes) (word number ++ drop (place + 4) bytes)
@@ -27,7 +27,7 @@ either false xs ys P p q = q
 inside : (place size : ℕ) → leb place size ≡ true → place ≤ size
 inside place size h = grind (arith, h)
 
--- what holds of the bytes, and of them with a word that stands wholly in them replaced
+-- if a property is true for the bytes, and for them with the word replaced if they contain it, it is true for `with_word`
 by_place : (place number : ℕ) (bytes : List ℕ) (P : List ℕ → Type 0) → (place + 4 ≤ length bytes → P (take place bytes ++ (word number ++ drop (place + 4) bytes))) → P bytes → P (with_word place number bytes)
 unfolding with_word
 by_place place number bytes P p q =
@@ -36,7 +36,7 @@ by_place place number bytes P p q =
 pub length-with_word : (place number : ℕ) (bytes : List ℕ) → length (with_word place number bytes) ≡ length bytes
 length-with_word place number bytes = by_place place number bytes (λ xs. length xs ≡ length bytes) (length-replaced place number bytes) refl
 
--- the word stands there
+-- after the replacement, the word is at the place
 stands_there : (place number : ℕ) (bytes : List ℕ) → place + 4 ≤ length bytes → StandsAt (with_word place number bytes) place (word number)
 stands_there place number bytes within =
     let xs : List ℕ = take place bytes ++ (word number ++ drop (place + 4) bytes) in
@@ -47,36 +47,36 @@ stands_there place number bytes within =
     } in
     subst (λ (ys : List ℕ). StandsAt ys place (word number)) (sym (is_replaced place number bytes within)) stands
 
--- the word itself
+-- reading the replaced word returns the number
 pub read_there : (place number : ℕ) (bytes : List ℕ) → number < 2 ^ 32 → place + 4 ≤ length bytes → word_at (with_word place number bytes) place ≡ number
 read_there place number bytes below within = word_at-stands (with_word place number bytes) place number below (stands_there place number bytes within)
 
--- its lower half
+-- reading its lower half returns the number, if it fits
 pub half_there : (place number : ℕ) (bytes : List ℕ) → number < 2 ^ 16 → place + 4 ≤ length bytes → half_at (with_word place number bytes) place ≡ number
 unfolding half word
 half_there place number bytes below within =
     half_at-stands (with_word place number bytes) place number below
     (front (with_word place number bytes) place (half number) ((number / 256 ^ 2 % 256) ∷ (number / 256 ^ 3 % 256) ∷ []) (stands_there place number bytes within))
 
--- of bytes of one length, the words that stand in the same bytes
+-- if two lists of bytes have one length and the same four bytes at a place, they have the same word there
 pub same_words : (xs ys : List ℕ) (place : ℕ) → length xs ≡ length ys → take 4 (drop place xs) ≡ take 4 (drop place ys) → word_at xs place ≡ word_at ys place
 unfolding word_at
 same_words xs ys place sizes same = ap₂ (λ (n : ℕ) (zs : List ℕ). if nat_le (place + 4) n then from_le_bytes w32 zs else 0) sizes same
 
--- bytes before it
+-- the bytes before the word do not change
 pub before_same : (place number n : ℕ) (bytes : List ℕ) → n ≤ place → take n (with_word place number bytes) ≡ take n bytes
 before_same place number n bytes before = by_place place number bytes (λ xs. take n xs ≡ take n bytes)
     (λ within. take-append-le n (take place bytes) (word number ++ drop (place + 4) bytes) (omega (arith, before, within, length-take-le place bytes (omega (arith, within)))) ∙ take-take n place bytes before)
     refl
 
--- a word before it
+-- a word before it does not change
 pub read_before : (place number at : ℕ) (bytes : List ℕ) → at + 4 ≤ place → word_at (with_word place number bytes) at ≡ word_at bytes at
 read_before place number at bytes before =
     let xs : List ℕ = with_word place number bytes in
     same_words xs bytes at (length-with_word place number bytes)
     (sym (drop-take at 4 xs) ∙ ap (drop at) (before_same place number (at + 4) bytes before) ∙ drop-take at 4 bytes)
 
--- bytes behind it
+-- the bytes after the word do not change
 pub behind_same : (place number n : ℕ) (bytes : List ℕ) → place + 4 ≤ n → drop n (with_word place number bytes) ≡ drop n bytes
 behind_same place number n bytes behind = by_place place number bytes (λ xs. drop n xs ≡ drop n bytes)
     (λ within.
@@ -89,14 +89,14 @@ behind_same place number n bytes behind = by_place place number bytes (λ xs. dr
     ∙ ap (drop (n - (place + 4))) tail ∙ drop-drop (n - (place + 4)) (place + 4) bytes ∙ ap (λ k. drop k bytes) (sym split))
     refl
 
--- a word that is replaced twice is that of the last time
+-- if a word is replaced twice, the second number remains
 pub overwritten : (place first second : ℕ) (bytes : List ℕ) → place + 4 ≤ length bytes → with_word place second (with_word place first bytes) ≡ with_word place second bytes
 overwritten place first second bytes within =
     is_replaced place second (with_word place first bytes) (omega (arith, within, length-with_word place first bytes))
     ∙ ap₂ (λ (xs ys : List ℕ). xs ++ (word second ++ ys)) (before_same place first place bytes (omega arith)) (behind_same place first (place + 4) bytes (omega arith))
     ∙ sym (is_replaced place second bytes within)
 
--- the checksum that is put into its word is that of the bytes with 0 there
+-- the checksum that is written into its word is that of the bytes with 0 there
 pub sum_stands : (bytes out : List ℕ) (sum : ℕ) → sum < 2 ^ 32 → sum ≡ checksum (with_word CHECKSUM_AT 0 bytes) → out ≡ with_word CHECKSUM_AT sum (with_word CHECKSUM_AT 0 bytes) → 12 ≤ length out
     → word_at out CHECKSUM_AT ≡ checksum (with_word CHECKSUM_AT 0 out)
 sum_stands bytes out sum below is out_is long =
@@ -106,7 +106,7 @@ sum_stands bytes out sum below is out_is long =
     ap (λ (xs : List ℕ). word_at xs CHECKSUM_AT) out_is ∙ read_there CHECKSUM_AT sum blank below (omega (arith, size, long)) ∙ is
     ∙ ap checksum (sym (ap (with_word CHECKSUM_AT 0) out_is ∙ overwritten CHECKSUM_AT sum 0 blank (omega (arith, size, long)) ∙ overwritten CHECKSUM_AT 0 0 bytes (omega (arith, size, long, blank_size))))
 
--- the version that is put into its word
+-- the version that is written into its word is read there
 pub version_stands : (bytes out : List ℕ) (version sum : ℕ) → version < 2 ^ 32 → out ≡ with_word CHECKSUM_AT sum (with_word CHECKSUM_AT 0 (with_word VERSION_AT version bytes)) → 12 ≤ length out
     → word_at out VERSION_AT ≡ version
 version_stands bytes out version sum below out_is long =

@@ -1,4 +1,4 @@
--- Where no line is told, no event saves twice.
+-- If `saving_line` returns no line, no event saves twice.
 use Rattle.std.proofs.Common.{◌≡◌, ℕ, ◌+◌, ◌≤◌, zero, suc, Bool, true, false, cond, if◌then◌else◌, ◌||◌, List, [], ◌∷◌, ◌++◌, length, map, filter, flat_map, replicate, Option, Some, None, refl, sym, ◌∙◌, ap, subst, arith}
 use Rattle.std.specs.Prelude.{count_by, nat_le, slice_get, unwrap_or}
 use Rattle.std.specs.List.{AllByRecursion, fold, list_any}
@@ -17,8 +17,8 @@ use Rattle.kmn_base.specs.declared.events.Event.TheVariants as event
 use Rattle.kmn_base.specs.Lists.{put, without_last}
 use Rattle.kmn_base.specs.Rising.{rising}
 use Rattle.kmn_base.proofs.Elements.{append_empty}
-use Rattle.rule_model.specs.Fits.{char_of_press}
-use Rattle.rule_model.specs.Dictionary.{name_chars, name_in}
+use Rattle.virtual_keys.specs.Fits.{char_of_press}
+use Rattle.virtual_keys.specs.Dictionary.{name_chars, name_in}
 use Rattle.rule_model.specs.declared.event_state.Caught.{Caught}
 use Rattle.rule_model.specs.declared.event_state.EventState.{EventState}
 use Rattle.rule_model.specs.declared.tables.Out.{Out}
@@ -39,13 +39,13 @@ use Rattle.rule_model.specs.Enter.{delete_or_pass, deletes_back, put_press, put_
 use Rattle.rule_model.specs.KeyEvent.{begin_event, after_key}
 use Rattle.rule_model.specs.Event.{State, happening}
 use Rattle.rule_model.proofs.Steps.{trace_keeps}
-use Rattle.kmx_format.proofs.Keyboards.{tab_groups, tab_start, tab_choice}
+use Rattle.compile_laws.proofs.Keyboards.{tab_groups, tab_start, tab_choice}
 use Rattle.core_export.specs.Differences.{line_of}
 use Rattle.core_export.specs.Saves.{may_save, group_may_save, saving_groups, may_save_twice, rule_saves_twice, first_line, nomatch_lines, group_saving_lines, saving_line}
 use Rattle.core_export.specs.Laws.{NoEventSavesTwice}
 use Rattle.core_export.proofs.Counts.{count_append}
 
--- ---- what doesn't save
+-- ---- operations that don't save
 
 if_same : (b : Bool) (s t u : EventState) → t.saves ≡ s.saves → u.saves ≡ s.saves → (if b then t else u).saves ≡ s.saves
 if_same true s t u a b = a
@@ -106,7 +106,7 @@ one_small : (b : Bool) → one b ≤ 1
 one_small true = omega arith
 one_small false = omega arith
 
--- none is counted where none is
+-- if no item passes the test, none is counted
 none_counted : {X : Type 0} (p : X → Bool) (xs : List X) → list_any p xs ≡ false → count_by p xs ≡ 0
 none_counted p [] h = refl
 none_counted p (x ∷ xs) h = count_cons p x xs ∙ by (p x) (none_counted p xs) h
@@ -115,7 +115,7 @@ none_counted p (x ∷ xs) h = count_cons p x xs ∙ by (p x) (none_counted p xs)
     by true rest h = absurd (cc)
     by false rest h = let none : count_by p xs ≡ 0 = rest h in omega arith
 
--- at most one, and none where none is
+-- if at most one item is counted, the count is at most 1, and 0 if no item passes the test
 counted_by_one : {X : Type 0} (p : X → Bool) (xs : List X) → count_by p xs ≤ 1 → count_by p xs ≤ one (list_any p xs)
 counted_by_one p xs few = by (list_any p xs) refl
   where
@@ -137,7 +137,7 @@ or_grows true b false d h k = absurd (omega arith)
 or_grows false b true d h k = one_small b
 or_grows false b false d h k = k
 
--- ---- with deeper groups no fewer may save
+-- ---- at a greater depth, no fewer groups may save
 
 abbrev Below : List Bool → List Bool → Type 0
 Below few many = (g : ℕ) → one (flag few g) ≤ one (flag many g)
@@ -199,9 +199,9 @@ grow groups depth (suc more) g =
     let next : one (flag (saving_groups depth groups) g) ≤ one (flag (saving_groups (suc (more + depth)) groups) g) = omega (arith, grow groups depth more g, grows groups (more + depth) g) in
     subst (λ n. one (flag (saving_groups depth groups) g) ≤ one (flag (saving_groups n groups) g)) (sym same) next
 
--- ---- what acts
+-- ---- outputs that act together
 
--- at most one item of what acts together may save
+-- at most one item of the outputs that act together may save
 record IsOnce (saving : List Bool) (group : Group) : Type 0 where
   rules : AllByRecursion (λ (rule : Rule). count_by (may_save saving) (rule.output ++ group.on_match) ≤ 1) group.rules
   nomatch : count_by (may_save saving) group.on_nomatch ≤ 1
@@ -258,7 +258,7 @@ module _ (stores : List Store) (kb : Keyboard) (press : KeyPress) (saving : List
 
 module _ (stores : List Store) (kb : Keyboard) (press : KeyPress) (saving : List Bool) (enter : Ref → EventState → EventState)
     (entering : (g : ℕ) (s : EventState) → (enter (Numbered g) s).saves ≤ s.saves + one (flag saving g)) where
-  -- what a choice may come to, it comes to
+  -- if a property is true for `None` and for each rule, it is true for the choice of the first rule that holds
   first_is : (holds : RuleMeaning → Option Caught) (using_keys : Bool) (P : Option Chosen → Type 0) → P None → (rules : List Rule)
       → AllByRecursion (λ (rule : Rule). (caught : Caught) → P (Some (tab_rule stores using_keys rule, caught))) rules → P (first holds (map (tab_rule stores using_keys) rules))
   first_is holds using_keys P none [] h = none
@@ -272,7 +272,7 @@ module _ (stores : List Store) (kb : Keyboard) (press : KeyPress) (saving : List
   or_within true b n h k = h
   or_within false b n h k = k
 
-  -- what a rule and the match output behind it do
+  -- if at most one item of an output and the match output after it may save, a bound of each output is a bound of their count
   rule_within : (group : Group) (rule : Rule) (n : ℕ) → count_by (may_save saving) (rule.output ++ group.on_match) ≤ 1 → one (list_any (may_save saving) rule.output) ≤ n
       → one (list_any (may_save saving) group.on_match) ≤ n → count_by (may_save saving) (rule.output ++ group.on_match) ≤ n
   rule_within group rule n few own matched =
@@ -364,7 +364,7 @@ event_saves_once tables once state (event.Setting name value) = omega arith
 event_saves_once tables once state (event.Caret place) = omega arith
 event_saves_once tables once state (event.Edit from to text) = omega arith
 
--- ---- where no line is told, at most one item of what acts together may save
+-- ---- if there is no line, at most one item of the outputs that act together may save
 
 stays : (a : ℕ) (before lines : List ℕ) → slice_get (fold (insert_key nat_cmp) (a ∷ before) lines) 0 ≡ None → ⊥
 stays a before [] h = cc

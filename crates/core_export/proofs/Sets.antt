@@ -1,4 +1,4 @@
--- Sets of lines, and what was found of each construct.
+-- Sets of lines, and the lines of each construct.
 use Rattle.std.proofs.Common.{◌≡◌, ℕ, ◌+◌, ◌-◌, ◌<◌, ◌≤◌, Bool, true, false, if◌then◌else◌, List, [], ◌∷◌, ◌++◌, filter, flat_map, map, drop, length, get_or, drop-cons, add-one, refl, ap, sym, ◌∙◌, arith}
 use Rattle.std.specs.Prelude.{nat_lt}
 use Rattle.std.specs.Ordering.{nat_cmp}
@@ -17,7 +17,7 @@ use Rattle.core_export.specs.Differences.{lines_with, difference_at, differences
 use Rattle.core_export.specs.Saves.{group_saving_lines}
 use Rattle.core_export.specs.Found.{found_of, found_lines, found_construct, found_at, told_at}
 
--- what is left of the units that are kept
+-- if an item fits into the units that are left, it and the rest need more exactly where the rest needs more than it leaves
 pub fewer_left : (left units rest : ℕ) → units ≤ left → nat_lt left (units + rest) ≡ nat_lt (left - units) rest
 fewer_left left units rest few = grind (arith, nat_tests)
 
@@ -26,7 +26,7 @@ none_left left units rest many = grind (arith, nat_tests)
 
 pub ruleset folds = fold-append
 
--- the constructs that were found at a line are those whose lines have it
+-- the collected constructs of a line are those that have the line among their lines
 found_is : (tables : Tables) (line : ℕ) (some : List Construct) → found_at (map (found_of tables) some) line ≡ filter (λ construct. is_among line (lines_with tables construct)) some
 found_is tables line [] = refl
 found_is tables line (construct ∷ some) = by (is_among line (lines_with tables construct)) (found_is tables line some)
@@ -44,7 +44,7 @@ lines_are tables (construct ∷ some) = ap (λ list. lines_with tables construct
 told_is : (tables : Tables) (line : ℕ) → told_at (map (found_of tables) constructs) line ≡ difference_at tables line
 told_is tables line = λ i. record { line = line; constructs = found_is tables line constructs i }
 
--- so what is told are the differences
+-- the collected lines with their constructs are the differences
 pub told_differences : (tables : Tables) → map (told_at (map (found_of tables) constructs)) (rising (flat_map found_lines (map (found_of tables) constructs))) ≡ map (difference_at tables) (rising (flat_map (lines_with tables) constructs))
 told_differences tables = λ i. map (λ line. told_is tables line i) (rising (lines_are tables constructs i))
 
@@ -57,7 +57,7 @@ told_so tables all some others lines listed told_of told is_all is_some are_line
     let at : told_of ≡ rising (flat_map found_lines same) = are_told_of ∙ are_listed ∙ are_lines ∙ ap (λ (xs : List ConstructLines). rising (flat_map found_lines xs)) (is_some ∙ is_all) in
     is_told ∙ ap (λ (xs : List ConstructLines). map (told_at xs) told_of) (is_others ∙ is_all) ∙ ap (λ (xs : List ℕ). map (told_at same) xs) at ∙ told_differences tables
 
--- the lines of one group more
+-- adding the lines of one more group does not change the final set
 pub lines_more : (saving used : List Bool) (groups : List Group) (i : ℕ) (d group : Group) (before after : List ℕ) → i < length groups → group ≡ get_or groups i d → used ≡ saving
     → after ≡ fold (insert_key nat_cmp) before (group_saving_lines used group)
     → fold (insert_key nat_cmp) after (flat_map (group_saving_lines saving) (drop (i + 1) groups)) ≡ fold (insert_key nat_cmp) before (flat_map (group_saving_lines saving) (drop i groups))

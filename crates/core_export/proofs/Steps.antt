@@ -1,4 +1,4 @@
--- Records one after the other, as a loop goes over them.
+-- Records one after the other, as a loop visits them.
 use Rattle.std.proofs.Common.{◌≡◌, ◌≢◌, ℕ, suc, ◌+◌, ◌*◌, ◌-◌, ◌<◌, true, false, not, nat_eq, List, length, Option, Some, None, ne_eqb, refl, sym, ◌∙◌, ap, arith}
 use Rattle.std.specs.Option.{is_some, option_or}
 use Rattle.std.proofs.lemmas.Bool.{cond-false}
@@ -7,7 +7,7 @@ use Rattle.kmx_format.specs.TablesOf.{string_at}
 use Rattle.kmx_format.proofs.FileSize.{length-unit_bytes}
 use Rattle.core_export.specs.Export.{end_of}
 
--- one record more: where a recursion comes to the rest behind it, what was left came to the same
+-- if a recursion has one result from a record on and from the next record on, the loop keeps this result as it passes the record
 pub one_more : {X : Type 0} → (size : ℕ) (before after : ℕ → ℕ → X) (place count i : ℕ) (answer : X) → i < count
     → ((rest : ℕ) → before (place + size * i) (suc rest) ≡ after (place + size * i + size) rest)
     → before (place + size * i) (count - i) ≡ answer → after (place + size * (i + 1)) (count - (i + 1)) ≡ answer
@@ -16,16 +16,16 @@ one_more size before after place count i answer below steps so_far =
     let behind : place + size * i + size ≡ place + size * (i + 1) = omega arith in
     sym (ap (before (place + size * i)) next ∙ steps (count - (i + 1)) ∙ ap (λ p. after p (count - (i + 1))) behind) ∙ so_far
 
--- a number that isn't 0 passes the test
+-- if a number isn't 0, it passes the test
 pub some : (n m : ℕ) → n ≡ m → n ≢ 0 → not (nat_eq m 0) ≡ true
 some n m is nonzero = ap not (ap (λ k. nat_eq k 0) (sym is) ∙ ne_eqb n 0 nonzero)
 
--- where there is none, what comes after counts
+-- if there is no first value, the result is the one after it
 pub none_first : (first found after : Option ℕ) → found ≡ first → is_some found ≡ false → option_or first after ≡ after
 none_first None found after is none = refl
 none_first (Some x) found after is none = let apart : true ≡ false = sym (ap is_some is) ∙ none in absurd (cc)
 
--- a string that stands somewhere ends behind its bytes
+-- if a string has an offset other than 0, its zero unit comes after its bytes
 pub ends_behind : (bytes string : List ℕ) (offset : ℕ) → offset ≢ 0 → string ≡ unit_bytes (string_at bytes offset) → Some (offset + length string) ≡ end_of bytes offset
 ends_behind bytes string offset some is =
     ap (λ n. Some (offset + n)) (ap length is ∙ length-unit_bytes (string_at bytes offset))

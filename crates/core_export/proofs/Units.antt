@@ -1,4 +1,4 @@
--- The zero unit of a valid file: an empty string stands there, behind all that is replaced.
+-- The zero unit of a valid file: an empty string is there, after all replaced words.
 use Rattle.std.proofs.Common.{◌≡◌, ◌≢◌, ℕ, zero, suc, ◌+◌, ◌-◌, ◌*◌, ◌≤◌, ◌<◌, ◌⊎◌, Bool, true, false, ◌||◌, nat_eq, nat_lt, List, [], ◌∷◌, length, drop, length-drop, Option, Some, None, refl, sym, ap, subst, ◌∙◌, inl, inr, arith, ne_eqb}
 use Rattle.std.specs.Prelude.{if◌then◌else◌}
 use Rattle.std.specs.Option.{option_or}
@@ -8,7 +8,7 @@ use Rattle.std.proofs.lemmas.List.{drop-drop}
 use Rattle.kmn_base.specs.Spelling.{whole_units}
 use Rattle.kmx_format.specs.declared.places.TheConstants.{GROUPS_AT, STORES_AT}
 use Rattle.kmx_format.specs.TablesOf.{word_at, before_zero, string_at, uses_keys_at}
-use Rattle.kmx_parts.specs.View.{has_zero, is_ended, store_count, group_count}
+use Rattle.kmx_view.specs.View.{has_zero, is_ended, store_count, group_count}
 use Rattle.kmx_verifier.specs.declared.faults.StringKind.{StringKind}
 use Rattle.kmx_verifier.specs.declared.faults.StringKind.TheVariants as of
 use Rattle.kmx_verifier.specs.declared.faults.Target.{Target}
@@ -21,13 +21,13 @@ use Rattle.core_export.proofs.Kept.{IsClear, StoresClear, RecordsClear, GroupsCl
 
 -- ---- where a string ends
 
--- behind so many units of bytes stands a zero unit
+-- after a number of units of bytes there is a zero unit
 record EndsAt (xs : List ℕ) (count : ℕ) : Type 0 where
   blank : before_zero (whole_units (drop (2 * count) xs)) ≡ []
   ended : has_zero (whole_units (drop (2 * count) xs)) ≡ true
   within : 2 * count + 2 ≤ length xs
 
--- one unit more in front
+-- if a string ends, it also ends with one more unit in front
 unit_ends : (a b : ℕ) (xs : List ℕ) (t : Bool) → nat_eq (a + 256 * b) 0 ≡ t → (t ≡ false → EndsAt xs (length (before_zero (whole_units xs))))
     → EndsAt (a ∷ b ∷ xs) (length (if nat_eq (a + 256 * b) 0 then [] else (a + 256 * b) ∷ before_zero (whole_units xs)))
 unit_ends a b xs true is others =
@@ -55,7 +55,7 @@ ends_at (a ∷ []) h = absurd (cc)
 ends_at (a ∷ b ∷ xs) h =
     unit_ends a b xs (nat_eq (a + 256 * b) 0) refl (λ is. ends_at xs (sym (ap (λ t. t || has_zero (whole_units xs)) is) ∙ h))
 
--- what a zero unit has that an offset can point to
+-- the properties of a zero unit that an offset can point to
 pub record IsBlank (bytes : List ℕ) (high unit : ℕ) : Type 0 where
   pub behind : high ≤ unit
   pub blank : string_at bytes unit ≡ []
@@ -63,7 +63,7 @@ pub record IsBlank (bytes : List ℕ) (high unit : ℕ) : Type 0 where
   pub within : unit + 2 ≤ length bytes
 
 module _ (bytes : List ℕ) (high : ℕ) (positive : 0 < high) where
-  -- the place is that behind a string which ends in the file
+  -- the place is the one after a string that ends in the file
   pub record IsEnd (unit : ℕ) : Type 0 where
     pub offset : ℕ
     pub some : offset ≢ 0

@@ -1,11 +1,11 @@
--- The file that Keyman's own engine plays, and what holds of it.
+-- The file that Keyman's own engine plays, and its properties.
 use Rattle.std.specs.Prelude.{◌≡◌, ℕ, zero, suc, ◌+◌, ◌*◌, ◌<◌, ◌≤◌, min, Bool, true, not, nat_eq, ◌&&◌, if◌then◌else◌, List, length, slice_get, Option, Some, None, Result, Ok, Err}
 use Rattle.std.specs.Option.{option_or}
 use Rattle.rule_model.specs.declared.tables.Tables.{Tables}
 use Rattle.kmx_format.specs.declared.places.TheConstants.{CHECKSUM_AT, GROUPS_AT, STORES_AT, VERSION_AT}
 use Rattle.kmx_format.specs.declared.sizes.TheConstants.{STORE_BYTES, GROUP_BYTES, RULE_BYTES}
 use Rattle.kmx_format.specs.TablesOf.{word_at, string_at, tables_of}
-use Rattle.kmx_parts.specs.View.{store_count, group_count}
+use Rattle.kmx_view.specs.View.{store_count, group_count}
 use Rattle.kmx_verifier.specs.FaultOf.{IsValid}
 use Rattle.core_export.specs.Saves.{saving_line}
 use Rattle.core_export.specs.Checksum.{checksum}
@@ -13,58 +13,58 @@ use Rattle.core_export.specs.Words.{with_word}
 use Rattle.core_export.specs.declared.errors.ExportError.{ExportError}
 use Rattle.core_export.specs.declared.errors.ExportError.TheVariants.{SavesTwice, NoZeroUnit, Entangled, Memory}
 
--- ---- a zero unit that the file has
+-- ---- a zero unit of the file
 
--- the zero unit that ends the string at an offset; where there is no string there is none
+-- the offset of the zero unit that ends the string at an offset, or None if the offset is 0
 abbrev pub end_of : List ℕ → ℕ → Option ℕ
 end_of bytes offset = if nat_eq offset 0 then None else Some (offset + 2 * length (string_at bytes offset))
 
--- that of a string of so many key records, outputs before contexts
+-- the zero unit of the first string of a number of key records, outputs before contexts
 abbrev pub end_in_records : List ℕ → ℕ → ℕ → Option ℕ
 end_in_records bytes place zero = None
 end_in_records bytes place (suc count) =
     option_or (option_or (end_of bytes (word_at bytes (place + 12))) (end_of bytes (word_at bytes (place + 16))))
     (end_in_records bytes (place + RULE_BYTES) count)
 
--- that of a string of a group: of its name, its match or nomatch output, or its key records
+-- the zero unit of the first string of a group: of its name, its match or nomatch output, or its key records
 abbrev pub end_in_group : List ℕ → ℕ → Option ℕ
 end_in_group bytes place =
     option_or (option_or (end_of bytes (word_at bytes place)) (option_or (end_of bytes (word_at bytes (place + 8))) (end_of bytes (word_at bytes (place + 12)))))
     (end_in_records bytes (word_at bytes (place + 4)) (word_at bytes (place + 16)))
 
--- that of a string of so many groups
+-- the zero unit of the first string of a number of groups
 abbrev pub end_in_groups : List ℕ → ℕ → ℕ → Option ℕ
 end_in_groups bytes place zero = None
 end_in_groups bytes place (suc count) = option_or (end_in_group bytes place) (end_in_groups bytes (place + GROUP_BYTES) count)
 
--- that of a name or a content of so many stores
+-- the zero unit of the first name or content of a number of stores
 abbrev pub end_in_stores : List ℕ → ℕ → ℕ → Option ℕ
 end_in_stores bytes place zero = None
 end_in_stores bytes place (suc count) =
     option_or (option_or (end_of bytes (word_at bytes (place + 4))) (end_of bytes (word_at bytes (place + 8))))
     (end_in_stores bytes (place + STORE_BYTES) count)
 
--- a zero unit of the file: that of the first group's name, or else of the first string that there is
+-- a zero unit of the file: the one after the name of the first group, or else after the first string, if any
 unfoldable pub zero_unit : List ℕ → Option ℕ
 zero_unit bytes = option_or (end_in_groups bytes (word_at bytes GROUPS_AT) (group_count bytes)) (end_in_stores bytes (word_at bytes STORES_AT) (store_count bytes))
 
 -- ---- the words that are replaced
 
--- where the word of the file at a place is an offset 0, it is that of the zero unit
+-- bytes in which the word at a place is the offset of the zero unit if the word of the file there is 0
 abbrev pub pointed : List ℕ → ℕ → ℕ → List ℕ → List ℕ
 pointed bytes unit place out = if nat_eq (word_at bytes place) 0 then with_word place unit out else out
 
--- the same of the content of so many stores
+-- bytes in which the contents of a number of stores are pointed to the zero unit
 abbrev pub pointed_stores : List ℕ → ℕ → ℕ → ℕ → List ℕ → List ℕ
 pointed_stores bytes unit place zero out = out
 pointed_stores bytes unit place (suc count) out = pointed_stores bytes unit (place + STORE_BYTES) count (pointed bytes unit (place + 8) out)
 
--- of the context of so many key records
+-- bytes in which the contexts of a number of key records are pointed to the zero unit
 abbrev pub pointed_records : List ℕ → ℕ → ℕ → ℕ → List ℕ → List ℕ
 pointed_records bytes unit place zero out = out
 pointed_records bytes unit place (suc count) out = pointed_records bytes unit (place + RULE_BYTES) count (pointed bytes unit (place + 16) out)
 
--- of the contexts of all key records of so many groups
+-- bytes in which the contexts of all key records of a number of groups are pointed to the zero unit
 abbrev pub pointed_groups : List ℕ → ℕ → ℕ → ℕ → List ℕ → List ℕ
 pointed_groups bytes unit place zero out = out
 pointed_groups bytes unit place (suc count) out =
@@ -74,7 +74,7 @@ pointed_groups bytes unit place (suc count) out =
 abbrev pub played_version : ℕ → ℕ
 played_version version = min version 0x0F00
 
--- with the checksum of the bytes in its word, which is 0 where the sum is taken
+-- the bytes with their checksum in its word. The checksum is that of the bytes with 0 in this word
 abbrev pub summed : List ℕ → List ℕ
 summed bytes = with_word CHECKSUM_AT (checksum (with_word CHECKSUM_AT 0 bytes)) (with_word CHECKSUM_AT 0 bytes)
 
@@ -88,9 +88,9 @@ replaced bytes unit out =
 abbrev pub exported : List ℕ → ℕ → List ℕ
 exported bytes unit = replaced bytes unit bytes
 
--- ---- the bytes of these words
+-- ---- the bytes of the replaced words
 
--- a byte is one of the word at a place, and of one that is an offset 0
+-- whether a byte belongs to the word at a place, and to a word at a place that is an offset 0
 pub record IsInWord (place at : ℕ) : Type 0 where
   pub from : place ≤ at
   pub below : at < place + 4
@@ -99,101 +99,101 @@ pub record IsInZero (bytes : List ℕ) (place at : ℕ) : Type 0 where
   pub blank : word_at bytes place ≡ 0
   pub inside : IsInWord place at
 
--- it is one of the offset 0 of a content of so many stores
+-- whether a byte belongs to an offset 0 of the content of one of a number of stores
 pub record IsInContents (bytes : List ℕ) (place count at : ℕ) : Type 0 where
   pub index : ℕ
   pub less : index < count
   pub inside : IsInZero bytes (place + STORE_BYTES * index + 8) at
 
--- of a context of so many key records
+-- whether a byte belongs to an offset 0 of the context of one of a number of key records
 pub record IsInContexts (bytes : List ℕ) (place count at : ℕ) : Type 0 where
   pub index : ℕ
   pub less : index < count
   pub inside : IsInZero bytes (place + RULE_BYTES * index + 16) at
 
--- of a context of the key records of so many groups
+-- whether a byte belongs to an offset 0 of the context of a key record of one of a number of groups
 pub record IsInGroups (bytes : List ℕ) (place count at : ℕ) : Type 0 where
   pub index : ℕ
   pub less : index < count
   pub inside : IsInContexts bytes (word_at bytes (place + GROUP_BYTES * index + 4)) (word_at bytes (place + GROUP_BYTES * index + 16)) at
 
--- a byte of the file is one of the four kinds of words
+-- whether a byte of the file belongs to one of the four kinds of words
 pub data IsReplaced (bytes : List ℕ) (at : ℕ) : Type 0 where
   InChecksum : IsInWord CHECKSUM_AT at → IsReplaced bytes at
   InVersion : IsInWord VERSION_AT at → IsReplaced bytes at
   InContent : IsInContents bytes (word_at bytes STORES_AT) (store_count bytes) at → IsReplaced bytes at
   InContext : IsInGroups bytes (word_at bytes GROUPS_AT) (group_count bytes) at → IsReplaced bytes at
 
--- there are as many bytes, and each other one is that of the file
+-- the number of bytes is unchanged, and each byte that is not replaced is that of the file
 pub record OnlyReplaced (bytes out : List ℕ) : Type 0 where
   pub size : length out ≡ length bytes
   pub rest : (at : ℕ) → (IsReplaced bytes at → ⊥) → slice_get out at ≡ slice_get bytes at
 
--- ---- what holds of it
+-- ---- the properties of the file
 
--- no content of so many stores has the offset 0
+-- whether no content of a number of stores has the offset 0
 abbrev pub are_contents_pointed : List ℕ → ℕ → ℕ → Bool
 are_contents_pointed bytes place zero = true
 are_contents_pointed bytes place (suc count) = not (nat_eq (word_at bytes (place + 8)) 0) && are_contents_pointed bytes (place + STORE_BYTES) count
 
--- no context of so many key records
+-- whether no context of a number of key records has the offset 0
 abbrev pub are_contexts_pointed : List ℕ → ℕ → ℕ → Bool
 are_contexts_pointed bytes place zero = true
 are_contexts_pointed bytes place (suc count) = not (nat_eq (word_at bytes (place + 16)) 0) && are_contexts_pointed bytes (place + RULE_BYTES) count
 
--- no context of the key records of so many groups
+-- whether no context of the key records of a number of groups has the offset 0
 abbrev pub are_groups_pointed : List ℕ → ℕ → ℕ → Bool
 are_groups_pointed bytes place zero = true
 are_groups_pointed bytes place (suc count) =
     are_contexts_pointed bytes (word_at bytes (place + 4)) (word_at bytes (place + 16)) && are_groups_pointed bytes (place + GROUP_BYTES) count
 
--- tables with a version that the engine plays
+-- tables with the version lowered to one that the engine plays
 abbrev pub with_played_version : Tables → Tables
 with_played_version tables = record tables { version = played_version tables.version }
 
--- a file with no fault that says what another says, in which no content of a store and no context has the offset 0
+-- `out` says the same as `bytes`: it is valid, has the same tables except for the version, and has no offset 0 of a content or context
 pub record SaysTheSame (bytes out : List ℕ) : Type 0 where
   pub valid : IsValid out
   pub tables : tables_of out ≡ with_played_version (tables_of bytes)
   pub contents : are_contents_pointed out (word_at out STORES_AT) (store_count out) ≡ true
   pub contexts : are_groups_pointed out (word_at out GROUPS_AT) (group_count out) ≡ true
 
--- all that the engine wants of a file
+-- all that the engine requires of a file
 pub record IsExport (bytes out : List ℕ) : Type 0 where
   pub same : SaysTheSame bytes out
   pub version : word_at out VERSION_AT ≡ played_version (word_at bytes VERSION_AT)
   pub checksum : word_at out CHECKSUM_AT ≡ checksum (with_word CHECKSUM_AT 0 out)
 
--- why the words of a file aren't replaced: it has no string at all; or its parts lie on one another, so that with the words
--- replaced it would say something else; want of memory tells nothing
+-- why the words of a file aren't replaced: it has no string, or its parts overlap, so that with the words replaced it would not
+-- say the same; `Memory` has no condition
 abbrev pub IsWordsError : List ℕ → ExportError → Type 0
 IsWordsError bytes (SavesTwice line) = ⊥
 IsWordsError bytes NoZeroUnit = zero_unit bytes ≡ None
 IsWordsError bytes Entangled = (unit : ℕ) × (zero_unit bytes ≡ Some unit) × (SaysTheSame bytes (exported bytes unit) → ⊥)
 IsWordsError bytes Memory = Unit {0}
 
--- what comes of the words
+-- the result of replacing the words of a file
 abbrev pub Replaces : List ℕ → Result (List ℕ) ExportError → Type 0
 Replaces bytes (Ok out) = (unit : ℕ) × (zero_unit bytes ≡ Some unit) × (out ≡ exported bytes unit) × OnlyReplaced bytes out × IsExport bytes out
 Replaces bytes (Err error) = IsWordsError bytes error
 
--- no event may save twice, at which the engine crashes
+-- no event may save twice, which would crash the engine
 abbrev pub SavesOnce : List ℕ → Type 0
 SavesOnce bytes = saving_line (tables_of bytes) ≡ None
 
--- why a file isn't exported: an event may save twice, first at this line; or else its words aren't replaced
+-- why a file isn't exported: an event may save twice, first at this line, or else its words aren't replaced
 abbrev pub IsExportError : List ℕ → ExportError → Type 0
 IsExportError bytes (SavesTwice line) = saving_line (tables_of bytes) ≡ Some line
 IsExportError bytes NoZeroUnit = SavesOnce bytes × IsWordsError bytes NoZeroUnit
 IsExportError bytes Entangled = SavesOnce bytes × IsWordsError bytes Entangled
 IsExportError bytes Memory = Unit {0}
 
--- what the exporter answers
+-- the result of the exporter
 abbrev pub Exports : List ℕ → Result (List ℕ) ExportError → Type 0
 Exports bytes (Ok out) = SavesOnce bytes × Replaces bytes (Ok out)
 Exports bytes (Err error) = IsExportError bytes error
 
--- an answer tells whether something holds; want of memory tells nothing
+-- what an error of a check reports: `Entangled` if the property does not hold; `Memory` has no condition
 abbrev pub Judges : Type 0 → ExportError → Type 0
 Judges holds (SavesTwice line) = ⊥
 Judges holds NoZeroUnit = ⊥

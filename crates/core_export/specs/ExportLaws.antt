@@ -13,7 +13,7 @@ use Rattle.kmn_compiler.specs.Source.{CompilesTo}
 use Rattle.kmn_compiler.specs.declared.compiling.Compiled.{Compiled}
 use Rattle.core_export.specs.Export.{zero_unit, exported, SaysTheSame, IsExport}
 
--- in a file that is written of tables no part lies on another, so with its words replaced it says the same
+-- in a file that is written from tables no parts overlap, so with its words replaced it says the same
 abbrev pub WrittenFilesAreExported : Type 0
 WrittenFilesAreExported = (bytes : List ℕ) (unit : ℕ) → IsFile bytes → zero_unit bytes ≡ Some unit → SaysTheSame bytes (exported bytes unit)
 
@@ -22,20 +22,20 @@ abbrev pub IsFirstNamed : List Group → Type 0
 IsFirstNamed [] = ⊥
 IsFirstNamed (group ∷ groups) = name_units group.name ≢ []
 
--- a file that is written of tables whose first group has a name has a zero unit to point to
+-- a file that is written from tables whose first group has a name has a zero unit to point to
 abbrev pub NamedFilesHaveZeroUnits : Type 0
 NamedFilesHaveZeroUnits = (bytes : List ℕ) (file : IsFile bytes) → IsFirstNamed file.tables.groups → IsSome (zero_unit bytes)
 
--- so each file that a source compiles to, with any picture, has one and says the same when it is exported
+-- each file that a source compiles to, with any picture, has a zero unit and says the same when it is exported
 abbrev pub CompiledFilesAreExported : Type 0
 CompiledFilesAreExported =
     (source picture : List ℕ) (compiled : Compiled) → CompilesTo (checked source) picture (Ok compiled)
     → (unit : ℕ) × (zero_unit compiled.bytes ≡ Some unit) × SaysTheSame compiled.bytes (exported compiled.bytes unit)
 
--- a file that says the same takes the same steps
+-- a file that says the same as another takes the same steps for all events
 abbrev pub ExportingKeepsMeaning : Type 0
 ExportingKeepsMeaning = (bytes out : List ℕ) → SaysTheSame bytes out → (events : List Event) → trace (tab (tables_of out)) events ≡ trace (tab (tables_of bytes)) events
 
--- what was exported is exported to itself, whichever zero unit there is
+-- an exported file is exported to itself, for any zero unit
 abbrev pub ExportedFilesStay : Type 0
 ExportedFilesStay = (bytes out : List ℕ) (unit : ℕ) → All (λ byte. byte < 256) out → IsExport bytes out → exported out unit ≡ out

@@ -1,4 +1,4 @@
--- What was found of each construct.
+-- The constructs as the code collects them, each with its lines.
 use Rattle.std.specs.Prelude.{ℕ, List, filter, map}
 use Rattle.kmn_base.specs.Rising.{is_among}
 use Rattle.rule_model.specs.declared.tables.Tables.{Tables}
@@ -7,7 +7,7 @@ use Rattle.core_export.specs.declared.construct.Difference.{Difference}
 use Rattle.core_export.specs.declared.differing.ConstructLines.{ConstructLines}
 use Rattle.core_export.specs.Differences.{lines_with}
 
--- the lines of the records that have a construct
+-- a construct with the lines of the records that have it
 abbrev pub found_of : Tables → Construct → ConstructLines
 found_of tables construct = record { construct = construct; lines = lines_with tables construct }
 
@@ -17,7 +17,7 @@ found_lines found = found.lines
 abbrev pub found_construct : ConstructLines → Construct
 found_construct found = found.construct
 
--- the constructs that were found at a line
+-- the constructs that have a line
 abbrev pub found_at : List ConstructLines → ℕ → List Construct
 found_at all line = map found_construct (filter (λ (found : ConstructLines). is_among line found.lines) all)
 

@@ -1,19 +1,19 @@
 use kmn_base::Seq;
 
-/// What a record has that Keyman's own engine does otherwise.
+/// A property of a record that Keyman's own engine treats differently.
 #[derive(Clone, Copy)]
 pub enum Construct {
-    /// An item stands behind a `use` in its output.
+    /// Its output has an item after a `use`.
     Use,
-    /// Its output has a `use`, and its group a match output.
+    /// Its output has a `use`, and its group has a match output.
     Match,
-    /// A condition stands before `nul`.
+    /// Its context has a condition before `nul`.
     Nul,
-    /// Its context has `nul`, and an offset is named.
+    /// Its context has `nul`, and its context or output names an item by its offset.
     Offset,
-    /// Its context is empty, and its group has no keys.
+    /// Its context is empty, and its group does not use keys.
     Empty,
-    /// Its key has CTRL or ALT beside a side of it.
+    /// Its key has CTRL together with LCTRL or RCTRL, or ALT together with LALT or RALT.
     Sides,
     /// Its key has LCTRL and RALT.
     Right,
@@ -21,7 +21,7 @@ pub enum Construct {
     Long,
 }
 
-/// All of them, in the order in which a line tells them.
+/// All constructs, in the order in which a line lists them.
 pub(crate) const CONSTRUCTS: [Construct; 8] = [
     Construct::Use,
     Construct::Match,
@@ -33,7 +33,7 @@ pub(crate) const CONSTRUCTS: [Construct; 8] = [
     Construct::Long,
 ];
 
-/// A line of the source, and what its records have.
+/// A line of the source with the constructs of its records.
 #[derive(Drop)]
 pub struct Difference {
     pub line: u32,

@@ -1,4 +1,4 @@
-//! What a record has that Keyman's own engine does otherwise.
+//! Tests for the constructs of a record that Keyman's own engine treats differently.
 
 ghost use Rattle.std.specs.Prelude.{◌≡◌};
 ghost use Rattle.std.specs.List.{list_any};
@@ -11,33 +11,34 @@ use kmn_base::keys::{
     EITHER_ALT, EITHER_CONTROL, LEFT_ALT, LEFT_CONTROL, RIGHT_ALT, RIGHT_CONTROL,
 };
 use kmn_base::slices::{before, behind};
-use rule_model::{Group, Out, Pat, Rule, has, has_either};
+use rule_model::{Group, Out, Pat, Rule};
+use virtual_keys::{has, has_either};
 
-/// How many units that engine keeps of what stands before the caret.
+/// The number of units before the caret that Keyman's own engine keeps.
 const KEPT_UNITS: usize = 63;
 
-/// Whether an item of an output is a `use`.
+/// Returns whether an item of an output is a `use`.
 fn is_use(output: &Out) -> bool
     ensures { result ≡ is_use output.now }
 {
     matches!(output, Out::Enter(_))
 }
 
-/// Whether an item of a context names another by its offset.
+/// Returns whether an item of a context names another item by its offset.
 fn has_offset(item: &Pat) -> bool
     ensures { result ≡ has_offset item.now }
 {
     matches!(item, Pat::Index(_, _) | Pat::ContextAt(_))
 }
 
-/// Whether an item of an output names one of the context by its offset.
+/// Returns whether an item of an output names a context item by its offset.
 fn puts_by_offset(output: &Out) -> bool
     ensures { result ≡ puts_by_offset output.now }
 {
     matches!(output, Out::Index(_, _) | Out::ContextAt(_))
 }
 
-/// How many units an item takes at most.
+/// Returns the most units that an item can take.
 fn units_at_most(item: &Pat) -> usize
     ensures { result ≡ units_at_most item.now }
 {
@@ -48,7 +49,7 @@ fn units_at_most(item: &Pat) -> usize
     }
 }
 
-/// Whether an output has a `use`.
+/// Returns whether an output has a `use`.
 fn some_use(outputs: &[Out]) -> bool
     ensures { result ≡ list_any is_use outputs.now }
 {
@@ -60,7 +61,7 @@ fn some_use(outputs: &[Out]) -> bool
     false
 }
 
-/// Whether a context has `nul`.
+/// Returns whether a context has `nul`.
 fn some_nul(context: &[Pat]) -> bool
     ensures { result ≡ list_any is_nul context.now }
 {
@@ -72,7 +73,7 @@ fn some_nul(context: &[Pat]) -> bool
     false
 }
 
-/// Whether a context has an item that names another by its offset.
+/// Returns whether a context has an item that names another item by its offset.
 fn some_offset(context: &[Pat]) -> bool
     ensures { result ≡ list_any has_offset context.now }
 {
@@ -84,7 +85,7 @@ fn some_offset(context: &[Pat]) -> bool
     false
 }
 
-/// Whether an output has an item that names one of the context by its offset.
+/// Returns whether an output has an item that names a context item by its offset.
 fn some_put_by_offset(outputs: &[Out]) -> bool
     ensures { result ≡ list_any puts_by_offset outputs.now }
 {
@@ -96,14 +97,14 @@ fn some_put_by_offset(outputs: &[Out]) -> bool
     false
 }
 
-/// Whether an item stands behind a `use`.
+/// Returns whether an output has an item after a `use`.
 fn goes_on_behind_use(outputs: &[Out]) -> bool
     ensures { result ≡ goes_on_behind_use outputs.now }
 {
     some_use(before(outputs, outputs.len().saturating_sub(1)))
 }
 
-/// Whether a condition stands before `nul`.
+/// Returns whether a context has a condition before `nul`.
 fn has_late_nul(context: &[Pat]) -> bool
     ensures { result ≡ has_late_nul context.now }
 {
@@ -115,14 +116,14 @@ fn has_late_nul(context: &[Pat]) -> bool
     false
 }
 
-/// Whether a context has `nul`, and an offset is named.
+/// Returns whether a context has `nul`, and the context or the output names an item by its offset.
 fn has_offset_behind_nul(context: &[Pat], outputs: &[Out]) -> bool
     ensures { result ≡ has_offset_behind_nul context.now outputs.now }
 {
     some_nul(context) && (some_offset(context) || some_put_by_offset(outputs))
 }
 
-/// Whether CTRL or ALT stands beside a side of it.
+/// Returns whether a key has CTRL together with LCTRL or RCTRL, or ALT together with LALT or RALT.
 fn has_both_sides(key: RuleKey) -> bool
     ensures { result ≡ has_both_sides key }
 {
@@ -135,7 +136,7 @@ fn has_both_sides(key: RuleKey) -> bool
     }
 }
 
-/// Whether LCTRL stands with RALT.
+/// Returns whether a key has LCTRL and RALT.
 fn is_alt_graph(key: RuleKey) -> bool
     ensures { result ≡ is_alt_graph key }
 {
@@ -145,7 +146,7 @@ fn is_alt_graph(key: RuleKey) -> bool
     }
 }
 
-/// Whether a context can take more units than that engine keeps.
+/// Returns whether a context can take more units than Keyman's own engine keeps.
 #[tactic(auto, using(crate::proofs::Sets::fewer_left, crate::proofs::Sets::none_left))]
 fn is_long(context: &[Pat]) -> bool
     ensures { result ≡ is_long context.now }
@@ -161,7 +162,7 @@ fn is_long(context: &[Pat]) -> bool
     false
 }
 
-/// Whether a record has a construct.
+/// Returns whether a record has a construct.
 pub(crate) fn has_construct(construct: Construct, group: &Group, rule: &Rule) -> bool
     ensures { result ≡ has_construct construct group.now rule.now }
 {

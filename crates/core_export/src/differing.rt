@@ -1,4 +1,4 @@
-//! The lines at which Keyman's own engine does something else.
+//! The source lines that Keyman's own engine treats differently.
 
 ghost use Rattle.std.specs.Prelude.{◌≡◌, flat_map, map, IfOk, OnOk};
 ghost use Rattle.std.specs.List.{fold};
@@ -14,14 +14,14 @@ use kmn_base::{LineSet, Memory, Seq};
 use rule_model::{Group, Tables};
 use std::alloc::Global;
 
-/// A construct, and the lines of the records that have it.
+/// A construct with the lines of the records that have it.
 #[derive(Drop)]
 struct ConstructLines {
     construct: Construct,
     lines: LineSet,
 }
 
-/// With the lines of the records of a group that have a construct.
+/// Adds the lines of the records of a group that have a construct.
 fn add_lines(lines: &mut LineSet, construct: Construct, group: &Group) -> Result<(), Memory>
     ensures { OnOk result (lines.new ≡ fold (insert_key nat_cmp) lines.old (group_lines construct group.now)) }
 {
@@ -34,7 +34,7 @@ fn add_lines(lines: &mut LineSet, construct: Construct, group: &Group) -> Result
     Ok(())
 }
 
-/// The lines of the records that have a construct.
+/// Returns the lines of the records that have a construct.
 #[tactic(auto, using(crate::proofs::Sets::folds))]
 fn lines_with(alloc: Global, tables: &Tables, construct: Construct) -> Result<LineSet, Memory>
     ensures { IfOk result (λ lines. lines ≡ lines_with tables.now construct) }
@@ -47,7 +47,7 @@ fn lines_with(alloc: Global, tables: &Tables, construct: Construct) -> Result<Li
     Ok(lines)
 }
 
-/// Of each construct the lines of the records that have it.
+/// Returns each construct with the lines of the records that have it.
 fn found_of(
     alloc: Global,
     tables: &Tables,
@@ -66,7 +66,7 @@ fn found_of(
     Ok(all)
 }
 
-/// The lines of all that was found.
+/// Returns all lines that some of these constructs have.
 #[tactic(auto, using(crate::proofs::Sets::folds))]
 fn all_lines(alloc: Global, all: &[ConstructLines]) -> Result<LineSet, Memory>
     ensures { IfOk result (λ lines. lines ≡ rising (flat_map found_lines all.now)) }
@@ -78,7 +78,7 @@ fn all_lines(alloc: Global, all: &[ConstructLines]) -> Result<LineSet, Memory>
     Ok(lines)
 }
 
-/// The constructs that were found at a line.
+/// Returns the constructs that have a line.
 fn constructs_at(alloc: Global, all: &[ConstructLines], line: u32) -> Result<Seq<Construct>, Memory>
     ensures { IfOk result (λ constructs. constructs ≡ found_at all.now line) }
 {
@@ -91,7 +91,7 @@ fn constructs_at(alloc: Global, all: &[ConstructLines], line: u32) -> Result<Seq
     Ok(constructs)
 }
 
-/// Of each line what was found there.
+/// Returns each line with the constructs that have it.
 fn told(alloc: Global, all: &[ConstructLines], lines: &[u32]) -> Result<Seq<Difference>, Memory>
     ensures { IfOk result (λ told. told ≡ map (told_at all.now) lines.now) }
 {
@@ -106,7 +106,7 @@ fn told(alloc: Global, all: &[ConstructLines], lines: &[u32]) -> Result<Seq<Diff
     Ok(told)
 }
 
-/// The lines whose records have something that Keyman's own engine does otherwise, rising, each with all that its records have.
+/// Returns the lines whose records have a construct, in rising order, each with all constructs of its records.
 pub(crate) fn differences(alloc: Global, tables: &Tables) -> Result<Seq<Difference>, Memory>
     ensures { IfOk result (λ list. list ≡ differences tables.now) }
 {

@@ -3,32 +3,32 @@
 ghost use Rattle.core_export.specs.ExportLaws.{WrittenFilesAreExported, NamedFilesHaveZeroUnits, CompiledFilesAreExported, ExportingKeepsMeaning, ExportedFilesStay};
 ghost use Rattle.core_export.specs.Laws.{NoEventSavesTwice};
 
-/// A file that is written of tables says the same with its words replaced: `export` never answers `Entangled` of it.
+/// If a file is written from tables, it says the same with its words replaced. So `export` never returns `Entangled` for it.
 pub fn written_files_are_exported()
     ensures { WrittenFilesAreExported }
 {}
 
-/// A file that is written of tables whose first group has a name has a zero unit: `export` never answers `NoZeroUnit` of it.
+/// If a file is written from tables whose first group has a name, it has a zero unit. So `export` never returns `NoZeroUnit` for it.
 pub fn named_files_have_zero_units()
     ensures { NamedFilesHaveZeroUnits }
 {}
 
-/// A file that a source compiles to, with any picture, is exported: `export` answers neither of the two of it.
+/// If a source compiles to a file, with any bitmap, then `export` returns neither `Entangled` nor `NoZeroUnit` for it.
 pub fn compiled_files_are_exported()
     ensures { CompiledFilesAreExported }
 {}
 
-/// A file that says the same takes the same steps, for every list of events.
+/// If a file says the same as another, both take the same steps for every list of events.
 pub fn exporting_keeps_meaning()
     ensures { ExportingKeepsMeaning }
 {}
 
-/// What was exported is exported to itself.
+/// If an exported file is exported again, it does not change.
 pub fn exported_files_stay()
     ensures { ExportedFilesStay }
 {}
 
-/// Where `saving_line` tells no line, no event of the keyboard saves twice, for every list of events.
+/// If `saving_line` returns no line, no event of the keyboard saves twice, for every list of events.
 #[tactic(auto, using(crate::proofs::SavedOnce::no_event_saves_twice))]
 pub fn no_event_saves_twice()
     ensures { NoEventSavesTwice }

@@ -1,4 +1,4 @@
-//! Whether two tables are the same.
+//! Comparison of tables.
 
 ghost use Rattle.std.specs.Prelude.{◌≡◌};
 ghost use Rattle.std.specs.Bool.{Decides};
@@ -6,42 +6,42 @@ ghost use Rattle.std.specs.Bool.{Decides};
 use kmn_base::{Element, RuleKey};
 use rule_model::{Group, Out, Pat, Rule, Store, Tables};
 
-/// Whether two contents of stores are the same.
+/// Returns whether two contents of stores are the same.
 fn same_elements(a: &[Element], b: &[Element]) -> bool
     ensures { Decides result (a.now ≡ b.now) }
 {
     a == b
 }
 
-/// Whether two contexts are the same.
+/// Returns whether two contexts are the same.
 fn same_contexts(a: &[Pat], b: &[Pat]) -> bool
     ensures { Decides result (a.now ≡ b.now) }
 {
     a == b
 }
 
-/// Whether two outputs are the same.
+/// Returns whether two outputs are the same.
 fn same_outputs(a: &[Out], b: &[Out]) -> bool
     ensures { Decides result (a.now ≡ b.now) }
 {
     a == b
 }
 
-/// Whether two names are the same, byte by byte.
+/// Returns whether two names are the same, byte by byte.
 fn same_names(a: &[u8], b: &[u8]) -> bool
     ensures { Decides result (a.now ≡ b.now) }
 {
     a == b
 }
 
-/// Whether two keys are the same.
+/// Returns whether two keys are the same.
 fn same_keys(a: RuleKey, b: RuleKey) -> bool
     ensures { Decides result (a ≡ b) }
 {
     a == b
 }
 
-/// Whether two records are the same.
+/// Returns whether two records are the same.
 fn same_rule(a: &Rule, b: &Rule) -> bool
     ensures { Decides result (a.now ≡ b.now) }
 {
@@ -52,7 +52,7 @@ fn same_rule(a: &Rule, b: &Rule) -> bool
         && same_outputs(a.output.as_slice(), b.output.as_slice())
 }
 
-/// Whether two stores are the same.
+/// Returns whether two stores are the same.
 fn same_store(a: &Store, b: &Store) -> bool
     ensures { Decides result (a.now ≡ b.now) }
 {
@@ -61,7 +61,7 @@ fn same_store(a: &Store, b: &Store) -> bool
         && same_elements(a.elements.as_slice(), b.elements.as_slice())
 }
 
-/// Whether the records of two groups are the same.
+/// Returns whether the records of two groups are the same.
 fn same_rules(a: &[Rule], b: &[Rule]) -> bool
     ensures { Decides result (a.now ≡ b.now) }
 {
@@ -76,7 +76,7 @@ fn same_rules(a: &[Rule], b: &[Rule]) -> bool
     true
 }
 
-/// Whether the stores of two tables are the same.
+/// Returns whether the stores of two tables are the same.
 fn same_stores(a: &[Store], b: &[Store]) -> bool
     ensures { Decides result (a.now ≡ b.now) }
 {
@@ -91,7 +91,7 @@ fn same_stores(a: &[Store], b: &[Store]) -> bool
     true
 }
 
-/// Whether two groups are the same.
+/// Returns whether two groups are the same.
 fn same_group(a: &Group, b: &Group) -> bool
     ensures { Decides result (a.now ≡ b.now) }
 {
@@ -102,7 +102,7 @@ fn same_group(a: &Group, b: &Group) -> bool
         && same_outputs(a.on_nomatch.as_slice(), b.on_nomatch.as_slice())
 }
 
-/// Whether the groups of two tables are the same.
+/// Returns whether the groups of two tables are the same.
 fn same_groups(a: &[Group], b: &[Group]) -> bool
     ensures { Decides result (a.now ≡ b.now) }
 {
@@ -117,7 +117,7 @@ fn same_groups(a: &[Group], b: &[Group]) -> bool
     true
 }
 
-/// Whether two tables are the same.
+/// Returns whether two tables are the same.
 pub(crate) fn same_tables(a: &Tables, b: &Tables) -> bool
     ensures { Decides result (a.now ≡ b.now) }
 {

@@ -6,7 +6,7 @@ ghost use Rattle.core_export.specs.Checksum.{bit_behind, byte_behind, checksum};
 /// The polynomial, its lowest power in the highest bit.
 const POLYNOMIAL: u32 = 0xEDB8_8320;
 
-/// A sum with one bit more.
+/// Returns a sum after one more bit.
 fn bit_behind(sum: u32) -> u32
     ensures { result ≡ bit_behind sum }
 {
@@ -17,7 +17,7 @@ fn bit_behind(sum: u32) -> u32
     }
 }
 
-/// A sum with a byte more.
+/// Returns a sum after one more byte.
 fn byte_behind(sum: u32, byte: u8) -> u32
     ensures { result ≡ byte_behind sum byte }
 {
@@ -28,7 +28,7 @@ fn byte_behind(sum: u32, byte: u8) -> u32
     sum
 }
 
-/// The checksum of bytes: CRC-32 without its last inversion.
+/// Returns the checksum of bytes: CRC-32 without its final inversion.
 #[tactic(auto, unfolding(crate::specs::Checksum::checksum))]
 pub fn checksum(bytes: &[u8]) -> u32
     ensures { result ≡ checksum bytes.now }

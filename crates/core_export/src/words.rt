@@ -1,9 +1,9 @@
-//! Words replaced where they stand.
+//! Replacement of words in place.
 
 ghost use Rattle.std.specs.Prelude.{◌≡◌, ◌<◌, ◌^◌};
 ghost use Rattle.core_export.specs.Words.{with_word};
 
-/// Puts a number into the four bytes at a place; nothing where they aren't wholly in the bytes.
+/// Writes a number into the four bytes at a place. If the bytes do not contain all four, does not change them.
 #[tactic(auto, unfolding(crate::specs::Words::with_word, kmx_format::specs::File::word))]
 pub(crate) fn put_word(out: &mut [u8], place: usize, number: u32)
     requires { place < 2 ^ 62 }

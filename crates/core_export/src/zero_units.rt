@@ -1,4 +1,4 @@
-//! A zero unit that a file has.
+//! A zero unit of a file.
 
 ghost use Rattle.std.specs.Prelude.{◌≡◌, ◌≤◌, ◌+◌, ◌*◌, ◌<◌, ◌^◌, length};
 ghost use Rattle.kmn_base.specs.declared.limits.TheConstants.{FILE_BYTES};
@@ -10,9 +10,9 @@ use kmx_format::places::{
     STORES_AT,
 };
 use kmx_format::sizes::{GROUP_BYTES, RULE_BYTES, STORE_BYTES};
-use kmx_parts::{string_bytes, word_at};
+use kmx_view::{string_bytes, word_at};
 
-/// The zero unit that ends the string at an offset.
+/// Returns the offset of the zero unit that ends the string at an offset, or `None` if the offset is 0.
 #[tactic(auto, using(crate::proofs::Steps::ends_behind))]
 fn end_of(bytes: &[u8], offset: u32) -> Option<u32>
     requires { length bytes.now ≤ FILE_BYTES }
@@ -24,7 +24,7 @@ fn end_of(bytes: &[u8], offset: u32) -> Option<u32>
     Some(offset + string_bytes(bytes, offset).len() as u32)
 }
 
-/// That of the first string of so many key records.
+/// Returns the offset of the zero unit that ends the first string of `count` key records.
 fn end_in_records(bytes: &[u8], place: u32, count: u32) -> Option<u32>
     requires { length bytes.now ≤ FILE_BYTES }
     ensures { result ≡ end_in_records bytes.now place count }
@@ -40,7 +40,7 @@ fn end_in_records(bytes: &[u8], place: u32, count: u32) -> Option<u32>
     None
 }
 
-/// That of the first string of a group.
+/// Returns the offset of the zero unit that ends the first string of a group.
 fn end_in_group(bytes: &[u8], place: usize) -> Option<u32>
     requires few { length bytes.now ≤ FILE_BYTES }
     requires place { place < 2 ^ 62 }
@@ -59,7 +59,7 @@ fn end_in_group(bytes: &[u8], place: usize) -> Option<u32>
     )
 }
 
-/// That of the first string of so many groups.
+/// Returns the offset of the zero unit that ends the first string of `count` groups.
 fn end_in_groups(bytes: &[u8], place: u32, count: u32) -> Option<u32>
     requires { length bytes.now ≤ FILE_BYTES }
     ensures { result ≡ end_in_groups bytes.now place count }
@@ -73,7 +73,7 @@ fn end_in_groups(bytes: &[u8], place: u32, count: u32) -> Option<u32>
     None
 }
 
-/// That of the first string of so many stores.
+/// Returns the offset of the zero unit that ends the first string of `count` stores.
 fn end_in_stores(bytes: &[u8], place: u32, count: u32) -> Option<u32>
     requires { length bytes.now ≤ FILE_BYTES }
     ensures { result ≡ end_in_stores bytes.now place count }
@@ -89,7 +89,7 @@ fn end_in_stores(bytes: &[u8], place: u32, count: u32) -> Option<u32>
     None
 }
 
-/// A zero unit of the file: that of the first group's name, or else of the first string that there is.
+/// Returns the offset of a zero unit of the file: the one after the name of the first group, or else after the first string, if any.
 #[tactic(auto, unfolding(crate::specs::Export::zero_unit))]
 pub(crate) fn zero_unit(bytes: &[u8]) -> Option<u32>
     requires { length bytes.now ≤ FILE_BYTES }

@@ -1,4 +1,4 @@
--- The cause of an error of a call, from that of the step's error.
+-- The cause of an error of a call, derived from the cause of the step's error.
 use Rattle.std.proofs.Common.{◌≡◌, ℕ, ◌+◌, ◌-◌, ◌≤◌, Bool, true, false, not, nat_lt, nltb→le, if◌then◌else◌, List, [], length, Option, Some, None, refl, sym, subst, arith}
 use Rattle.std.specs.Prelude.{◌≢◌, ◌||◌, Result, Ok, Err}
 use lib.Dec.{T}
@@ -20,7 +20,7 @@ use Rattle.std.specs.Str.{all_scalars}
 use Rattle.curlew_calls.specs.declared.errors.CallError.{CallError}
 use Rattle.curlew_calls.specs.Answers.{of_step, IsCause, IsCaretCause}
 
--- a step's error is the cause of the call's where each number is a character
+-- if each number is a character, the cause of the step's error is the cause of the call's error
 pub step_text_cause : (numbers : List ℕ) (refusal : Option Code) (error : StepError) (given : CallError) → given ≡ of_step error → all_scalars numbers ≡ true → code_of error ≡ refusal → IsCause numbers refusal given
 step_text_cause numbers refusal step.Place given e fine is = subst (IsCause numbers refusal) (sym e) (fine, sym is)
 step_text_cause numbers refusal step.Length given e fine is = subst (IsCause numbers refusal) (sym e) (fine, sym is)
@@ -29,7 +29,7 @@ step_text_cause numbers refusal step.Memory given e fine is = subst (IsCause num
 pub step_cause : (refusal : Option Code) (error : StepError) (given : CallError) → given ≡ of_step error → code_of error ≡ refusal → IsCause [] refusal given
 step_cause refusal error given e is = step_text_cause [] refusal error given e refl is
 
--- numbers that are no text aren't all characters
+-- if numbers are not a text, not all of them are characters
 pub not_characters : (numbers : List ℕ) → text_of numbers ≡ None → all_scalars numbers ≡ false
 not_characters numbers none = by_test (all_scalars numbers) refl none
   where
@@ -37,7 +37,7 @@ not_characters numbers none = by_test (all_scalars numbers) refl none
     by_test true e none = absurd (none-some numbers (sym none))
     by_test false e none = refl
 
--- what happens is not refused
+-- whether an event is done, not refused
 abbrev IsDone : Result Happening Code → Type 0
 IsDone (Ok done) = Unit {0}
 IsDone (Err code) = ⊥
@@ -58,7 +58,7 @@ caret_happens tables state place done happens = not_refused tables state (event.
 pub edit_happens : (tables : Tables) (state : State) (from to : ℕ) (text : List ℕ) (done : Happening) → event_of (tab tables) state (event.Edit from to text) ≡ Ok done → event_refusal state (event.Edit from to text) ≡ None
 edit_happens tables state from to text done happens = not_refused tables state (event.Edit from to text) done happens
 
--- an edit that is not refused has no more characters than a text
+-- if an edit is not refused, its text has at most `TEXT_CHARS` characters
 pub few_characters : (tables : Tables) (state : State) (from to : ℕ) (text : List ℕ) (done : Happening) → event_of (tab tables) state (event.Edit from to text) ≡ Ok done → length text ≤ TEXT_CHARS
 few_characters tables state from to text done happens =
     let whole = length (whole_text state) in
@@ -71,7 +71,7 @@ few_characters tables state from to text done happens =
     second false true e = absurd (none-some E2 (sym e))
     second false false e = refl
 
--- a caret move is refused for its place alone, and wants no memory
+-- a caret move is refused only for its position, and does not allocate
 abbrev IsLong : Option Code → Type 0
 IsLong None = ⊥
 IsLong (Some E2) = Unit {0}

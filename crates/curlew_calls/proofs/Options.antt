@@ -1,4 +1,4 @@
--- Whether a name is known, store by store.
+-- Whether an option has a name, tested store by store.
 use Rattle.std.proofs.Common.{◌≡◌, ℕ, ◌≤◌, Bool, false, List, length, drop, Option, ap}
 use Rattle.std.proofs.lemmas.List.{drop_all}
 use Rattle.std.specs.List.{list_any}
@@ -8,7 +8,7 @@ use Rattle.rule_engine.specs.Engine.{name_of}
 use Rattle.play_session.specs.Changes.{options_from}
 
 module _ (name : List ℕ) (tables : Tables) where
-  -- whether some store from a number on is an option of the name, given their option numbers
+  -- whether some store from a number on is an option with the name, given the option numbers of these stores
   abbrev pub known_from : ℕ → List (Option ℕ) → Bool
   known_from store numbers = list_any (λ (s : ℕ). has_name name (name_of tables s)) (options_from store numbers)
 

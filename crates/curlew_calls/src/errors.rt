@@ -2,21 +2,21 @@ use kmn_base::Memory;
 use play_session::StepError;
 use thiserror::Error;
 
-/// Why a call didn't do what was asked. It then left the field as it was.
+/// The error of a call. After an error the field is unchanged.
 #[derive(Debug, Drop, Error)]
 pub enum CallError {
     #[error("out of memory")]
     Memory,
-    /// A place is past the text.
+    /// A position is past the end of the text, or `to` is less than `from`.
     #[error("a place past the text")]
     Place,
-    /// The text is or would be too long.
+    /// The text is too long for a key press, or would be too long.
     #[error("too long a text")]
     Length,
-    /// A number is no character: a surrogate, or past U+10FFFF.
+    /// A number is not a character: it is a surrogate, or past U+10FFFF.
     #[error("a number that is no character")]
     Character,
-    /// There is no option of the name.
+    /// No option has the name.
     #[error("no option of this name")]
     NoOption,
 }

@@ -1,4 +1,4 @@
-ghost use Rattle.std.specs.Prelude.{◌≡◌, ◌<◌, ◌≤◌, length, [], get_or, None, Some, true, unwrap_or, slice_get, encode_utf8_all, IfOk, IfErr, MatchResult};
+ghost use Rattle.std.specs.Prelude.{◌≡◌, ◌<◌, ◌≤◌, length, [], ◌∷◌, get_or, None, Some, true, unwrap_or, slice_get, encode_utf8_all, IfOk, IfErr, MatchResult};
 ghost use Rattle.std.specs.Option.{option_map};
 ghost use Rattle.std.specs.Str.{all_scalars};
 ghost use Rattle.kmn_base.specs.declared.events.Event.TheVariants as event;
@@ -6,43 +6,45 @@ ghost use Rattle.kmn_base.specs.declared.limits.TheConstants.{TEXT_CHARS};
 ghost use Rattle.kmn_base.specs.Lists.{characters, window};
 ghost use Rattle.kmx_format.specs.TablesOf.{tables_of};
 ghost use Rattle.kmx_verifier.specs.FaultOf.{fault_of, IsRefusal};
-ghost use Rattle.rule_model.specs.Keys.{key_code};
-ghost use Rattle.rule_model.specs.Event.{event_refusal};
+ghost use Rattle.virtual_keys.specs.Keys.{key_code};
+ghost use Rattle.rule_model.specs.Event.{event_refusal, whole_text};
 ghost use Rattle.rule_model.specs.Plain.{option_numbers};
 ghost use Rattle.rule_model.specs.Tab.{tab};
 ghost use Rattle.rule_engine.specs.Engine.{name_of};
-ghost use Rattle.play_session.specs.Printed.{value_of};
 ghost use Rattle.play_session.specs.Session.{first_session, happened, after_step};
 ghost use Rattle.curlew_calls.specs.Answers.{IsCause, IsCaretCause, IsSettingCause};
-ghost use Rattle.curlew_calls.specs.Calls.{key, Happens, edit_of, text_at, edit_before, told_before, knows_option, is_option_named, own_key_code};
+ghost use Rattle.curlew_calls.specs.Calls.{key, Happens, edit_of, text_at, edit_before, at_new_place, told_before, knows_option, is_option_named, own_key_code, store_count, store_name, store_value};
+ghost use Rattle.play_session.specs.Changes.{option_stores};
 ghost use Rattle.curlew_calls.specs.Numbers.{written, item_numbers, element_numbers};
 
 use crate::errors::CallError;
-use crate::{characters, put_bytes, put_characters, put_elements, put_items, put_utf8};
+use crate::{
+    characters, put_bytes, put_characters, put_elements, put_items, put_options, put_utf8,
+};
 use kmn_base::names::same_name;
 use kmn_base::{Event, KeyPress, Memory, Seq};
 use kmx_verifier::{VerifyError, verify};
 use play_session::{Change, Session};
-use rule_model::key_named;
 use std::alloc::Global;
 use std::marker::Model;
+use virtual_keys::key_named;
 
-/// What a press told.
+/// The result of a key press.
 #[repr(C)]
 #[derive(Clone, Copy, Debug, PartialEq, Eq)]
 pub struct Edit {
-    /// How many characters before the caret go first.
+    /// The number of characters that are deleted before the caret, before any is inserted.
     pub deleted: u32,
-    /// 1 where the keyboard has nothing for the key, and the application does what the key does; else 0.
+    /// 1 if the keyboard has nothing for the key, so that the application does what the key does; otherwise 0.
     pub passed: u32,
     pub beeps: u32,
-    /// How many characters come then, before the caret.
+    /// The number of characters that are then inserted before the caret.
     pub inserted: usize,
-    /// How many option values changed.
+    /// The number of option values that changed.
     pub changes: usize,
 }
 
-/// A keyboard that is open, and the text that is typed with it.
+/// An open keyboard, and the text that is typed with it.
 #[derive(Drop)]
 pub struct OpenField {
     session: Session<'static>,
@@ -57,7 +59,9 @@ impl Model for OpenField {
 }
 
 impl OpenField {
-    /// Opens a file of a stranger, with an empty text. The fault is the first one of the file.
+    /// Opens an untrusted file with an empty text.
+    ///
+    /// Errors: `Refused` with the first fault of the file; `Memory` if an allocation fails.
     pub fn open(alloc: Global, file: &'static [u8]) -> Result<OpenField, VerifyError>
         ensures { MatchResult result
             (λ field. (fault_of file.now ≡ None) × (field ≡ first_session (tables_of file.now)))
@@ -70,7 +74,7 @@ impl OpenField {
         }
     }
 
-    /// Another field on the same file, with the same text and options. The file isn't walked again.
+    /// Creates another field on the same file, with the same text and options. Does not scan the file again.
     pub fn copy(&self, alloc: Global) -> Result<OpenField, Memory>
         ensures { IfOk result (λ field. field ≡ self.now) }
     {
@@ -79,7 +83,9 @@ impl OpenField {
         })
     }
 
-    /// Presses a key. `code` and `mods` are those of a `KeyPress`. `Length` comes exactly where the press is refused so.
+    /// Presses a key. `code` and `mods` are the fields of a `KeyPress`.
+    ///
+    /// Errors: `Length` exactly when the text is too long for a key press; `Memory` if an allocation fails.
     #[tactic(auto, using(crate::proofs::Causes::step_cause, crate::proofs::Causes::key_happens), unfolding(rule_model::specs::Event::happening))]
     pub fn key(&mut self, alloc: Global, code: u16, mods: u16) -> Result<Edit, CallError>
         ensures happens { IfOk result (λ _. Happens self.old (key code mods)) }
@@ -99,8 +105,8 @@ impl OpenField {
         })
     }
 
-    /// What a press would tell, and the text that it would insert, written into the room. Nothing changes, and how many option
-    /// values would change isn't told.
+    /// Returns what a key press would do, without doing it, and writes the text that it would insert to the buffer `room`. The
+    /// number of changed option values is always 0.
     #[tactic(auto, using(crate::proofs::Causes::step_cause, crate::proofs::Causes::key_happens))]
     pub fn preview(
         &self,
@@ -125,7 +131,8 @@ impl OpenField {
         })
     }
 
-    /// What the last step inserted, as code points; nothing where it was no press.
+    /// Writes the text that the last step inserted to a buffer as code points, and returns its length. It is empty if that step was
+    /// not a key press.
     pub fn inserted(&self, room: &mut [u32]) -> usize
         ensures length { result ≡ length self.now.inserted }
         ensures room { room.new ≡ written self.now.inserted room.old }
@@ -133,7 +140,7 @@ impl OpenField {
         put_characters(room, self.session.inserted())
     }
 
-    /// What the last step inserted, as UTF-8.
+    /// Writes the text that the last step inserted to a buffer as UTF-8, and returns its size in bytes.
     pub fn inserted_utf8(&self, room: &mut [u8]) -> usize
         ensures length { result ≡ length (encode_utf8_all self.now.inserted) }
         ensures room { room.new ≡ written (encode_utf8_all self.now.inserted) room.old }
@@ -141,8 +148,11 @@ impl OpenField {
         put_utf8(room, self.session.inserted())
     }
 
-    /// The text before the caret is this now; what stands after it stays. Marks keep their places where the text still stands
-    /// around them. `Length` comes exactly where the whole text would be too long.
+    /// Sets the text before the caret; the text after it is unchanged. Marks (deadkeys in the item list) remain if the text around
+    /// them does. If `text` is empty, the field moves to a new position, where no mark remains unless the window has 64 marks.
+    ///
+    /// Errors: `Character` if a number is not a character; otherwise `Length` exactly when the whole text would be too long;
+    /// `Memory` if an allocation fails.
     pub fn before(&mut self, alloc: Global, text: &[u32]) -> Result<(), CallError>
         ensures happens { IfOk result (λ _. Happens self.old (edit_before text.now self.old.state)) }
         ensures leaves { IfOk result (λ _. self.new ≡ told_before text.now self.old) }
@@ -154,12 +164,46 @@ impl OpenField {
         if end > 0 {
             return self.replace(alloc, 0, end, text);
         }
+        if text.is_empty() {
+            return self.come_to_new_place(alloc);
+        }
         *self = self.begun_before(alloc, text)?;
         Ok(())
     }
 
-    /// What a field with nothing before the caret is when this text stands there. The place behind it is there, so the caret's
-    /// move to it is never refused.
+    /// Moves the field to a new position, with no character before the caret. If a character follows the caret, the caret moves over
+    /// it and back, so only a field without text allocates.
+    fn come_to_new_place(&mut self, alloc: Global) -> Result<(), CallError>
+        requires nothing { characters self.old.state.left ≡ [] }
+        ensures leaves { IfOk result (λ _. self.new ≡ at_new_place self.old) }
+        ensures refused { IfErr result (λ error. error ≡ CallError.Memory) }
+        ensures unchanged { IfErr result (λ _. self.new ≡ self.old) }
+    {
+        if self.session.editor().right().is_empty() {
+            *self = self.emptied(alloc)?;
+            return Ok(());
+        }
+        self.caret(alloc, 1)?;
+        self.caret(alloc, 0)?;
+        Ok(())
+    }
+
+    /// Returns a copy of a field without text that is at a new position: an x is inserted, the caret moves past it, and it is
+    /// deleted. These steps are never refused.
+    fn emptied(&self, alloc: Global) -> Result<OpenField, CallError>
+        requires nothing { length (whole_text self.now.state) ≡ 0 }
+        ensures begins { IfOk result (λ field. field ≡ after_step (after_step (after_step self.now (event.Edit 0 0 (0x78 ∷ []))) (event.Caret 1)) (event.Edit 0 1 [])) }
+        ensures refused { IfErr result (λ error. error ≡ CallError.Memory) }
+    {
+        let mut field = self.copy(alloc)?;
+        field.replace(alloc, 0, 0, &['x' as u32])?;
+        field.caret(alloc, 1)?;
+        field.replace(alloc, 0, 1, &[])?;
+        Ok(field)
+    }
+
+    /// Returns a copy of a field with no character before the caret, in which this text is before it. The position after the text
+    /// exists, so the caret move to it is never refused.
     #[tactic(auto, using(crate::proofs::Begun::never_kept_from))]
     fn begun_before(&self, alloc: Global, text: &[u32]) -> Result<OpenField, CallError>
         requires { characters self.now.state.left ≡ [] }
@@ -174,8 +218,9 @@ impl OpenField {
         Ok(field)
     }
 
-    /// The caret moves to a place of the whole text, counted in characters from its start. `Place` comes exactly where it is past
-    /// the text, and no other error: a caret move takes no memory.
+    /// Moves the caret to a position in the whole text, counted in characters from its start.
+    ///
+    /// Errors: only `Place`, exactly when the position is past the end of the text. A caret move does not allocate.
     #[tactic(auto, using(crate::proofs::Causes::caret_cause, crate::proofs::Causes::caret_happens))]
     pub fn caret(&mut self, alloc: Global, place: u32) -> Result<(), CallError>
         ensures happens { IfOk result (λ _. Happens self.old (event.Caret place)) }
@@ -187,7 +232,7 @@ impl OpenField {
         Ok(())
     }
 
-    /// The characters from one place of the whole text to another are replaced by these.
+    /// Replaces the characters between two positions of the whole text with these characters.
     #[tactic(auto, using(crate::proofs::Causes::step_text_cause, crate::proofs::Causes::not_characters, crate::proofs::Causes::few_characters, crate::proofs::Causes::edit_happens))]
     pub fn replace(
         &mut self,
@@ -210,7 +255,7 @@ impl OpenField {
         Ok(())
     }
 
-    /// The text before or after the caret.
+    /// Writes the text before or after the caret to a buffer, and returns its length.
     pub fn text(&self, after: bool, room: &mut [u32]) -> usize
         ensures length { result ≡ length (text_at after self.now.state) }
         ensures room { room.new ≡ written (text_at after self.now.state) room.old }
@@ -220,7 +265,8 @@ impl OpenField {
         put_characters(room, text)
     }
 
-    /// The last 64 items before the caret, or all where there are fewer; the marks of deadkeys are among them.
+    /// Writes the last 64 items before the caret to a buffer, or all if there are fewer, and returns their number. Marks are among
+    /// them.
     pub fn context(&self, room: &mut [u32]) -> usize
         ensures length { result ≡ length (window self.now.state.left) }
         ensures room { room.new ≡ written (item_numbers (window self.now.state.left)) room.old }
@@ -228,8 +274,8 @@ impl OpenField {
         put_items(room, self.session.engine().context())
     }
 
-    /// The code that a name of a key has with the file: of the keys that all keyboards have, else of the file's own; 0 where it
-    /// has none. Names are compared without ASCII case.
+    /// Returns the code of a key by its name: of a key that all keyboards have, otherwise of a custom key of the file; 0 if neither
+    /// has the name. Names compare without ASCII case.
     pub fn own_key_code(&self, name: &[u8]) -> u16
         ensures { result ≡ own_key_code name.now self.now.tables }
     {
@@ -239,8 +285,10 @@ impl OpenField {
         }
     }
 
-    /// The host gives the option of a name a value, as current and as saved one. `NoOption` comes exactly where no option has the
-    /// name, which is compared without ASCII case.
+    /// Sets the current and the saved value of an option for the host. Names compare without ASCII case.
+    ///
+    /// Errors: `NoOption` exactly when no option has the name; otherwise `Character` if a number is not a character; `Memory` if an
+    /// allocation fails.
     #[tactic(auto)]
     pub fn set(&mut self, alloc: Global, name: &[u8], value: &[u32]) -> Result<(), CallError>
         ensures leaves { IfOk result (λ _. self.new ≡ after_step self.old (event.Setting name.now value.now)) }
@@ -260,7 +308,7 @@ impl OpenField {
         Ok(())
     }
 
-    /// Whether some option has a name.
+    /// Returns whether some option has a name.
     #[tactic(auto, using(play_session::proofs::OptionStores::count_of_numbers))]
     fn knows_option(&self, alloc: Global, name: &[u8]) -> Result<bool, Memory>
         ensures { IfOk result (λ known. known ≡ knows_option name.now self.now.tables) }
@@ -273,7 +321,7 @@ impl OpenField {
         Ok(false)
     }
 
-    /// Whether a store is an option of a name.
+    /// Returns whether a store is an option with a name.
     #[tactic(auto, using(play_session::proofs::OptionStores::count_of_numbers))]
     fn is_option_named(&self, alloc: Global, store: u32, name: &[u8]) -> Result<bool, Memory>
         requires { store < length (tab self.now.tables).stores }
@@ -287,24 +335,51 @@ impl OpenField {
         Ok(!other.is_empty() && same_name(other.as_slice(), name))
     }
 
-    /// The option value of a number from 0 that the last step changed.
+    /// Returns the nth option value, counted from 0, that the last step changed.
     pub fn change(&self, n: usize) -> Option<Change>
         ensures { result ≡ slice_get self.now.changes n }
     {
         self.session.changes().get(n).copied()
     }
 
-    /// The name of a store as UTF-8; empty where it has none or there is no such store.
-    pub fn option_name(&self, alloc: Global, store: u32, room: &mut [u8]) -> Result<usize, Memory>
-        ensures length { IfOk result (λ count. count ≡ length (name_of self.now.tables store)) }
-        ensures room { IfOk result (λ _. room.new ≡ written (name_of self.now.tables store) room.old) }
-        ensures unchanged { IfErr result (λ _. room.new ≡ room.old) }
+    /// Returns how many stores there are: those of the file, then the layer and the platform.
+    pub fn store_count(&self) -> u32
+        ensures { result ≡ store_count self.now.tables }
     {
-        let name = self.session.name(alloc, store)?;
-        Ok(put_bytes(room, name.as_slice()))
+        self.session.engine().store_count()
     }
 
-    /// The current or the saved value of a store. None comes exactly for a saved value that there is none of.
+    /// Writes the numbers of the stores that are options to a buffer, in rising order, and returns how many there are.
+    #[tactic(auto, using(play_session::proofs::OptionStores::count_of_numbers))]
+    pub fn options(&self, room: &mut [u32]) -> usize
+        ensures length { result ≡ length (option_stores self.now.tables) }
+        ensures room { room.new ≡ written (option_stores self.now.tables) room.old }
+    {
+        let engine = self.session.engine();
+        put_options(room, engine.option_numbers(), engine.store_count())
+    }
+
+    /// Writes the name of a store to a buffer as UTF-8, empty if the store has none, and returns its size in bytes. Returns `None`
+    /// exactly when there is no such store.
+    pub fn option_name(
+        &self,
+        alloc: Global,
+        store: u32,
+        room: &mut [u8],
+    ) -> Result<Option<usize>, Memory>
+        ensures length { IfOk result (λ count. count ≡ option_map length (store_name self.now.tables store)) }
+        ensures room { IfOk result (λ _. room.new ≡ written (unwrap_or (store_name self.now.tables store) []) room.old) }
+        ensures unchanged { IfErr result (λ _. room.new ≡ room.old) }
+    {
+        if store >= self.store_count() {
+            return Ok(None);
+        }
+        let name = self.session.name(alloc, store)?;
+        Ok(Some(put_bytes(room, name.as_slice())))
+    }
+
+    /// Writes the current or the saved value of a store to a buffer, and returns its length. Returns `None` exactly when there is no
+    /// such store, or the saved value is requested and no value is saved.
     pub fn option_value(
         &self,
         alloc: Global,
@@ -312,10 +387,13 @@ impl OpenField {
         saved: bool,
         room: &mut [u32],
     ) -> Result<Option<usize>, Memory>
-        ensures length { IfOk result (λ count. count ≡ option_map length (value_of self.now store saved)) }
-        ensures room { IfOk result (λ _. room.new ≡ written (element_numbers (unwrap_or (value_of self.now store saved) [])) room.old) }
+        ensures length { IfOk result (λ count. count ≡ option_map length (store_value self.now store saved)) }
+        ensures room { IfOk result (λ _. room.new ≡ written (element_numbers (unwrap_or (store_value self.now store saved) [])) room.old) }
         ensures unchanged { IfErr result (λ _. room.new ≡ room.old) }
     {
+        if store >= self.store_count() {
+            return Ok(None);
+        }
         match self.session.value(alloc, store, saved)? {
             Some(value) => Ok(Some(put_elements(room, value.as_slice()))),
             None => Ok(None),
@@ -323,7 +401,7 @@ impl OpenField {
     }
 }
 
-/// The code of the key of a name, as K_A, that all keyboards have; 0 where none has it.
+/// Returns the code of a key that all keyboards have, by its name, for example K_A; 0 if no such key has the name.
 pub fn key_code(name: &[u8]) -> u16
     ensures { result ≡ unwrap_or (key_code name.now) 0 }
 {

@@ -1,15 +1,16 @@
-ghost use Rattle.std.specs.Prelude.{◌≡◌, ◌≤◌, ◌++◌, length, take, drop, encode_utf8, encode_utf8_all, IfOk};
+ghost use Rattle.std.specs.Prelude.{◌≡◌, ◌≤◌, ◌∷◌, [], ◌++◌, length, take, drop, encode_utf8, encode_utf8_all, IfOk};
+ghost use Rattle.play_session.specs.Changes.{options_from};
 ghost use Rattle.curlew_calls.specs.Numbers.{written, item_number, item_numbers, element_number, element_numbers, text_of, rule_number};
 
 use kmn_base::{Code, Element, Item, Memory, Seq};
 use std::alloc::Global;
 
-/// What the number of a deadkey's mark begins at, past all characters.
+/// The number that is added to a mark (a deadkey in the item list). It is past all characters.
 pub const MARK: u32 = 0x8000_0000;
-/// What the number of a virtual key begins at, which an option's value may have and no text.
+/// The number that is added to the code of a virtual key. An option's value may have virtual keys, a text has none.
 pub const KEY: u32 = 0x9000_0000;
 
-/// The text that numbers are; None exactly where one of them is no character.
+/// Converts numbers to a text. Returns `None` exactly when one of them is not a character.
 pub fn characters(alloc: Global, numbers: &[u32]) -> Result<Option<Seq<char>>, Memory>
     ensures { IfOk result (λ text. text ≡ text_of numbers.now) }
 {
@@ -23,7 +24,7 @@ pub fn characters(alloc: Global, numbers: &[u32]) -> Result<Option<Seq<char>>, M
     Ok(Some(Seq::from_vec(text)))
 }
 
-/// The number of an item.
+/// Returns the number of an item.
 fn item_number(item: Item) -> u32
     ensures { result ≡ item_number item }
 {
@@ -33,7 +34,7 @@ fn item_number(item: Item) -> u32
     }
 }
 
-/// The number of an element.
+/// Returns the number of an element.
 fn element_number(element: Element) -> u32
     ensures { result ≡ element_number element }
 {
@@ -44,7 +45,7 @@ fn element_number(element: Element) -> u32
     }
 }
 
-/// Writes a text over the beginning of the room, as much as it has place for, and tells the length of the whole.
+/// Writes as many characters of a text as fit in the buffer, and returns the length of the text.
 pub fn put_characters(room: &mut [u32], text: &[char]) -> usize
     ensures length { result ≡ length text.now }
     ensures room { room.new ≡ written text.now room.old }
@@ -55,7 +56,7 @@ pub fn put_characters(room: &mut [u32], text: &[char]) -> usize
     text.len()
 }
 
-/// Writes items over the beginning of the room likewise.
+/// Writes the numbers of as many items as fit in the buffer, and returns the number of items.
 pub fn put_items(room: &mut [u32], items: &[Item]) -> usize
     ensures length { result ≡ length items.now }
     ensures room { room.new ≡ written (item_numbers items.now) room.old }
@@ -66,7 +67,7 @@ pub fn put_items(room: &mut [u32], items: &[Item]) -> usize
     items.len()
 }
 
-/// Writes elements over the beginning of the room likewise.
+/// Writes the numbers of as many elements as fit in the buffer, and returns the number of elements.
 pub fn put_elements(room: &mut [u32], elements: &[Element]) -> usize
     ensures length { result ≡ length elements.now }
     ensures room { room.new ≡ written (element_numbers elements.now) room.old }
@@ -77,7 +78,37 @@ pub fn put_elements(room: &mut [u32], elements: &[Element]) -> usize
     elements.len()
 }
 
-/// Writes bytes over the beginning of the room likewise.
+/// Writes the numbers of the stores that have an option number, as many as fit in the buffer, and returns how many stores have an
+/// option number.
+pub fn put_options(room: &mut [u32], numbers: &[Option<usize>], stores: u32) -> usize
+    requires { length numbers.now ≡ stores }
+    ensures length { result ≡ length (options_from 0 numbers.now) }
+    ensures room { room.new ≡ written (options_from 0 numbers.now) room.old }
+{
+    let mut count = 0;
+    for store in 0..stores {
+        count += put_option(room, count, store, numbers[store as usize]);
+    }
+    count
+}
+
+/// Writes the number of a store at an index, if the store has an option number and the buffer has the index. Returns 1 if the store
+/// has an option number, otherwise 0.
+fn put_option(room: &mut [u32], place: usize, store: u32, number: Option<usize>) -> usize
+    ensures length { result ≡ length (options_from store (number ∷ [])) }
+    ensures few { result ≤ 1 }
+    ensures room { room.new ≡ take place room.old ++ written (options_from store (number ∷ [])) (drop place room.old) }
+{
+    if number.is_none() {
+        return 0;
+    }
+    if place < room.len() {
+        room[place] = store;
+    }
+    1
+}
+
+/// Writes as many bytes as fit in the buffer, and returns the number of bytes.
 pub fn put_bytes(room: &mut [u8], bytes: &[u8]) -> usize
     ensures length { result ≡ length bytes.now }
     ensures room { room.new ≡ written bytes.now room.old }
@@ -87,7 +118,7 @@ pub fn put_bytes(room: &mut [u8], bytes: &[u8]) -> usize
     bytes.len()
 }
 
-/// Writes a text as UTF-8 over the beginning of the room, byte by byte, and tells how many bytes the whole has.
+/// Writes as many UTF-8 bytes of a text as fit in the buffer, and returns the size of the text in bytes.
 pub fn put_utf8(room: &mut [u8], text: &[char]) -> usize
     ensures length { result ≡ length (encode_utf8_all text.now) }
     ensures room { room.new ≡ written (encode_utf8_all text.now) room.old }
@@ -99,7 +130,7 @@ pub fn put_utf8(room: &mut [u8], text: &[char]) -> usize
     end
 }
 
-/// Writes the bytes of a character from a place on, where the room has it, and tells how many they are.
+/// Writes the UTF-8 bytes of a character from an index on, as many as fit in the buffer, and returns their number.
 fn put_character(room: &mut [u8], place: usize, c: char) -> usize
     ensures length { result ≡ length (encode_utf8 c) }
     ensures few { result ≤ 4 }
@@ -113,7 +144,7 @@ fn put_character(room: &mut [u8], place: usize, c: char) -> usize
     utf8.len()
 }
 
-/// The number of a rule of compiled files, as 14 for V14; 0 for every other.
+/// Returns the number of a rule about compiled keyboards, for example 14 for V14; 0 for every other code.
 #[tactic(auto, unfolding(crate::specs::Numbers::rule_number))]
 pub fn rule_number(code: Code) -> u32
     ensures { result ≡ rule_number code }

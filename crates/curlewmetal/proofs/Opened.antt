@@ -1,4 +1,4 @@
--- What an export says of its handle, from what the call says of the field that was taken out.
+-- The clauses of an export about its handle, from the clauses of the call about the field that was taken out of it.
 use Rattle.std.proofs.Common.{◌≡◌, ℕ, List, [], length, Option, Some, None, refl, sym, subst}
 use Rattle.std.proofs.lemmas.Option.{none-some, same_Some}
 use Rattle.std.specs.Prelude.{MatchOption, option_map, unwrap_or}
@@ -38,7 +38,19 @@ told_of_none before shut open_one is so = told_of_closed before shut open_one (s
 pub told_of_some : {S : Type 0} (found : S) (before : Option S) (shut : Type 0) (open_one : S → Type 0) → before ≡ Some found → open_one found → MatchOption before shut open_one
 told_of_some found before shut open_one is so = told_of_opened found before shut open_one (sym is) so
 
--- a value that was told, and one that there is none of
+-- if a call returned the size of a name, the store has this name and it was written; if not, there is no name and the buffer is unchanged
+pub name_told : (name : Option (List ℕ)) (answer count : ℕ) (room old : List ℕ) (shut : Type 0) → Some count ≡ option_map length name
+    → room ≡ written (unwrap_or name []) old → answer ≡ ok_answer
+    → MatchOption name shut (λ bytes. (answer ≡ ok_answer) × (count ≡ length bytes) × (room ≡ written bytes old))
+name_told None answer count room old shut is wrote so = absurd (none-some count (sym is))
+name_told (Some bytes) answer count room old shut is wrote so = (so, same_Some count (length bytes) is, wrote)
+
+pub no_name_told : (name : Option (List ℕ)) (answer count : ℕ) (room old : List ℕ) (open_one : List ℕ → Type 0) → None ≡ option_map length name
+    → room ≡ written (unwrap_or name []) old → answer ≡ none_answer → MatchOption name ((answer ≡ none_answer) × (count ≡ count) × (room ≡ old)) open_one
+no_name_told None answer count room old open_one is wrote so = (so, refl, wrote)
+no_name_told (Some bytes) answer count room old open_one is wrote so = absurd (none-some (length bytes) is)
+
+-- if a call returned the length of a value, this value was written; if not, there is no value and the buffer is unchanged
 pub value_told : (value : Option (List Element)) (answer count : ℕ) (room old : List ℕ) (shut : Type 0) → Some count ≡ option_map length value
     → room ≡ written (element_numbers (unwrap_or value [])) old → answer ≡ ok_answer
     → MatchOption value shut (λ elements. (answer ≡ ok_answer) × (count ≡ length elements) × (room ≡ written (element_numbers elements) old))

@@ -1,4 +1,4 @@
--- What a handle owns: nothing where it is null, else the same as a `Box<OpenField>`.
+-- What a handle owns: nothing if it is null, otherwise what a `Box<OpenField>` owns.
 use Rattle.std.specs.Prelude.{Option, Some, None}
 use base.Fml.{Fml, feq}
 use denote.RawPtr.{Ptr, null_ptr}

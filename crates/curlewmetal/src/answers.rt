@@ -1,4 +1,4 @@
-//! The numbers that calls answer.
+//! The result numbers of the calls.
 
 ghost use Rattle.std.specs.Prelude.{◌≡◌};
 ghost use Rattle.curlewmetal.specs.Answers.{error_number, fault_numbers};
@@ -6,36 +6,36 @@ ghost use Rattle.curlewmetal.specs.Answers.{error_number, fault_numbers};
 use curlew_calls::{CallError, rule_number};
 use kmx_verifier::Fault;
 
-/// The call was done.
+/// The call succeeded.
 pub const OK: u32 = 0;
-/// The file is no valid keyboard.
+/// The file is not a valid keyboard.
 pub const REFUSED: u32 = 1;
 
 pub const MEMORY: u32 = 2;
-/// A place is past the text.
+/// A position is past the end of the text, or an edit ends before its start.
 pub const PLACE: u32 = 3;
-/// The text is or would be too long.
+/// The text is too long for a key press, or would be too long.
 pub const LENGTH: u32 = 4;
 /// The field is not open.
 pub const CLOSED: u32 = 5;
-/// A number is no character.
+/// A number is not a character.
 pub const CHARACTER: u32 = 6;
 /// There is no such option, change or saved value.
 pub const NONE: u32 = 7;
 
-/// What is wrong with a file.
+/// The fault of a file.
 #[repr(C)]
 #[derive(Clone, Copy, Debug, PartialEq, Eq)]
 pub struct FaultNumbers {
-    /// The rule that the file breaks: 14 is V14.
+    /// The rule that the file breaks: 14 means V14.
     pub rule: u32,
-    /// The byte at which it breaks it.
+    /// The byte offset of the fault.
     pub at: u32,
-    /// The code that V14 names, else 0.
+    /// The code that V14 names, or 0 for another rule.
     pub unit: u32,
 }
 
-/// The number of an error.
+/// Returns the number of an error.
 pub(crate) fn error_number(error: &CallError) -> u32
     ensures { result ≡ error_number error.now }
 {
@@ -48,7 +48,7 @@ pub(crate) fn error_number(error: &CallError) -> u32
     }
 }
 
-/// A fault as numbers.
+/// Returns a fault as numbers.
 pub(crate) fn fault_numbers(fault: Fault) -> FaultNumbers
     ensures { result ≡ fault_numbers fault }
 {

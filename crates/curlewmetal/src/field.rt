@@ -10,14 +10,14 @@ use std::alloc::Global;
 use std::marker::Model;
 use std::{mem, ptr};
 
-/// What a handle points to. Nobody reads it.
+/// The type that a handle points to. No code reads it.
 #[repr(C)]
 #[derive(Drop)]
 pub struct Opaque {
     _word: u8,
 }
 
-/// A handle. To C it is one pointer, which is null where no field is open.
+/// A handle. To C it is one pointer, which is null if no field is open.
 #[repr(C)]
 pub struct Field {
     at: *mut Opaque,
@@ -36,7 +36,7 @@ impl Drop for Field {
 }
 
 impl Field {
-    /// A handle of no field.
+    /// Creates a handle without a field.
     pub(crate) fn none(alloc: Global) -> Field
         ensures { result.held ≡ None }
     {
@@ -46,14 +46,14 @@ impl Field {
         }
     }
 
-    /// A handle of this field.
+    /// Creates a handle that owns this field.
     pub(crate) fn of(held: Box<OpenField>) -> Field
         ensures { result.held ≡ Some held.value }
     {
         Field::of_parts(BoxParts::of(held))
     }
 
-    /// Takes the field out of a handle, None where it has none. An export puts it back by `of` when its call is made.
+    /// Takes the field out of a handle, or returns `None` if it has none. An export puts it back with `of` after its call.
     pub(crate) fn take(&mut self, alloc: Global) -> Option<Box<OpenField>>
         ensures taken { option_map (λ held. held.value) result ≡ self.old.held }
         ensures leaves { self.new.held ≡ None }
@@ -61,7 +61,7 @@ impl Field {
         mem::replace(self, Field::none(alloc)).into_box()
     }
 
-    /// The field of a handle, None where it has none.
+    /// Returns the field of a handle, or `None` if it has none.
     pub(crate) fn into_box(self) -> Option<Box<OpenField>>
         ensures { option_map (λ held. held.value) result ≡ self.held }
     {
@@ -71,7 +71,7 @@ impl Field {
         }
     }
 
-    /// A handle of the field of these parts.
+    /// Creates a handle that owns the field of these parts.
     fn of_parts(parts: BoxParts<OpenField, Global>) -> Field
         ensures { result.held ≡ Some parts.value }
     {
@@ -82,7 +82,7 @@ impl Field {
         }
     }
 
-    /// The parts of a handle's field, None where the pointer is null.
+    /// Returns the parts of a handle's field, or `None` if the pointer is null.
     fn into_parts(self) -> Option<BoxParts<OpenField, Global>>
         ensures { option_map (λ parts. parts.value) result ≡ self.held }
     {

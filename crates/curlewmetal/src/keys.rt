@@ -1,7 +1,7 @@
-//! The exports that press keys, and tell what keys do and which codes they have.
+//! The exports that press keys, and report what keys do and which codes they have.
 
 ghost use Rattle.std.specs.Prelude.{◌≡◌, length, [], None, Some, unwrap_or, encode_utf8_all, MatchOption};
-ghost use Rattle.rule_model.specs.Keys.{key_code};
+ghost use Rattle.virtual_keys.specs.Keys.{key_code};
 ghost use Rattle.rule_model.specs.Event.{event_refusal};
 ghost use Rattle.play_session.specs.Session.{happened, after_step};
 ghost use Rattle.curlew_calls.specs.Numbers.{written};
@@ -14,7 +14,7 @@ use crate::field::Field;
 use curlew_calls::Edit;
 use std::alloc::Global;
 
-/// A key goes down. Answers `OK` with the edit that it made, `LENGTH` exactly where the text is too long for a press, `MEMORY`, or
+/// Presses a key. Returns `OK` with the edit that it made, `LENGTH` exactly when the text is too long for a key press, `MEMORY`, or
 /// `CLOSED`.
 #[tactic(auto, using(crate::proofs::Opened::closed, crate::proofs::Opened::opened, crate::proofs::Opened::failed))]
 #[unsafe(no_mangle)]
@@ -45,8 +45,8 @@ pub extern "C" fn curlew_key(
     answer
 }
 
-/// What the key would do, with the code points that it would insert in the room; nothing changes. Answers the numbers of
-/// `curlew_key`.
+/// Reports what the key would do, without doing it, and writes the code points that it would insert to the buffer. Returns the
+/// numbers of `curlew_key`.
 #[tactic(auto, using(crate::proofs::Opened::closed, crate::proofs::Opened::opened, crate::proofs::Opened::failed))]
 #[unsafe(no_mangle)]
 pub extern "C" fn curlew_preview(
@@ -78,7 +78,8 @@ pub extern "C" fn curlew_preview(
     answer
 }
 
-/// What the last step inserted, as code points in the room. Answers how many it inserted; 0 where no field is open.
+/// Writes the code points that the last step inserted to the buffer. Returns how many it inserted, or 0 if the field is not
+/// open.
 #[tactic(auto, using(crate::proofs::Opened::told_of_closed, crate::proofs::Opened::told_of_opened))]
 #[unsafe(no_mangle)]
 pub extern "C" fn curlew_inserted(alloc: Global, field: &mut Field, room: &mut [u32]) -> usize
@@ -94,7 +95,8 @@ pub extern "C" fn curlew_inserted(alloc: Global, field: &mut Field, room: &mut [
     count
 }
 
-/// The same as UTF-8. Answers how many bytes the whole has; 0 where no field is open.
+/// Writes the text that the last step inserted to the buffer as UTF-8. Returns its full size in bytes, or 0 if the field is not
+/// open.
 #[tactic(auto, using(crate::proofs::Opened::told_of_closed, crate::proofs::Opened::told_of_opened))]
 #[unsafe(no_mangle)]
 pub extern "C" fn curlew_inserted_utf8(alloc: Global, field: &mut Field, room: &mut [u8]) -> usize
@@ -110,7 +112,7 @@ pub extern "C" fn curlew_inserted_utf8(alloc: Global, field: &mut Field, room: &
     count
 }
 
-/// Answers the code of the key of a name, which is bytes of ASCII, that all keyboards have; 0 where none has it.
+/// Returns the code of a key that all keyboards have, by its name in ASCII; 0 if no such key has the name.
 #[unsafe(no_mangle)]
 pub extern "C" fn curlew_key_code(name: &[u8]) -> u16
     ensures { result ≡ unwrap_or (key_code name.now) 0 }
@@ -118,8 +120,8 @@ pub extern "C" fn curlew_key_code(name: &[u8]) -> u16
     curlew_calls::key_code(name)
 }
 
-/// Answers the code of the key of a name, which is bytes of UTF-8, in this field: of the keys of all keyboards, else of the file's
-/// own; 0 where there is none or no field is open.
+/// Returns the code of a key in this field, by its name in UTF-8: of a key that all keyboards have, otherwise of a custom key of the
+/// file; 0 if there is no such key or the field is not open.
 #[tactic(auto, using(crate::proofs::Opened::told_of_closed, crate::proofs::Opened::told_of_opened))]
 #[unsafe(no_mangle)]
 pub extern "C" fn curlew_own_key_code(alloc: Global, field: &mut Field, name: &[u8]) -> u16

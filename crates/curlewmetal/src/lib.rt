@@ -1,9 +1,9 @@
-//! The library that programs in C link: the calls of `c/curlewmetal.h`.
+//! The library that programs in C link: it exports the calls of `c/curlewmetal.h`.
 //!
-//! It stands on `curlew_calls`, whose contracts say what each call tells and leaves. The exports are in `opening`, `keys`, `texts`
-//! and `options`: each takes the open field out of its handle, makes the call, puts the field back, and answers one of the numbers
-//! that it names (`specs/Answers`). Only `field` and `parts` touch a pointer. The bytes of a file are borrowed for ever: who calls
-//! `curlew_open` keeps them until the last field over them is closed.
+//! Depends on `curlew_calls`: its contracts state what each call returns and leaves. The exports are in `opening`, `keys`, `texts`
+//! and `options`. Each takes the open field out of its handle, makes the call, puts the field back, and returns one of the numbers
+//! that its comment names (`specs/Answers`), or a length or a code. Only `field` and `parts` touch a pointer. A file is borrowed for
+//! the rest of the process: the caller of `curlew_open` keeps the bytes until the last field over them is closed.
 #![tactic(auto)]
 
 mod answers;

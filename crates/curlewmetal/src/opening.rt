@@ -13,10 +13,11 @@ use kmn_base::Memory;
 use kmx_verifier::VerifyError;
 use std::alloc::Global;
 
-/// The version of these calls: a program that was compiled against another header than the library is told apart by it.
-const VERSION: u32 = 1;
+/// The version of the library: 10,000 for each major, 100 for each minor and 1 for each patch number. A program compares it with
+/// `CURLEW_VERSION` to detect that it was compiled with the header of another library.
+const VERSION: u32 = 10_000;
 
-/// Puts a field into a handle, and closes what was open there.
+/// Puts a field into a handle, and closes the field that was open there.
 fn put(alloc: Global, handle: &mut Field, field: OpenField) -> Result<(), Memory>
     ensures { MatchResult result (λ _. handle.new.held ≡ Some field) (λ _. handle.new.held ≡ handle.old.held) }
 {
@@ -25,16 +26,16 @@ fn put(alloc: Global, handle: &mut Field, field: OpenField) -> Result<(), Memory
     Ok(())
 }
 
-/// Answers the version of the calls, 1.
+/// Returns the version of the library, 10,000.
 #[unsafe(no_mangle)]
 pub extern "C" fn curlew_version() -> u32
-    ensures { result ≡ 1 }
+    ensures { result ≡ 10000 }
 {
     VERSION
 }
 
-/// Opens a file with an empty text, and closes what was open in the handle. Answers `OK`, `REFUSED` with the fault exactly where the
-/// file has one, or `MEMORY`. The handle owns the field; the bytes stay the caller's, who keeps them while a field is over them.
+/// Opens a file with an empty text, and closes what was open in the handle. Returns `OK`, `REFUSED` with the fault exactly when the
+/// file has one, or `MEMORY`. The handle owns the field. The caller owns the bytes, and keeps them while a field is over them.
 #[tactic(auto, using(crate::proofs::Opened::told_of_none, crate::proofs::Opened::told_of_some))]
 #[unsafe(no_mangle)]
 pub extern "C" fn curlew_open(
@@ -61,8 +62,8 @@ pub extern "C" fn curlew_open(
     }
 }
 
-/// Opens in another handle a field over the same file, with the same text and options, and closes what was open there. That handle
-/// owns it. Answers `OK`, `MEMORY`, or `CLOSED` exactly where the first handle has no field.
+/// Opens a field over the same file in another handle, with the same text and options, and closes what was open there. The other
+/// handle owns the new field. Returns `OK`, `MEMORY`, or `CLOSED` exactly when the first handle has no field.
 #[tactic(auto, using(crate::proofs::Opened::told_of_closed, crate::proofs::Opened::told_of_opened))]
 #[unsafe(no_mangle)]
 pub extern "C" fn curlew_copy(alloc: Global, field: &mut Field, other: &mut Field) -> u32
@@ -84,7 +85,7 @@ pub extern "C" fn curlew_copy(alloc: Global, field: &mut Field, other: &mut Fiel
     }
 }
 
-/// Closes what is open in a handle, if anything, and leaves it null.
+/// Closes the field of a handle, if it has one, and leaves the handle null.
 #[unsafe(no_mangle)]
 pub extern "C" fn curlew_close(alloc: Global, field: &mut Field)
     ensures { field.new.held ≡ None }

@@ -1,4 +1,4 @@
-//! The exports that tell and change the text. Its characters are code points, and places count them from its start.
+//! The exports that report and change the text. Characters are code points, and positions count them from the start of the text.
 
 ghost use Rattle.std.specs.Prelude.{◌≡◌, length, [], None, Some, MatchOption};
 ghost use Rattle.kmn_base.specs.declared.events.Event.TheVariants as event;
@@ -14,8 +14,9 @@ use crate::answers::{CLOSED, OK, error_number};
 use crate::field::Field;
 use std::alloc::Global;
 
-/// The text before the caret is this now. Answers `OK`, `CHARACTER` exactly where a number is none, else `LENGTH` exactly where the
-/// whole text would be too long, `MEMORY`, or `CLOSED`.
+/// Sets the text before the caret. An empty text means a new position, where no mark (deadkey) remains unless the window has 64
+/// marks. Returns `OK`, `CHARACTER` exactly when a number is not a character, otherwise `LENGTH` exactly when the whole text would be
+/// too long, `MEMORY`, or `CLOSED`.
 #[tactic(auto, using(crate::proofs::Opened::closed, crate::proofs::Opened::opened, crate::proofs::Opened::failed))]
 #[unsafe(no_mangle)]
 pub extern "C" fn curlew_before(alloc: Global, field: &mut Field, text: &[u32]) -> u32
@@ -35,7 +36,7 @@ pub extern "C" fn curlew_before(alloc: Global, field: &mut Field, text: &[u32]) 
     answer
 }
 
-/// The caret moves to a place. Answers `OK` exactly where the text has the place, else `PLACE`, or `CLOSED`.
+/// Moves the caret to a position. Returns `OK` exactly when the text has the position, otherwise `PLACE`, or `CLOSED`.
 #[tactic(auto, using(crate::proofs::Opened::closed, crate::proofs::Opened::opened, crate::proofs::Opened::failed))]
 #[unsafe(no_mangle)]
 pub extern "C" fn curlew_caret(alloc: Global, field: &mut Field, place: u32) -> u32
@@ -55,8 +56,8 @@ pub extern "C" fn curlew_caret(alloc: Global, field: &mut Field, place: u32) -> 
     answer
 }
 
-/// The characters from one place to another are replaced by these. Answers `OK`, `CHARACTER` where a number is none, else `PLACE` or
-/// `LENGTH` exactly where the edit is refused so, `MEMORY`, or `CLOSED`.
+/// Replaces the characters between two positions with these. Returns `OK`, `CHARACTER` if a number is not a character, otherwise
+/// `PLACE` or `LENGTH` exactly when the edit is refused for this reason, `MEMORY`, or `CLOSED`.
 #[tactic(auto, using(crate::proofs::Opened::closed, crate::proofs::Opened::opened, crate::proofs::Opened::failed))]
 #[unsafe(no_mangle)]
 pub extern "C" fn curlew_replace(
@@ -82,8 +83,8 @@ pub extern "C" fn curlew_replace(
     answer
 }
 
-/// The text before the caret in the room, or after it where `after` isn't 0. Answers how many characters it has; 0 where no field
-/// is open.
+/// Writes the text before the caret to the buffer, or the text after it if `after` is not 0. Returns how many characters it has, or
+/// 0 if the field is not open.
 #[tactic(auto, using(crate::proofs::Opened::told_of_closed, crate::proofs::Opened::told_of_opened))]
 #[unsafe(no_mangle)]
 pub extern "C" fn curlew_text(
@@ -104,8 +105,8 @@ pub extern "C" fn curlew_text(
     count
 }
 
-/// The last 64 items before the caret in the room, deadkeys as numbers past all characters. Answers how many there are; 0 where no
-/// field is open.
+/// Writes the last 64 items before the caret to the buffer, deadkeys as numbers past all characters. Returns how many there are, or
+/// 0 if the field is not open.
 #[tactic(auto, using(crate::proofs::Opened::told_of_closed, crate::proofs::Opened::told_of_opened))]
 #[unsafe(no_mangle)]
 pub extern "C" fn curlew_context(alloc: Global, field: &mut Field, room: &mut [u32]) -> usize

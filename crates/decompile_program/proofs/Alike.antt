@@ -1,10 +1,10 @@
--- Keyboards that do the same, whatever their stores and groups are called and wherever they stand.
+-- Two keyboards that behave the same, whatever the names and numbers of their stores and groups are.
 use Rattle.std.specs.Prelude.{◌≡◌, List, [], Option, Some, None}
 use Rattle.std.specs.List.{AllZip}
 use Rattle.kmn_base.specs.declared.items.Element.{Element}
 use Rattle.kmn_base.specs.declared.keys.RuleKey.{RuleKey}
 use Rattle.kmn_base.specs.declared.keys.KeyPress.{KeyPress}
-use Rattle.rule_model.specs.Fits.{key_fits}
+use Rattle.virtual_keys.specs.Fits.{key_fits}
 use Rattle.rule_model.specs.declared.event_state.EventState.{EventState}
 use Rattle.rule_model.specs.declared.event_state.Caught.{Caught}
 use Rattle.rule_model.specs.Keyboard.{Ref, Output, OneKey, RuleMeaning, GroupMeaning, Keyboard, First}
@@ -12,13 +12,13 @@ use Rattle.rule_model.specs.Content.{content, group_at}
 use Rattle.rule_model.specs.Act.{act}
 use Rattle.rule_model.specs.Choose.{first, choose}
 use Rattle.rule_model.specs.Trace.{first_state}
-use Rattle.kmx_format.proofs.Patterns.{SameContext}
+use Rattle.compile_laws.proofs.Patterns.{SameContext}
 
--- groups that correspond are entered alike
+-- entering corresponding groups has the same effect
 abbrev pub SameEntry : (Ref → Ref → Type 0) → (Ref → EventState → EventState) → (Ref → EventState → EventState) → Type 0
 SameEntry groups e f = (g h : Ref) → groups g h → (s : EventState) → e g s ≡ f h s
 
--- outputs do the same
+-- two outputs have the same effect
 abbrev pub SameOutputs : Keyboard → Keyboard → (Ref → Ref → Type 0) → List Output → List Output → Type 0
 SameOutputs a b groups xs ys = (e f : Ref → EventState → EventState) → SameEntry groups e f → (c : Caught) (s : EventState) → act a e c xs s ≡ act b f c ys s
 
@@ -28,7 +28,7 @@ SameOptional a b groups None (Some ys) = ⊥
 SameOptional a b groups (Some xs) None = ⊥
 SameOptional a b groups (Some xs) (Some ys) = SameOutputs a b groups xs ys
 
--- rules ask and do the same
+-- two rules have the same conditions and the same effect
 pub record SameRule (a b : Keyboard) (groups : Ref → Ref → Type 0) (x y : RuleMeaning) : Type 0 where
   pub context : (values : List (List Element)) → SameContext (content a.stores values) (content b.stores values) x.context y.context
   pub first_wanted : RuleKey
@@ -51,7 +51,7 @@ SameIfAny a b groups None (Some y) = ⊥
 SameIfAny a b groups (Some x) None = ⊥
 SameIfAny a b groups (Some x) (Some y) = SameGroup a b groups x y
 
--- keyboards do the same
+-- two keyboards behave the same
 pub record Alike (a b : Keyboard) (groups : Ref → Ref → Type 0) : Type 0 where
   pub first : first_state a ≡ first_state b
   pub dictionary : a.dictionary ≡ b.dictionary

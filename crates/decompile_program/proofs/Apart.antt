@@ -1,4 +1,4 @@
--- The names that a text gives are told apart.
+-- The names of stores in a text are distinct.
 use Rattle.std.proofs.Common.{◌≡◌, ℕ, zero, suc, ◌+◌, ◌<◌, ◌≤◌, ◌⊎◌, inl, inr, true, false, not, ◌&&◌, List, [], ◌∷◌, ◌++◌, length, drop, map, Option, None, Some, refl, sym, ◌∙◌, ap, arith, length-drop, is_some}
 use Rattle.std.specs.Prelude.{slice_get, unwrap_or, nat_eq}
 use Rattle.std.specs.List.{list_any}
@@ -7,7 +7,7 @@ use Rattle.std.proofs.lemmas.Slice.Eq.{bytes_eq-Decides}
 use Rattle.std.proofs.lemmas.Option.{none-some, same_Some}
 use Rattle.std.proofs.lemmas.Bool.{false_from_ne_true, not-true, and_parts, or_parts, cond_both}
 use Rattle.kmn_base.specs.Names.{same_name}
-use Rattle.rule_model.proofs.NamePlaces.{same_name-self}
+use Rattle.virtual_keys.proofs.NamePlaces.{same_name-self}
 use Rattle.rule_model.specs.declared.tables.Store.{Store}
 use Rattle.decompile_program.specs.Names.{is_free, keeps_name, is_written, store_names}
 use Rattle.kmn_parser.specs.Names.{is_source_name}
@@ -16,7 +16,7 @@ use Rattle.kmn_items.specs.TokenTexts.{is_wordy}
 use Rattle.kmn_lines.specs.Tokens.{token_size, token_kind, token_fault}
 use Rattle.kmn_lines.proofs.TextSizes.{clash}
 
--- names of which the one at a place is the first that is the same
+-- the name at number n is the first of the names that is the same as a name
 abbrev pub StandsFirst : List ℕ → ℕ → List (Option (List ℕ)) → Type 0
 StandsFirst name n [] = ⊥
 StandsFirst name zero (None ∷ names) = ⊥
@@ -48,7 +48,7 @@ free-not x y [] e h = absurd h
 free-not x y (z ∷ names) e (inl k) = ap (same_name y) k ∙ (or_parts (same_name y z) (list_any (same_name y) names) e).0
 free-not x y (z ∷ names) e (inr h) = free-not x y names (or_parts (same_name y z) (list_any (same_name y) names) e).1 h
 
--- a name is the same as none of a list
+-- a name differs from all names of a list
 abbrev pub Differs : List ℕ → List (List ℕ) → Type 0
 Differs x [] = Unit {0}
 Differs x (y ∷ ys) = (same_name x y ≡ false) × Differs x ys
@@ -61,7 +61,7 @@ pub differs-first : (x : List ℕ) (ys : List (List ℕ)) → same_name x [] ≡
 differs-first x [] e d = e
 differs-first x (y ∷ ys) e d = d.0
 
--- free names: none is taken, each is the same as none behind it, and none is empty
+-- free names: none is taken, each differs from all later ones, and none is empty
 pub record IsFreeName (taken : List (List ℕ)) (name : List ℕ) (names : List (List ℕ)) : Type 0 where
   pub free : is_free taken name ≡ true
   pub some : same_name name [] ≡ false
@@ -74,7 +74,7 @@ pub free-drop : (taken names : List (List ℕ)) → AreFree taken names → AreF
 free-drop taken [] f = f
 free-drop taken (name ∷ names) f = f.2
 
--- what is taken is the same as no free name
+-- if a name is taken, it differs from all free names
 pub taken-differs : (x : List ℕ) (taken names : List (List ℕ)) → Has x taken → AreFree taken names → Differs x names
 taken-differs x taken [] h f = tt
 taken-differs x taken (name ∷ names) h f = (same-turned name x (free-not x name taken (not-true _ f.0.free) h), taken-differs x taken names h f.2)
@@ -82,7 +82,7 @@ taken-differs x taken (name ∷ names) h f = (same-turned name x (free-not x nam
 abbrev pub own_name : Store → List ℕ
 own_name store = store.name
 
--- a name is the same as none that comes later
+-- a name differs from all later names
 abbrev pub EachApart : List ℕ → List (Option (List ℕ)) → Type 0
 EachApart x [] = Unit {0}
 EachApart x (None ∷ names) = EachApart x names
@@ -159,7 +159,7 @@ each-at x name zero (Some y ∷ names) apart at = ap (same_name x) (sym (same_So
 each-at x name (suc n) (None ∷ names) apart at = each-at x name n names apart at
 each-at x name (suc n) (Some y ∷ names) apart at = each-at x name n names apart.1 at
 
--- a name among names that are apart stands first
+-- if names are distinct, each of them is the first that is the same as it
 pub stands_first : (name : List ℕ) (n : ℕ) (names : List (Option (List ℕ))) → same_name name [] ≡ false → AreApart names → slice_get names n ≡ Some (Some name) → StandsFirst name n names
 stands_first name n [] some apart at = absurd (none-some (Some name) at)
 stands_first name zero (None ∷ names) some apart at = absurd (none-some name (same_Some None (Some name) at))

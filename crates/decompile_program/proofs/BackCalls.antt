@@ -1,4 +1,4 @@
--- What is known of the names that stores are called by.
+-- The properties of the names of stores in a text.
 use Rattle.std.proofs.Common.{◌≡◌, ℕ, zero, suc, ◌+◌, ◌≤◌, true, false, not, List, [], ◌∷◌, ◌++◌, length, drop, map, Option, None, Some, refl, sym, ◌∙◌, ap, arith, length-drop, if◌then◌else◌}
 use Rattle.std.specs.Prelude.{slice_get, nat_eq, flat_map}
 use Rattle.std.specs.List.{list_any, AllByRecursion}
@@ -21,7 +21,7 @@ use Rattle.decompile_program.proofs.Thin.{KeepsOptions}
 use Rattle.decompile_program.proofs.Linking.{IsSimple}
 use Rattle.kmn_lines.proofs.TextSizes.{clash}
 
--- each store has a name where it is written, and an ordinary one a name that isn't empty
+-- each store has a name exactly where it is written, and the name of an ordinary store isn't empty
 abbrev pub AreCalls : List ℕ → ℕ → List (Option (List ℕ)) → List Store → Type 0
 AreCalls named n [] [] = Unit {0}
 AreCalls named n [] (store ∷ stores) = ⊥
@@ -57,7 +57,7 @@ calls-along named n (call ∷ calls) [] c = absurd c
 calls-along named n (None ∷ calls) (store ∷ stores) c = ap suc (calls-along named (n + 1) calls stores c.1)
 calls-along named n (Some name ∷ calls) (store ∷ stores) c = ap suc (calls-along named (n + 1) calls stores c.2)
 
--- a store that is called
+-- the store of a number has a name that isn't empty
 pub record IsCalled (n : ℕ) (calls : List (Option (List ℕ))) : Type 0 where
   pub name : List ℕ
   pub at : slice_get calls n ≡ Some (Some name)
@@ -87,7 +87,7 @@ called-at named j (suc n) (Some name ∷ calls) (s ∷ stores) store c at o e =
     let more = called-at named (j + 1) n calls stores store c.2 at o (ap (λ (x : ℕ). list_any (nat_eq x) named) (sym k) ∙ e) in
     record { name = more.name; at = more.at; some = more.some }
 
--- an option keeps its name and its elements
+-- if each option keeps its name and its elements, no option is omitted or changed
 pub keeps_options : (f : Element → Element) (named opts : List ℕ) (j : ℕ) (calls : List (Option (List ℕ))) (stores : List Store) → AreCalls named j calls stores
     → ((n : ℕ) (store : Store) (call : Option (List ℕ)) → slice_get stores n ≡ Some store → slice_get calls n ≡ Some call → list_any (nat_eq (j + n)) opts ≡ true → (call ≡ Some store.name) × (map f store.elements ≡ store.elements))
     → KeepsOptions f calls (with_options opts j stores)
@@ -106,7 +106,7 @@ keeps_options f named opts j (Some name ∷ calls) (s ∷ stores) c keeps =
       keeps_options f named opts (j + 1) calls stores c.2 (λ n store call a b e. let l : j + suc n ≡ j + 1 + n = omega arith in keeps (suc n) store call a b (ap (λ (x : ℕ). list_any (nat_eq x) opts) l ∙ e)),
     )
 
--- the statements of written stores are kept and name no other store
+-- the statements of written stores are kept, and their items do not depend on earlier stores
 abbrev pub IsAlone : SourceNames → SrcItem → Type 0
 IsAlone names i = (before : List Store) → item_elements names before i ≡ item_elements names [] i
 
@@ -124,7 +124,7 @@ elements-are-alone : (names : SourceNames) (called : Names) (es : List Element) 
 elements-are-alone names called [] = tt
 elements-are-alone names called (e ∷ es) = (element-alone names called e, elements-are-alone names called es)
 
--- a store that is written is none of a system store that isn't
+-- if a store is written, it does not have the id of a system store that isn't written
 pub no-system : (named : List ℕ) (n id : ℕ) (store : Store) → nat_eq id 0 ≡ false → list_any (nat_eq id) written_ids ≡ false → is_written named n store ≡ true → nat_eq store.system id ≡ false
 no-system named n id store some other w =
     false_from_ne_true (nat_eq store.system id)

@@ -1,4 +1,4 @@
--- What stores are called, one by one.
+-- The names of stores, one by one.
 use Rattle.std.proofs.Common.{◌≡◌, ℕ, ◌+◌, Bool, true, false, nat_eq, List, [], ◌∷◌, ◌++◌, Option, refl, sym, ap, ◌∙◌, append_assoc}
 use Rattle.rule_model.specs.declared.tables.Store.{Store}
 use Rattle.decompile_program.specs.Names.{is_written, keeps_store_name, store_names}
@@ -19,7 +19,7 @@ pub next_call : (named : List ℕ) (free earlier : List (List ℕ)) (n : ℕ) (s
 next_call named free earlier n store stores =
     by_tests named free earlier n store stores (is_written named n store) (nat_eq store.system 0) (keeps_store_name earlier store.name) refl refl refl
 
--- one store more is called
+-- naming one more store does not change the whole list of names
 pub next_names : (named : List ℕ) (whole : List (Option (List ℕ))) (free left earlier met : List (List ℕ)) (n : ℕ) (store : Store) (here rest : List Store)
     (names more : List (Option (List ℕ))) (name : Option (List ℕ)) (written : Bool)
     → written ≡ is_written named n store → name ≡ store_call written free earlier store → left ≡ free_left written free earlier store → met ≡ names_met written earlier store

@@ -1,4 +1,4 @@
--- Choices that are known, and what holds of each item of lists.
+-- Properties of each item of lists.
 use Rattle.std.proofs.Common.{List, [], ◌∷◌, ◌++◌}
 use Rattle.std.specs.Prelude.{flat_map}
 use Rattle.std.specs.List.{AllByRecursion}

@@ -1,4 +1,4 @@
--- Names that are told apart, each once and by its place.
+-- Distinct names: each is kept once and found at its place.
 use Rattle.std.proofs.Common.{◌≡◌, ℕ, zero, suc, ◌+◌, ◌<◌, Bool, true, false, ◌||◌, List, [], ◌∷◌, ◌++◌, map, Some, refl, sym, ◌∙◌, ap, arith, append_assoc, append-nil, if◌then◌else◌}
 use Rattle.std.specs.Prelude.{slice_get, position, option_map}
 use Rattle.std.specs.List.{list_any, AllByRecursion, range_with_len}
@@ -7,16 +7,16 @@ use Rattle.std.proofs.lemmas.Option.{none-some, same_Some}
 use Rattle.std.proofs.lemmas.Bool.{cond-true, cond-false, or_parts, or_right}
 use Rattle.kmn_base.specs.Names.{same_name}
 use Rattle.rule_model.specs.Tab.{distinct_onto}
-use Rattle.rule_model.proofs.NamePlaces.{position_cons}
+use Rattle.virtual_keys.proofs.NamePlaces.{position_cons}
 use Rattle.decompile_program.proofs.Apart.{Differs}
-use Rattle.rule_model.proofs.NamePlaces.{same_name-self}
+use Rattle.virtual_keys.proofs.NamePlaces.{same_name-self}
 use Rattle.decompile_program.proofs.Free.{AreDistinct}
 
--- a name is one of these
+-- a name is the same as one of a list
 abbrev pub Among : List (List ℕ) → List ℕ → Type 0
 Among names x = list_any (λ y. same_name y x) names ≡ true
 
--- none of these is the same as a name
+-- if names are distinct, none before a name is the same as it
 none-same : (xs : List (List ℕ)) (y : List ℕ) (ys : List (List ℕ)) → AreDistinct (xs ++ y ∷ ys) → list_any (λ x. same_name x y) xs ≡ false
 none-same [] y ys d = refl
 none-same (x ∷ xs) y ys d = ap (λ b. b || list_any (λ x. same_name x y) xs) (inside xs d.0) ∙ none-same xs y ys d.1
@@ -25,7 +25,7 @@ none-same (x ∷ xs) y ys d = ap (λ b. b || list_any (λ x. same_name x y) xs) 
     inside [] d = d.0
     inside (z ∷ xs) d = inside xs d.1
 
--- names that are told apart stay
+-- if names are distinct, all of them are kept
 pub distinct-stays : (seen xs : List (List ℕ)) → AreDistinct (seen ++ xs) → distinct_onto same_name seen xs ≡ seen ++ xs
 distinct-stays seen [] d = sym (append-nil seen)
 distinct-stays seen (x ∷ xs) d =
@@ -40,7 +40,7 @@ distinct-stays seen (x ∷ xs) d =
         all [] d = d
         all (z ∷ seen) d = (d.0, all seen d.1)
 
--- what is among them adds nothing
+-- if names are among those seen, they are not added
 pub distinct-adds_none : (seen xs : List (List ℕ)) → AllByRecursion (Among seen) xs → distinct_onto same_name seen xs ≡ seen
 distinct-adds_none seen [] all = refl
 distinct-adds_none seen (x ∷ xs) all = (λ i. distinct_onto same_name (if all.0 i then seen else seen ++ x ∷ []) xs) ∙ distinct-adds_none seen xs all.1
@@ -49,7 +49,7 @@ distinct-append : (seen xs ys : List (List ℕ)) → distinct_onto same_name see
 distinct-append seen [] ys = refl
 distinct-append seen (x ∷ xs) ys = distinct-append (if list_any (λ y. same_name y x) seen then seen else seen ++ x ∷ []) xs ys
 
--- names that are told apart, and behind them some of them again
+-- if names are distinct and followed by some of them again, only the distinct names are kept
 pub distinct-first : (xs ys : List (List ℕ)) → AreDistinct xs → AllByRecursion (Among xs) ys → distinct_onto same_name [] (xs ++ ys) ≡ xs
 distinct-first xs ys d all =
     distinct-append [] xs ys ∙ (ap (λ (seen : List (List ℕ)). distinct_onto same_name seen ys) (distinct-stays [] xs d) ∙ distinct-adds_none xs ys all)
@@ -62,7 +62,7 @@ pushed (x ∷ xs) y d e = let two = or_parts (same_name x y) (list_any (λ x. sa
     behind [] d e = (e, tt)
     behind (z ∷ xs) d e = (d.0, behind xs d.1 e)
 
--- what is kept once is told apart
+-- if the names seen are distinct, the names that are kept are distinct
 pub distinct-apart : (seen xs : List (List ℕ)) → AreDistinct seen → AreDistinct (distinct_onto same_name seen xs)
 distinct-apart seen [] d = d
 distinct-apart seen (x ∷ xs) d =
@@ -77,7 +77,7 @@ differs-at x name k [] d at = absurd (none-some name at)
 differs-at x name zero (y ∷ xs) d at = ap (same_name x) (sym (same_Some y name at)) ∙ d.0
 differs-at x name (suc k) (y ∷ xs) d at = differs-at x name k xs d.1 at
 
--- each of them is found at its place, by a test that tells names apart
+-- if names are distinct, a test that only the same name passes finds each of them at its place
 pub found-at : (p : List ℕ → Bool) (name : List ℕ) (k : ℕ) (xs : List (List ℕ)) → p name ≡ true → ((x : List ℕ) → same_name x name ≡ false → p x ≡ false)
     → AreDistinct xs → slice_get xs k ≡ Some name → position p xs ≡ Some k
 found-at p name k [] here others d at = absurd (none-some name at)
@@ -92,7 +92,7 @@ at-among (x ∷ names) zero name at =
     ap (λ b. b || list_any (λ y. same_name y name) names) (ap (λ k. same_name k name) (same_Some x name at) ∙ same_name-self name)
 at-among (x ∷ names) (suc k) name at = or_right (same_name x name) (list_any (λ y. same_name y name) names) (at-among names k name at)
 
--- a number of a range stands in it
+-- place k of a range of numbers has the name of number `from + k`
 pub range-at : (from n k : ℕ) → k < n → slice_get (map decimal (range_with_len from n)) k ≡ Some (decimal (from + k))
 range-at from zero k less = absurd (omega arith)
 range-at from (suc n) zero less = let e : from ≡ from + 0 = omega arith in ap (λ (m : ℕ). Some (decimal m)) e

@@ -1,4 +1,4 @@
--- The names of a key dictionary are fewer than there are codes: each takes a character and a space of one store.
+-- A key dictionary has at most as many names as there are codes: each takes a character and a space of one store.
 use Rattle.std.proofs.Common.{◌≡◌, ℕ, ◌+◌, ◌*◌, ◌≤◌, Bool, true, false, not, List, [], ◌∷◌, ◌++◌, length, refl, ap, ◌∙◌, arith, cond, length-append, if◌then◌else◌}
 use Rattle.std.specs.Prelude.{All, filter, filter_map, find, nat_eq, encode_utf8_all}
 use Rattle.std.specs.Char.{encode_utf8}
@@ -10,13 +10,13 @@ use Rattle.std.proofs.lemmas.Str.{encode_ascii}
 use Rattle.kmn_base.specs.declared.items.Element.{Element}
 use Rattle.kmn_base.specs.declared.limits.TheConstants.{STORE_ELEMENTS, KEY_NAMES}
 use Rattle.kmn_base.specs.Names.{same_name}
-use Rattle.rule_model.proofs.WordBytes.{HasNoSpace, bytes_of}
+use Rattle.virtual_keys.proofs.WordBytes.{HasNoSpace, bytes_of}
 use Rattle.rule_model.specs.declared.tables.Store.{Store}
 use Rattle.rule_model.proofs.KeyNames.{dictionary_has}
 use Rattle.rule_model.specs.Tab.{distinct_onto, element_char, is_dictionary, store_elements, tab_dictionary, words}
 use Rattle.decompile_program.proofs.WrittenCharacters.{characters-few}
 
--- 1 for a part that is a word
+-- 1 if a part is a word, else 0
 abbrev one_if_word : List ℕ → ℕ
 one_if_word [] = 0
 one_if_word (b ∷ bytes) = 1
@@ -25,12 +25,12 @@ abbrev words_among : List (List ℕ) → ℕ
 words_among [] = 0
 words_among (part ∷ parts) = one_if_word part + words_among parts
 
--- what parts take at least of characters and of the spaces between them, and one: of each word but the first a space too
+-- one more than the fewest characters and spaces between them that parts need: each word but the first also needs a space
 abbrev taken : List (List ℕ) → ℕ
 taken [] = 1
 taken (part ∷ parts) = one_if_word part + 2 * words_among parts + 1
 
--- the same where the first part is a word
+-- the same number if the first part is a word
 abbrev taken_begun : List (List ℕ) → ℕ
 taken_begun [] = 2
 taken_begun (part ∷ parts) = 2 * words_among parts + 2
@@ -114,7 +114,7 @@ HasFewElements store = length store.elements ≤ STORE_ELEMENTS
 dictionary-few : (stores : List Store) → All HasFewElements stores → length (store_elements (find is_dictionary stores)) ≤ STORE_ELEMENTS
 dictionary-few stores few = dictionary_has (λ (elements : List Element). length elements ≤ STORE_ELEMENTS) stores (omega arith) few
 
--- so there is a code for each name
+-- if stores have few elements, there is a code for each name of the dictionary
 pub few_names : (stores : List Store) → All HasFewElements stores → length (tab_dictionary stores) ≤ KEY_NAMES
 unfolding tab_dictionary
 few_names stores few =

@@ -7,12 +7,12 @@ use Rattle.decompile_program.specs.Names.{named_by_rule, named_by_group}
 use Rattle.indexed_tables.specs.OptionFlags.{with_flags}
 use Rattle.indexed_tables.proofs.OptionFlags.{with_flags_append}
 
--- the stores that a group names and those of the others
+-- flagging the stores that groups name flags those of the first group and then those of the others
 pub with_groups : (flags : List Bool) (group : Group) (groups : List Group)
     → with_flags flags (flat_map named_by_group (group ∷ groups)) ≡ with_flags (with_flags flags (named_by_group group)) (flat_map named_by_group groups)
 with_groups flags group groups = with_flags_append flags (named_by_group group) (flat_map named_by_group groups)
 
--- the stores that a record names and those of the others
+-- flagging the stores that records name flags those of the first record and then those of the others
 pub with_rules : (flags : List Bool) (rule : Rule) (rules : List Rule)
     → with_flags flags (flat_map named_by_rule (rule ∷ rules)) ≡ with_flags (with_flags flags (named_by_rule rule)) (flat_map named_by_rule rules)
 with_rules flags rule rules = with_flags_append flags (named_by_rule rule) (flat_map named_by_rule rules)

@@ -1,4 +1,4 @@
--- There are enough free names, and they are told apart.
+-- There are enough free names, and they are distinct.
 use Rattle.std.proofs.Common.{◌≡◌, ℕ, zero, suc, ◌+◌, ◌^◌, ◌<◌, ◌≤◌, inl, inr, Bool, true, false, not, ◌||◌, List, [], ◌∷◌, ◌++◌, length, take, drop, map, refl, sym, ◌∙◌, ap, arith, if◌then◌else◌}
 use Rattle.std.specs.Prelude.{filter, nat_lt}
 use Rattle.std.specs.List.{list_any, range_with_len}
@@ -17,12 +17,12 @@ use Rattle.decompile_program.specs.Names.{is_free, numbered_name, free_names}
 use Rattle.decompile_program.proofs.Apart.{Has, Differs, AreFree}
 use Rattle.kmn_lines.proofs.TextSizes.{clash}
 
--- names of which no two are the same
+-- no two names of a list are the same
 abbrev pub AreDistinct : List (List ℕ) → Type 0
 AreDistinct [] = Unit {0}
 AreDistinct (x ∷ xs) = Differs x xs × AreDistinct xs
 
--- two names that are the same as a third are the same
+-- if two names are the same as a third, they are the same
 same-both : (x y z : List ℕ) → same_name x y ≡ true → same_name z y ≡ true → same_name x z ≡ true
 unfolding same_name
 same-both x y z e f =
@@ -32,7 +32,7 @@ same-both x y z e f =
 others : List ℕ → List (List ℕ) → List (List ℕ)
 others y xs = filter (λ x. not (same_name x y)) xs
 
--- where one name is the same as y, none that differs from it is
+-- if a name is the same as y, no name that differs from it is the same as y
 keeps-all : (x y : List ℕ) (xs : List (List ℕ)) → same_name x y ≡ true → Differs x xs → length (others y xs) ≡ length xs
 unfolding others
 keeps-all x y [] e d = refl
@@ -60,7 +60,7 @@ distinct-filter p [] d = d
 distinct-filter p (x ∷ xs) d =
     elim (p x) as (λ b. AreDistinct (if b then x ∷ filter p xs else filter p xs)) [ true ↦ (differs-filter p x xs d.0, distinct-filter p xs d.1) | false ↦ distinct-filter p xs d.1 ]
 
--- names that are free of one more are free among the others
+-- the free names with one more taken name are the free names among the others
 free-others : (y : List ℕ) (ys xs : List (List ℕ)) → filter (is_free (y ∷ ys)) xs ≡ filter (is_free ys) (others y xs)
 unfolding others
 free-others y ys [] = refl
@@ -74,7 +74,7 @@ all-free : (xs : List (List ℕ)) → filter (is_free []) xs ≡ xs
 all-free [] = refl
 all-free (x ∷ xs) = ap (λ (ys : List (List ℕ)). x ∷ ys) (all-free xs)
 
--- of distinct names at most as many are taken as there are taken names
+-- if names are distinct, at most as many of them are taken as there are taken names
 pub enough_free : (taken xs : List (List ℕ)) → AreDistinct xs → length xs ≤ length (filter (is_free taken) xs) + length taken
 unfolding others
 enough_free [] xs d = let e = ap length (all-free xs) in omega (arith, e)
@@ -84,7 +84,7 @@ enough_free (y ∷ taken) xs d =
     let same : length (filter (is_free (y ∷ taken)) xs) ≡ length (filter (is_free taken) (others y xs)) = ap length (free-others y taken xs) in
     omega (arith, one, more, same)
 
--- numbers with a letter before them are told apart
+-- if numbers differ, their names with the same letter differ
 lower-digits : (ds : List ℕ) → AllDigits 10 ds → map to_ascii_lowercase ds ≡ ds
 lower-digits [] all = refl
 lower-digits (d ∷ ds) all =
@@ -152,7 +152,7 @@ take-length zero xs h = refl
 take-length (suc n) [] h = absurd (omega arith)
 take-length (suc n) (x ∷ xs) h = ap suc (take-length n xs (omega arith))
 
--- so many free names are told apart
+-- the names of `free_names` are free and distinct
 pub free_names-free : (c : ℕ) (cs : List ℕ) (taken : List (List ℕ)) (count : ℕ) → 1 + (count + length taken) < 2 ^ 64 → AreFree taken (free_names (c ∷ cs) taken count)
 unfolding free_names
 free_names-free c cs taken count small =

@@ -4,11 +4,11 @@ use Rattle.std.specs.List.{range_with_len}
 use Rattle.decompile_program.specs.Names.{numbered_name, is_free}
 use Rattle.decompile_program.specs.Free.{one_if_free}
 
--- the free ones among the names of so many numbers from one on
+-- the free names of a letter and one of `count` numbers from `first` on
 abbrev pub free_from : (letter : List ℕ) (taken : List (List ℕ)) (first count : ℕ) → List (List ℕ)
 free_from letter taken first count = filter (is_free taken) (map (numbered_name letter) (range_with_len first count))
 
--- a free name more, and no name more
+-- if a name is free, it is appended; otherwise the list is unchanged
 pub one_more : (taken free : List (List ℕ)) (name : List ℕ) → is_free taken name ≡ true → free ++ one_if_free taken name ≡ free ++ name ∷ []
 one_more taken free name e = rw e refl
 
@@ -20,7 +20,7 @@ one_by : (taken : List (List ℕ)) (name : List ℕ) (names : List (List ℕ)) (
 one_by taken name names true e = rw e refl
 one_by taken name names false e = rw e refl
 
--- the name of the first number, where it is free, and those behind it
+-- the free names from a number on are its name, if free, and those after it
 pub next_free : (letter : List ℕ) (taken : List (List ℕ)) (before tries : ℕ) → before < tries
     → free_from letter taken (before + 1) (tries - before)
     ≡ one_if_free taken (numbered_name letter (before + 1)) ++ free_from letter taken (before + 1 + 1) (tries - (before + 1))
@@ -29,7 +29,7 @@ next_free letter taken before tries within =
     ap (free_from letter taken (before + 1)) more
     ∙ one_by taken (numbered_name letter (before + 1)) (free_from letter taken (before + 1 + 1) (tries - (before + 1))) (is_free taken (numbered_name letter (before + 1))) refl
 
--- one number more is tried
+-- testing one more number does not change the whole list of free names
 pub next_step : (letter : List ℕ) (taken free others all : List (List ℕ)) (before tries : ℕ) → before < tries
     → others ≡ free ++ one_if_free taken (numbered_name letter (before + 1))
     → free ++ free_from letter taken (before + 1) (tries - before) ≡ all
@@ -41,13 +41,13 @@ next_step letter taken free others all before tries within is h =
     ∙ sym (ap (λ (names : List (List ℕ)). free ++ names) (next_free letter taken before tries within))
     ∙ h
 
--- no number is left
+-- if no number is left, no free name is left
 pub none_free : (letter : List ℕ) (taken : List (List ℕ)) (before tries : ℕ) → tries ≤ before → free_from letter taken (before + 1) (tries - before) ≡ []
 none_free letter taken before tries past =
     let none : tries - before ≡ 0 = omega arith in
     ap (free_from letter taken (before + 1)) none
 
--- so many of them are enough
+-- if `count` names are found, the later ones are not needed
 pub enough_free : {X : Type 0} (xs ys : List X) (count : ℕ) → length xs ≡ count → take count (xs ++ ys) ≡ xs
 enough_free [] ys zero e = refl
 enough_free [] ys (suc count) e = absurd (omega arith)

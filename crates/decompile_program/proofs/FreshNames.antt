@@ -1,4 +1,4 @@
--- The first free names are told apart from all that stores are called by.
+-- The first free names differ from all names of stores.
 use Rattle.std.proofs.Common.{◌≡◌, ℕ, zero, suc, ◌<◌, inl, inr, true, false, List, [], ◌∷◌, length, drop, map, refl, arith}
 use Rattle.std.specs.Prelude.{slice_get, unwrap_or}
 use Rattle.kmn_base.specs.Names.{same_name}
@@ -6,7 +6,7 @@ use Rattle.rule_model.specs.declared.tables.Store.{Store}
 use Rattle.decompile_program.specs.Names.{is_free}
 use Rattle.decompile_program.proofs.Apart.{Differs, AreFree, AllTaken, own_name}
 
--- the names of a file's stores are taken
+-- the own names of a file's stores are taken
 taken-more : (y : List ℕ) (ys : List (List ℕ)) (stores : List Store) → AllTaken ys stores → AllTaken (y ∷ ys) stores
 taken-more y ys [] h = tt
 taken-more y ys (s ∷ stores) h = (inr h.0, taken-more y ys stores h.1)
@@ -15,7 +15,7 @@ pub all-taken : (stores : List Store) → AllTaken (map own_name stores) stores
 all-taken [] = tt
 all-taken (s ∷ stores) = (inl refl, taken-more s.name (map own_name stores) stores (all-taken stores))
 
--- of free names the first, and those behind a number of them
+-- if names are free, those after the first k are free
 pub drop-free : (taken : List (List ℕ)) (k : ℕ) (names : List (List ℕ)) → AreFree taken names → AreFree taken (drop k names)
 drop-free taken zero names f = f
 drop-free taken (suc k) [] f = f

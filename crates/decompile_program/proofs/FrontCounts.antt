@@ -1,4 +1,4 @@
--- At most two stores stand in front, and there are free names for them and for all others.
+-- At most two stores in front need names, and there are free names for them and for all others.
 use Rattle.std.proofs.Common.{◌≡◌, ℕ, ◌+◌, ◌^◌, ◌<◌, ◌≤◌, true, false, List, [], ◌∷◌, ◌++◌, length, drop, map, if◌then◌else◌, arith, length-append, length-drop}
 use Rattle.std.specs.Prelude.{slice_get, unwrap_or, nat_eq, codes}
 use Rattle.std.proofs.lemmas.List.{length-map}

@@ -1,4 +1,4 @@
--- The statements of the stores in front are kept and name no other store.
+-- The statements of the stores in front are kept and do not name another store.
 use Rattle.std.proofs.Common.{◌≡◌, ℕ, ◌+◌, true, false, List, [], ◌∷◌, length, map, refl, if◌then◌else◌}
 use Rattle.std.specs.Prelude.{slice_get, unwrap_or, nat_eq}
 use Rattle.std.specs.Fmt.{decimal}

@@ -1,4 +1,4 @@
--- What is known of the items of tables that can be written out.
+-- The properties of the items of tables that can be written out.
 use Rattle.std.proofs.Common.{◌≡◌, ℕ, ◌<◌, ◌≤◌, Bool, true, false, ◌||◌, List, [], ◌∷◌, length, refl, ap, arith}
 use Rattle.std.specs.Prelude.{nat_eq, flat_map, fold, max}
 use Rattle.std.specs.List.{AllByRecursion, list_any}
@@ -29,7 +29,7 @@ use Rattle.decompile_program.specs.WrittenOut.{has_falling_contexts, element_key
 use Rattle.decompile_program.proofs.Choosing.{all_parts, all_split, all_both, all_weaker}
 use Rattle.decompile_program.proofs.Parts.{Each, groups-each}
 
--- numbers that some item names, uses as an option, and so on
+-- a number is that of a store that items name, an option, a value, a deadkey, a key code or a group
 abbrev pub IsNamed : Tables → ℕ → Type 0
 IsNamed t n = list_any (nat_eq n) (named_stores t) ≡ true
 
@@ -77,7 +77,7 @@ pub record GoodGroup (t : Tables) (g : Group) : Type 0 where
   pub on_nomatch : AllByRecursion (GoodOutput t) g.on_nomatch
   pub order : has_falling_contexts g.rules ≡ true
 
--- each number of a list is among them
+-- each number of a list is in the list
 pub members : (xs : List ℕ) → AllByRecursion (λ n. list_any (nat_eq n) xs ≡ true) xs
 members [] = tt
 members (x ∷ xs) = (
@@ -89,12 +89,12 @@ max-first : (xs : List ℕ) (a : ℕ) → a ≤ fold max a xs
 max-first [] a = omega arith
 max-first (x ∷ xs) a = let one = le-max_left a x in let more = max-first xs (max a x) in omega (arith, one, more)
 
--- and at most the greatest
+-- each number of a list is at most the greatest
 below_greatest : (xs : List ℕ) (a : ℕ) → AllByRecursion (λ m. m ≤ fold max a xs) xs
 below_greatest [] a = tt
 below_greatest (x ∷ xs) a = (let one = le-max_right a x in let more = max-first xs (max a x) in omega (arith, one, more), below_greatest xs (max a x))
 
--- deadkeys count from 1
+-- deadkey numbers are greater than 0
 some-pattern : (x : Pat) → IsSpellable (unit_item_of_pattern x) → AllByRecursion (λ m. 0 < m) (pattern_marks x)
 some-pattern (pattern.Mark m) h = (h.0, tt)
 some-pattern x h = tt

@@ -18,8 +18,8 @@ use Rattle.rule_model.specs.Choose.{choose}
 use Rattle.rule_model.specs.Naming.{SourceNames, names_of}
 use Rattle.rule_model.specs.Src.{src, src_group, src_rule, src_pattern, src_outputs, is_plain, is_on_match, is_on_nomatch}
 use Rattle.rule_model.specs.Tab.{tab, tab_group, tab_rule, tab_output, output_if_any}
-use Rattle.rule_model.proofs.PositionLemmas.{position-map}
-use Rattle.kmx_format.proofs.Keyboards.{src_choice}
+use Rattle.virtual_keys.proofs.PositionLemmas.{position-map}
+use Rattle.compile_laws.proofs.Keyboards.{src_choice}
 use Rattle.decompile_program.specs.Names.{is_free, keeps_name, group_names}
 use Rattle.kmn_parser.specs.Names.{is_source_name}
 use Rattle.decompile_program.specs.Items.{Names, back_pattern}
@@ -28,7 +28,7 @@ use Rattle.decompile_program.specs.WrittenOut.{fall_from, has_falling_contexts}
 use Rattle.decompile_program.proofs.Alike.{SameRule, SameGroup, SameOptional}
 use Rattle.decompile_program.proofs.SameTraces.{NoneBefore, AreInOrder, best_is_first}
 use Rattle.decompile_program.proofs.Apart.{Has, Differs, AreFree, has-append, has-last, free-not, free-drop, first-free, differs-first, differs-drop, taken-differs, source-some, same-turned}
-use Rattle.rule_model.proofs.NamePlaces.{same_name-self}
+use Rattle.virtual_keys.proofs.NamePlaces.{same_name-self}
 use Rattle.decompile_program.proofs.Free.{AreDistinct}
 use Rattle.decompile_program.proofs.Distinct.{found-at}
 use Rattle.decompile_program.proofs.Good.{GoodOutput, GoodRule, GoodGroup}
@@ -36,7 +36,7 @@ use Rattle.decompile_program.proofs.Renamed.{Renamed, Called, rule_same, outputs
 use Rattle.decompile_program.proofs.Uses.{plain-rules, none-plain, append-none, found-match, found-nomatch}
 use Rattle.decompile_program.proofs.Choosing.{all_weaker}
 
--- the names of groups are told apart
+-- the names of groups are distinct
 abbrev pub group_name : Group → List ℕ
 group_name group = group.name
 
@@ -86,7 +86,7 @@ names_taken [] = tt
 names_taken (g ∷ groups) =
     (inl refl, all_weaker (λ (x : Group). Has x.name (map group_name groups)) (λ (x : Group). Has x.name (g.name ∷ map group_name groups)) (λ x h. inr h) groups (names_taken groups))
 
--- the groups of a text have the names that they are called by
+-- the groups of a text have the given names
 
 back-names : (n : SourceNames) (names : Names) (line : ℕ) (called : List (List ℕ)) (groups : List Group) → length called ≡ length groups
     → map (λ (g : GroupMeaning). g.name) (map (src_group n) (back_groups names line called groups)) ≡ called
@@ -97,7 +97,7 @@ back-names n names line (c ∷ called) (g ∷ groups) same =
     let back : GroupDef = back_group names line c g in
     ap (λ (rest : List (List ℕ)). c ∷ rest) (back-names n names (line + 1 + length back.rules) called groups (omega (arith, same)))
 
--- a group is found by its name at its number
+-- if the names of groups are distinct, a group is found by its name at its number
 pub found-group : (n : SourceNames) (names : Names) (line : ℕ) (called : List (List ℕ)) (groups : List Group) (k : ℕ) (name : List ℕ) → length called ≡ length groups
     → AreDistinct called → slice_get called k ≡ Some name
     → position (λ (g : GroupMeaning). same_name g.name name) (map (src_group n) (back_groups names line called groups)) ≡ Some k
@@ -106,7 +106,7 @@ found-group n names line called groups k name same d at =
     ∙ (ap (position (λ known. same_name known name)) (back-names n names line called groups same)
     ∙ found-at (λ known. same_name known name) name k called (same_name-self name) (λ x e. e) d at)
 
--- and is the group of that number
+-- the group at a number of the text is that of the group at this number of the file
 pub record BackAt (n : SourceNames) (names : Names) (groups : List Group) (list : List GroupMeaning) (k : ℕ) : Type 0 where
   pub group : Group
   pub old : slice_get groups k ≡ Some group
@@ -123,7 +123,7 @@ back-at n names line called (g ∷ groups) (suc k) less =
     let more = back-at n names (line + 1 + length back.rules) (drop 1 called) groups k (omega arith) in
     record { group = more.group; old = more.old; line = more.line; name = more.name; new = more.new }
 
--- rules by falling length, in rising lines, stand in the order in which they are tried
+-- if the contexts of rules fall in length and their lines rise, the rules are in the order of precedence
 before-false : (a b l m : ℕ) → a ≤ b → m < l → (nat_lt b a || (nat_eq a b && nat_lt l m)) ≡ false
 before-false a b l m less rising =
     (λ i. false_from_ne_true (nat_lt b a) (λ e. let h = ltb-true b a e in absurd (omega (arith, h))) i || (nat_eq a b && false_from_ne_true (nat_lt l m) (λ e. let h = ltb-true l m e in absurd (omega (arith, h))) i))
@@ -183,7 +183,7 @@ module _ (p : Program) (t : Tables) (names : Names) (r : Renamed p t names) wher
   nomatch-same line [] ok = tt
   nomatch-same line (x ∷ xs) ok = outputs-same p t names r (x ∷ xs) ok
 
-  -- a group and the group of the text do the same
+  -- a group and its group in the text have the same effect
   pub group_same : (line : ℕ) (name : List ℕ) (g : Group) → GoodGroup t g → SameGroup (src p) (tab t) (Called t names) (src_group (names_of p) (back_group names line name g)) (tab_group t.stores g)
   group_same line name g ok =
       let plain = only-rules (names_of p) names line name g in

@@ -8,8 +8,8 @@ use Rattle.kmn_base.specs.declared.items.Element.{Element}
 use Rattle.kmn_base.specs.declared.items.Element.TheVariants as element
 use Rattle.kmn_base.specs.declared.keys.RuleKey.{RuleKey}
 use Rattle.kmn_base.specs.declared.keys.RuleKey.TheVariants as key
-use Rattle.rule_model.specs.Keys.{key_codes, key_name}
-use Rattle.rule_model.specs.Dictionary.{name_in}
+use Rattle.virtual_keys.specs.Keys.{key_codes, key_name}
+use Rattle.virtual_keys.specs.Dictionary.{name_in}
 use Rattle.rule_model.specs.declared.program.SrcItem.{SrcItem}
 use Rattle.rule_model.specs.declared.program.SrcItem.TheVariants as source
 use Rattle.rule_model.specs.declared.program.KeyName.{KeyName}
@@ -48,7 +48,7 @@ mark-at t m ok =
     let e : 1 + (m - 1) ≡ m = omega (arith, some) in
     range-at 1 (greatest_mark t) (m - 1) (omega (arith, some, most)) ∙ ap (λ (n : ℕ). Some (decimal n)) e
 
--- a key with a code of its own, and one of the dictionary
+-- a code is that of a key of every keyboard, or that of a name in the dictionary
 pub record IsOwnCode (code : ℕ) : Type 0 where
   pub small : nat_lt code 256 ≡ true
   pub some : nat_eq code 0 ≡ false
@@ -77,7 +77,7 @@ known-key {X} t code ok own named =
       | false ↦ λ e h. let found = some-name (slice_get (key_list t) (code - 256)) h in named (record { large = e; name = found.0; at = found.1 })
     ] refl ok
 
--- an item whose deadkey and whose key are known
+-- the deadkey and the key of an item are known
 abbrev pub Fine : Tables → SrcItem → Type 0
 Fine t i = AllByRecursion (Among (mark_list t)) (mark_names i) × AllByRecursion (Among (key_list t)) (key_names i)
 

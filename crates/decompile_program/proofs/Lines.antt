@@ -1,4 +1,4 @@
--- The stores of a text stand before its rules.
+-- The stores of a text precede its rules.
 use Rattle.std.proofs.Common.{◌≡◌, ℕ, suc, ◌+◌, ◌<◌, ◌≤◌, Bool, true, false, List, [], ◌∷◌, ◌++◌, length, take, drop, Option, None, Some, refl, sym, ◌∙◌, ap, arith, append-nil, if◌then◌else◌}
 use Rattle.std.specs.Prelude.{slice_get, unwrap_or, nat_eq, nat_lt, flat_map}
 use Rattle.std.specs.List.{prefix_len, AllByRecursion}
@@ -32,7 +32,7 @@ all-after : {X : Type 0} (p : X → Bool) (xs : List X) → AllByRecursion (λ x
 all-after p [] h = refl
 all-after p (x ∷ xs) h = ap (λ (n : ℕ). drop n (x ∷ xs)) (length-step p x xs h.0) ∙ all-after p xs h.1
 
--- the items of a text whose stores stand before its rules
+-- if the stores of a text precede its rules, its items are those of the stores and then those of the rules
 pub items-in-order : (bound : ℕ) (stores : List StoreDef) (rules : List RuleDef) → AllByRecursion (λ (s : StoreDef). s.line < bound) stores → AllByRecursion (λ (r : RuleDef). bound ≤ r.line) rules
     → items_from stores rules ≡ store_items stores ++ flat_map rule_items rules
 items-in-order bound stores [] h k = sym (append-nil (store_items stores))

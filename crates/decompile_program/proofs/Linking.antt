@@ -1,4 +1,4 @@
--- The stores of a program that tables go back to, as its meaning sees them.
+-- The stores of the program that tables decompile to, in its meaning.
 use Rattle.std.proofs.Common.{◌≡◌, ℕ, zero, suc, ◌+◌, ◌<◌, ◌≤◌, true, false, ◌||◌, List, [], ◌∷◌, ◌++◌, length, map, Option, None, Some, refl, sym, ◌∙◌, ap, arith, append_assoc, append-nil}
 use Rattle.std.specs.Prelude.{nat_eq, flat_map, position, slice_get, option_map, option_to_list}
 use Rattle.std.specs.List.{list_any, AllByRecursion}
@@ -13,21 +13,21 @@ use Rattle.rule_model.specs.Naming.{SourceNames, store_of, stores_onto, is_dropp
 use Rattle.rule_model.specs.Src.{numbers_named}
 use Rattle.rule_model.specs.System.{system_options}
 use Rattle.rule_model.specs.Tab.{with_options}
-use Rattle.rule_model.proofs.NamePlaces.{position_cons}
-use Rattle.kmx_format.proofs.Stores.{is_called}
+use Rattle.virtual_keys.proofs.NamePlaces.{position_cons}
+use Rattle.compile_laws.proofs.Stores.{is_called}
 use Rattle.decompile_program.specs.Items.{Names, back_element}
 use Rattle.decompile_program.specs.Back.{back_stores}
 use Rattle.decompile_program.proofs.Apart.{StandsFirst}
 use Rattle.decompile_program.proofs.Thin.{thin}
 
--- the stores of a file that have a name here, under that name
+-- the stores of a file that have a name in the text, under that name
 abbrev pub thin_stores : (Element → Element) → List (Option (List ℕ)) → List Store → List Store
 thin_stores f [] stores = []
 thin_stores f (call ∷ calls) [] = []
 thin_stores f (None ∷ calls) (store ∷ stores) = thin_stores f calls stores
 thin_stores f (Some name ∷ calls) (store ∷ stores) = record { system = store.system; name = name; elements = map f store.elements } ∷ thin_stores f calls stores
 
--- a store statement that is kept and names no other store
+-- a store statement is kept and does not depend on earlier stores
 abbrev pub IsSimple : SourceNames → StoreDef → Type 0
 IsSimple names s = (is_dropped s ≡ false) × ((before : List Store) → store_of names before s ≡ store_of names [] s)
 
@@ -38,7 +38,7 @@ stores-mapped names before (s ∷ stores) simple =
     ∙ stores-mapped names (before ++ store_of names [] s ∷ []) stores simple.1
     ∙ append_assoc before (store_of names [] s ∷ []) (map (store_of names []) stores)
 
--- an element that goes back to an item which stands for the element, changed
+-- an element decompiles to an item that denotes the changed element
 abbrev pub GoesBack : SourceNames → Names → (Element → Element) → Element → Type 0
 GoesBack names called f e = item_elements names [] (back_element called e) ≡ f e ∷ []
 
@@ -46,7 +46,7 @@ elements-back : (names : SourceNames) (called : Names) (f : Element → Element)
 elements-back names called f [] each = refl
 elements-back names called f (e ∷ es) each = λ i. each.0 i ++ elements-back names called f es each.1 i
 
--- the stores of the text are the thinned stores of the file
+-- if each element decompiles to its changed form, the stores of the text are the thinned stores of the file
 pub stores-back : (names : SourceNames) (called : Names) (f : Element → Element) (line : ℕ) (calls : List (Option (List ℕ))) (stores : List Store)
     → AllByRecursion (λ (store : Store). AllByRecursion (GoesBack names called f) store.elements) stores
     → map (store_of names []) (back_stores called line calls stores) ≡ thin_stores f calls stores
@@ -56,7 +56,7 @@ stores-back names called f line (None ∷ calls) (store ∷ stores) each = store
 stores-back names called f line (Some name ∷ calls) (store ∷ stores) each =
     λ i. record { system = store.system; name = name; elements = elements-back names called f store.elements each.0 i } ∷ stores-back names called f (line + 1) calls stores each.1 i
 
--- how many of the first n are written
+-- how many of the first n stores are written
 abbrev pub written_before : ℕ → List (Option (List ℕ)) → ℕ
 written_before n [] = 0
 written_before zero (call ∷ calls) = 0
@@ -87,7 +87,7 @@ one-place zero (suc m) (Some name ∷ calls) a b e = absurd (omega (arith, e))
 one-place (suc n) zero (Some name ∷ calls) a b e = absurd (omega (arith, e))
 one-place (suc n) (suc m) (Some name ∷ calls) a b e = ap suc (one-place n m calls a b (omega (arith, e)))
 
--- flags agree, store by store
+-- the flags of the text and the file agree for each written store
 abbrev pub FlagsAgree : List ℕ → List ℕ → ℕ → ℕ → List (Option (List ℕ)) → Type 0
 FlagsAgree new old j n calls = (i : ℕ) → Written i calls → list_any (nat_eq (j + written_before i calls)) new ≡ list_any (nat_eq (n + i)) old
 
@@ -104,7 +104,7 @@ meanings-thin f new old j n (Some name ∷ calls) (store ∷ stores) agree =
     (λ i w. (let e : j + 1 + written_before i calls ≡ j + (1 + written_before i calls) = omega arith in ap (λ (k : ℕ). list_any (nat_eq k) new) e) ∙ agree (suc i) w ∙ (let e : n + suc i ≡ n + 1 + i = omega arith in ap (λ (k : ℕ). list_any (nat_eq k) old) e)) in
     λ i. record { name = name; elements = map f store.elements; is_option = here i; is_system = false } ∷ rest i
 
--- the options of a text, by where they stand
+-- if each option is found at a place, the options of a text are these places
 pub options-placed : (stores : List Store) (called : ℕ → List ℕ) (place : ℕ → ℕ) (opts : List ℕ)
     → AllByRecursion (λ m. position (λ (store : Store). same_name store.name (called m)) stores ≡ Some (place m)) opts
     → flat_map (numbers_named stores) (map called opts) ≡ map place opts
@@ -122,7 +122,7 @@ same-test front n m calls a b =
       | false ↦ λ e. ne_eqb _ _ (λ same. eqb-false n m e (one-place n m calls a b (omega (arith, same))))
     ] refl
 
--- so flags agree where each option is written
+-- if each option is written, the flags agree
 pub flags_agree : (front : ℕ) (calls : List (Option (List ℕ))) (opts : List ℕ) → AllByRecursion (λ m. Written m calls) opts
     → FlagsAgree (map (λ k. front + written_before k calls) opts) opts front 0 calls
 flags_agree front calls opts all i w =
@@ -133,7 +133,7 @@ flags_agree front calls opts all i w =
     tests [] all = tt
     tests (m ∷ opts) all = (same-test front i m calls w all.0, tests opts all.1)
 
--- a store stands behind those in front as its number says
+-- a store is found after the stores in front and the stores written before it
 within : (n : ℕ) (calls : List (Option (List ℕ))) (stores : List Store) (f : Element → Element) (name : List ℕ) → StandsFirst name n calls → length calls ≡ length stores
     → position (λ (store : Store). same_name store.name name) (thin_stores f calls stores) ≡ Some (written_before n calls)
 within n [] stores f name first along = absurd first
@@ -163,7 +163,7 @@ none-below n front calls [] less = refl
 none-below n front calls (m ∷ opts) less =
     ap (λ b. b || list_any (nat_eq n) (map (λ k. front + written_before k calls) opts)) (ne_eqb n (front + written_before m calls) (omega arith)) ∙ none-below n front calls opts less
 
--- stores in front are no options
+-- stores in front are not options
 pub front-fixed : (front : ℕ) (calls : List (Option (List ℕ))) (opts : List ℕ) (n : ℕ) (xs : List Store) → n + length xs ≤ front
     → AllByRecursion (λ (store : StoreMeaning). store.is_option ≡ false) (with_options (map (λ k. front + written_before k calls) opts) n xs)
 front-fixed front calls opts n [] less = tt
@@ -174,7 +174,7 @@ pub front-other : (opts : List ℕ) (name : List ℕ) (n : ℕ) (xs : List Store
 front-other opts name n [] other = tt
 front-other opts name n (x ∷ xs) other = (other.0, front-other opts name (n + 1) xs other.1)
 
--- a store is an option where its number says so, and where it is a system option
+-- if the number of a store or of a system option is among the options, it is an option
 pub option-flag : (opts : List ℕ) (j n : ℕ) (stores : List Store) (store : StoreMeaning) → slice_get (with_options opts j stores ++ system_options) n ≡ Some store
     → list_any (nat_eq (j + n)) opts ≡ true → store.is_option ≡ true
 option-flag opts j zero [] store at is = ap (λ (k : StoreMeaning). k.is_option) (sym (same_Some _ store at))

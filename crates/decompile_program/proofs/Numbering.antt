@@ -1,4 +1,4 @@
--- The names of a text's deadkeys and keys are those of the file, in its order.
+-- The names of a text's deadkeys and keys are those of the file, in the same order.
 use Rattle.std.proofs.Common.{◌≡◌, ℕ, ◌+◌, ◌-◌, ◌^◌, ◌≤◌, true, false, List, [], ◌∷◌, ◌++◌, length, map, Option, refl, sym, ◌∙◌, ap, arith, append-nil, append_assoc, if◌then◌else◌}
 use Rattle.std.specs.Prelude.{slice_get, position, option_map, unwrap_or, nat_eq, nat_lt, flat_map, fold, max, find, filter_map}
 use Rattle.std.specs.List.{AllByRecursion, range_with_len}
@@ -8,7 +8,7 @@ use Rattle.std.proofs.Math.Nat.{max-le}
 use Rattle.std.proofs.lemmas.Bool.{eqb-true, ltb-false, cond-true, cond-false}
 use Rattle.std.proofs.lemmas.Grind.{flat_map-append}
 use Rattle.kmn_base.specs.Names.{same_name}
-use Rattle.rule_model.specs.Dictionary.{code_in}
+use Rattle.virtual_keys.specs.Dictionary.{code_in}
 use Rattle.rule_model.specs.declared.program.SrcItem.{SrcItem}
 use Rattle.rule_model.specs.declared.program.SrcItem.TheVariants as source
 use Rattle.rule_model.specs.declared.program.StoreDef.{StoreDef}
@@ -24,7 +24,7 @@ use Rattle.kmx_format.specs.Versions.{version_text}
 use Rattle.decompile_program.specs.Back.{back_stores, numbered, mark_store, key_store, stated_marks, stated_key, mark_stores, key_stores, front_stores, free_stores, names_for, written_stores, written_begins, written_groups, back}
 use Rattle.decompile_program.specs.WrittenOut.{CanBeWrittenOut}
 use Rattle.decompile_program.proofs.Apart.{same-turned}
-use Rattle.rule_model.proofs.NamePlaces.{same_name-self}
+use Rattle.virtual_keys.proofs.NamePlaces.{same_name-self}
 use Rattle.decompile_program.proofs.Free.{AreDistinct, candidates_distinct}
 use Rattle.decompile_program.proofs.Good.{IsMark, IsKey, groups_good, stores_good}
 use Rattle.decompile_program.proofs.Distinct.{Among, distinct-first, distinct-apart, found-at}
@@ -33,7 +33,7 @@ use Rattle.decompile_program.proofs.Known.{mark_list, key_list, mark-at, known-k
 use Rattle.decompile_program.proofs.Choosing.{all_join, all_weaker}
 use Rattle.decompile_program.proofs.Lines.{items-in-order, stores-lines, groups-from}
 
--- what an item is named by, of many items of a form
+-- the names in many items of one form, followed by other items
 none-named : {X : Type 0} (g : SrcItem → List (List ℕ)) (f : X → SrcItem) → ((x : X) → g (f x) ≡ []) → (xs : List X) (more : List SrcItem) → flat_map g (map f xs ++ more) ≡ flat_map g more
 none-named g f h [] more = refl
 none-named g f h (x ∷ xs) more = λ i. h x i ++ none-named g f h xs more i
@@ -146,7 +146,7 @@ keys-are t p c =
     ∙ (ap (distinct_onto same_name []) (flat_map-append key_names (store_items (numbered 1 (front_stores t))) (later_items t) ∙ ap (λ (names : List (List ℕ)). names ++ flat_map key_names (later_items t)) (front-keys t))
     ∙ distinct-first (key_list t) (flat_map key_names (later_items t)) (keys-distinct t) (fine-keys t (later_items t) (later-fine t p c)))
 
--- so each deadkey and each key has its number
+-- each deadkey and each key has the same number in the text as in the file
 pub mark-number : (t : Tables) → IsPlayable t → CanBeWrittenOut t → (m : ℕ) → IsMark t m → mark_number (names_of (back t)) (decimal m) ≡ m
 mark-number t p c m ok =
     let some = ok.0 in

@@ -3,8 +3,8 @@ use Rattle.std.proofs.Common.{◌≡◌, ℕ, zero, suc, ◌+◌, ◌<◌, ◌�
 use Rattle.std.specs.Prelude.{slice_get}
 use Rattle.std.proofs.lemmas.List.{drop_more}
 use Rattle.std.proofs.lemmas.Option.{slice_get_within, get_or_from_slice_get}
-use Rattle.rule_model.specs.Dictionary.{name_in}
-use Rattle.rule_model.proofs.NamePlaces.{past, name_read}
+use Rattle.virtual_keys.specs.Dictionary.{name_in}
+use Rattle.virtual_keys.proofs.NamePlaces.{past, name_read}
 
 none_left : {X : Type 0} (xs : List X) (i : ℕ) → length xs ≤ i → drop i xs ≡ []
 none_left [] zero h = refl
@@ -14,7 +14,7 @@ none_left (x ∷ xs) (suc i) h =
     let less : length xs ≤ i = omega arith in
     none_left xs i less
 
--- one name more
+-- reading one more name does not change the whole list of names
 pub next_name : (names keys : List (List ℕ)) (place : ℕ) (name : List ℕ) → name_in names (256 + place) ≡ Some name
     → keys ++ drop place names ≡ names → (keys ++ name ∷ []) ++ drop (place + 1) names ≡ names
 next_name names keys place name e h =
@@ -25,12 +25,12 @@ next_name names keys place name e h =
     drop_more names place name within ∙ ap (λ n. n ∷ drop (place + 1) names) (sym is) in
     append_assoc keys (name ∷ []) (drop (place + 1) names) ∙ sym (ap (λ more. keys ++ more) split) ∙ h
 
--- no name is left
+-- if a code has no name, all names are read
 pub all_names : (names keys : List (List ℕ)) (place : ℕ) → name_in names (256 + place) ≡ None → keys ++ drop place names ≡ names → keys ≡ names
 all_names names keys place e h =
     let none : drop place names ≡ [] = none_left names place (past names place (sym (name_read names place) ∙ e)) in
     sym (append-nil keys) ∙ sym (ap (λ more. keys ++ more) none) ∙ h
 
--- nor is one past the last code
+-- if all codes are read, all names are read
 pub names_ended : (names keys : List (List ℕ)) (place : ℕ) → length names ≤ place → keys ++ drop place names ≡ names → keys ≡ names
 names_ended names keys place few h = sym (append-nil keys) ∙ sym (ap (λ more. keys ++ more) (none_left names place few)) ∙ h

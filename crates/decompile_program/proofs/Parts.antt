@@ -1,4 +1,4 @@
--- What holds of all numbers in groups holds of those of each item.
+-- If a property is true for all numbers in groups, it is true for the numbers of each item.
 use Rattle.std.proofs.Common.{ℕ, List, [], ◌∷◌, ◌++◌}
 use Rattle.std.specs.Prelude.{flat_map}
 use Rattle.std.specs.List.{AllByRecursion}
@@ -8,7 +8,7 @@ use Rattle.rule_model.specs.declared.tables.Rule.{Rule}
 use Rattle.rule_model.specs.declared.tables.Group.{Group}
 use Rattle.decompile_program.proofs.Choosing.{all_parts, all_split}
 
--- what holds of all numbers of a group holds of each item's
+-- a property is true for the numbers of each item of a group
 pub record Each (P : ℕ → Type 0) (fp : Pat → List ℕ) (fo : Out → List ℕ) (g : Group) : Type 0 where
   pub contexts : AllByRecursion (λ (r : Rule). AllByRecursion (λ x. AllByRecursion P (fp x)) r.context) g.rules
   pub outputs : AllByRecursion (λ (r : Rule). AllByRecursion (λ x. AllByRecursion P (fo x)) r.output) g.rules

@@ -1,4 +1,4 @@
--- Each item of tables means what the item of the program that they go back to means.
+-- Each item of tables means the same as the item of the program that it decompiles to.
 use Rattle.std.proofs.Common.{◌≡◌, ℕ, Bool, true, false, not, List, [], ◌∷◌, map, Option, None, Some, is_some, refl, sym, ◌∙◌, ap, if◌then◌else◌}
 use Rattle.std.specs.Bool.{beq}
 use Rattle.std.specs.List.{AllByRecursion}
@@ -6,13 +6,13 @@ use Rattle.std.specs.Prelude.{nat_lt, nat_le, ◌&&◌, ◌||◌, bit_or, bit_an
 use Rattle.std.proofs.lemmas.Option.{slice_get-map}
 use Rattle.kmn_base.specs.declared.items.Item.TheVariants as item
 use Rattle.kmn_base.specs.declared.items.Element.TheVariants as element
-use Rattle.rule_model.proofs.PositionLemmas.{position-map}
+use Rattle.virtual_keys.proofs.PositionLemmas.{position-map}
 use Rattle.std.specs.Fmt.{decimal}
 use Rattle.kmn_base.specs.declared.items.Element.{Element}
 use Rattle.kmn_base.specs.declared.items.Item.{Item}
 use Rattle.kmn_base.specs.declared.keys.KeyPress.{KeyPress}
 use Rattle.std.proofs.lemmas.Nat.{and_or_apart}
-use Rattle.rule_model.specs.Fits.{has, has_either, shift, caps, no_caps, either_control, left_control, right_control, either_alt, left_alt, right_alt, flags_fit, key_fits}
+use Rattle.virtual_keys.specs.Fits.{has, has_either, shift, caps, no_caps, either_control, left_control, right_control, either_alt, left_alt, right_alt, flags_fit, key_fits}
 use Rattle.kmn_base.specs.declared.keys.RuleKey.{RuleKey}
 use Rattle.kmn_base.specs.declared.keys.RuleKey.TheVariants as key
 use Rattle.rule_model.specs.declared.event_state.EventState.{EventState}
@@ -33,7 +33,7 @@ use Rattle.rule_model.specs.System.{is_equal, system_ref}
 use Rattle.rule_model.specs.Naming.{names_of, mark_number, key_number}
 use Rattle.rule_model.specs.Src.{src, src_key, src_pattern, src_output, src_rule, value_elements}
 use Rattle.rule_model.specs.Tab.{tab, tab_pattern, tab_output, tab_rule, elements_of}
-use Rattle.kmx_format.proofs.Patterns.{SamePattern, SameContext}
+use Rattle.compile_laws.proofs.Patterns.{SamePattern, SameContext}
 use Rattle.decompile_program.specs.Items.{Names, back_key, store_called, group_called, value_called, key_by_code, key_by_name, key_called, back_pattern, back_output, some_items}
 use Rattle.decompile_program.specs.Back.{back_rule}
 use Rattle.kmn_base.specs.declared.limits.TheConstants.{EVENT_ENTRIES}
@@ -42,7 +42,7 @@ use Rattle.decompile_program.proofs.Good.{IsNamed, IsOption, IsValue, IsMark, Is
 use Rattle.decompile_program.proofs.Alike.{SameEntry, SameOutputs, SameRule}
 use Rattle.kmn_parser.proofs.Rows.{if-same}
 
--- an element, without what a virtual key is
+-- an element without the flags and the code of a virtual key
 abbrev pub plain : Element → Element
 plain (element.Char c) = element.Char c
 plain (element.Mark m) = element.Mark m
@@ -73,7 +73,7 @@ put-plain (Some (element.Char c)) s = refl
 put-plain (Some (element.Mark m)) s = refl
 put-plain (Some (element.Key flags code)) s = refl
 
--- what looks at elements alike doesn't tell them apart
+-- if two lists of elements are the same except for virtual keys, matching and output treat them the same
 module _ (es fs : List Element) (like : map plain es ≡ map plain fs) where
   place-like : (x : Item) → place_of x es ≡ place_of x fs
   place-like x = sym (place-plain x es) ∙ ap (place_of x) like ∙ place-plain x fs
@@ -87,7 +87,7 @@ module _ (es fs : List Element) (like : map plain es ≡ map plain fs) where
   put-like : (place : Option ℕ) (s : EventState) → put_element (element_at es place) s ≡ put_element (element_at fs place) s
   put-like place s = sym (put-plain (element_at es place) s) ∙ ap (λ o. put_element o s) (at-like place) ∙ put-plain (element_at fs place) s
 
--- what is needed of the names
+-- the required properties of the names
 pub record Renamed (p : Program) (t : Tables) (names : Names) : Type 0 where
   pub like_content : (n : ℕ) → IsNamed t n → (values : List (List Element)) → map plain (content (src p).stores values (Named (store_called names n))) ≡ map plain (content (tab t).stores values (Numbered n))
   pub same_content : (n : ℕ) → IsNamed t n → IsOption t n → (values : List (List Element)) → content (src p).stores values (Named (store_called names n)) ≡ content (tab t).stores values (Numbered n)
@@ -99,7 +99,7 @@ pub record Renamed (p : Program) (t : Tables) (names : Names) : Type 0 where
   pub same_mark : (m : ℕ) → IsMark t m → mark_number (names_of p) (decimal m) ≡ m
   pub same_key : (flags code : ℕ) → IsKey t code → key_number (names_of p) (key_called names flags code) ≡ code
 
--- groups by their names and numbers
+-- a name and a number refer to the same group
 abbrev pub Called : Tables → Names → Ref → Ref → Type 0
 Called t names g h = (n : ℕ) × IsGroup t n × (g ≡ Named (group_called names n)) × (h ≡ Numbered n)
 

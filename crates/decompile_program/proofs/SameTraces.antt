@@ -1,4 +1,4 @@
--- Keyboards that do the same have the same traces.
+-- If two keyboards behave the same, they have the same traces.
 use Rattle.std.proofs.Common.{◌≡◌, ℕ, zero, suc, ◌+◌, Bool, false, List, [], ◌∷◌, length, Option, None, Some, refl, sym, ◌∙◌, ap, subst, if◌then◌else◌}
 use Rattle.std.specs.List.{AllZip}
 use Rattle.kmn_base.specs.declared.events.Event.{Event}
@@ -12,17 +12,18 @@ use Rattle.rule_model.specs.declared.event_state.EventState.{EventState}
 use Rattle.rule_model.specs.declared.event_state.Caught.{Caught}
 use Rattle.rule_model.specs.Keyboard.{Ref, Output, RuleMeaning, GroupMeaning, Keyboard, First}
 use Rattle.rule_model.specs.Content.{content, group_at}
-use Rattle.rule_model.specs.Hold.{holds, holds_with, caught_by, fitting_place}
+use Rattle.rule_model.specs.Hold.{holds, holds_with, caught_by}
+use Rattle.rule_model.proofs.CaughtParts.{fitting_place}
 use Rattle.rule_model.specs.Act.{act, items_caught}
 use Rattle.rule_model.specs.Choose.{Chosen, first, first_with, best, best_with, goes_before, choose}
 use Rattle.rule_model.specs.Enter.{nothing, act_if_any, do_unmatched, do_group, in_group, enter_group}
 use Rattle.rule_model.specs.KeyEvent.{begin_event, after_key}
 use Rattle.rule_model.specs.Event.{State, happening_of, happening, event_refusal, unless_refused, event_of}
 use Rattle.rule_model.specs.Trace.{trace, trace_of, steps_from, first_state}
-use Rattle.kmx_format.proofs.Patterns.{context_caught, context_caught-same, holds-parts}
-use Rattle.kmx_format.proofs.Traces.{steps_from-same}
-use Rattle.kmx_format.proofs.Keyboards.{after_key-enters, trace-steps}
-use Rattle.kmx_format.proofs.Groups.{default-same}
+use Rattle.compile_laws.proofs.Patterns.{context_caught, context_caught-same, holds-parts}
+use Rattle.compile_laws.proofs.Traces.{steps_from-same}
+use Rattle.compile_laws.proofs.Keyboards.{after_key-enters, trace-steps}
+use Rattle.compile_laws.proofs.Groups.{default-same}
 use Rattle.decompile_program.proofs.Alike.{SameEntry, SameOptional, SameRule, SameGroup, SameIfAny, Alike}
 
 module _ (a b : Keyboard) (groups : Ref → Ref → Type 0) where
@@ -36,7 +37,7 @@ module _ (a b : Keyboard) (groups : Ref → Ref → Type 0) where
       ∙ ap (λ k. caught_by (context_caught (content b.stores values) left y.context) (fitting_place (content b.stores values) press k)) (sym same.second_key)
       ∙ sym (holds-parts [] (content b.stores values) left press y)
 
-  -- what is chosen is the same
+  -- two choices are the same
   SameChosen : Option Chosen → Option Chosen → Type 0
   SameChosen None None = Unit {0}
   SameChosen None (Some y) = ⊥
@@ -83,7 +84,7 @@ module _ (a b : Keyboard) (groups : Ref → Ref → Type 0) where
         (rule.output e f entry c.1 (record s { left = without_last (length (items_caught c.1)) s.left })
         ∙ ap (λ k. act b f k d.0.output (record s { left = without_last (length (items_caught k)) s.left })) caught)
 
-    -- a rule of either is held as one of a file is
+    -- if neither keyboard has cased keys and the second chooses the first rule that holds, corresponding groups have the same effect
     in-same : a.cased ≡ [] → b.cased ≡ [] → b.choice ≡ First → (x y : Option GroupMeaning) → SameIfAny a b groups x y → (s : EventState) → in_group a e press x s ≡ in_group b f press y s
     in-same ac bc cb None None same s = refl
     in-same ac bc cb None (Some y) same s = absurd same
@@ -119,7 +120,7 @@ module _ (a b : Keyboard) (groups : Ref → Ref → Type 0) where
         ∙ (ap (trace_of (first_state b)) (steps_from-same a b event-same 1 events (first_state b))
         ∙ sym (trace-steps b events)))
 
--- no rule behind another goes before it
+-- no later rule takes precedence over a rule
 abbrev pub NoneBefore : RuleMeaning → List RuleMeaning → Type 0
 NoneBefore x [] = Unit {0}
 NoneBefore x (y ∷ ys) = (goes_before y x ≡ false) × NoneBefore x ys
@@ -144,7 +145,7 @@ stays-first x None others later = refl
 stays-first x (Some c) None later = refl
 stays-first x (Some c) (Some d) later = ap (λ b. if b then Some d else Some (x, c)) later
 
--- the best of rules in order is the first
+-- if rules are in order of precedence, the best that holds is the first that holds
 pub best_is_first : (caught : RuleMeaning → Option Caught) (xs : List RuleMeaning) → AreInOrder xs → best caught xs ≡ first caught xs
 best_is_first caught [] ordered = refl
 best_is_first caught (x ∷ xs) (later, ordered) =

@@ -1,4 +1,4 @@
--- The deadkeys of tables that can be played are units.
+-- If tables can be played, their deadkey numbers are at most 16 bits long.
 use Rattle.std.proofs.Common.{ℕ, ◌^◌, ◌<◌, List, [], ◌∷◌, ◌++◌, length}
 use Rattle.std.specs.Prelude.{Bool, flat_map}
 use Rattle.std.specs.List.{AllByRecursion}

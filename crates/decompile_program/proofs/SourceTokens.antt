@@ -22,7 +22,7 @@ none_apart n = grind (arith, nat_tests)
 both_false : (one : Bool) (n : ℕ) (rest : Bool) → (one && false) ≡ (nat_eq 0 (suc n) && rest)
 both_false one n rest = and-false one ∙ sym (ap (λ (b : Bool). b && rest) (none_apart n))
 
--- a byte that is a token by itself is no word
+-- if a byte is a token by itself, this token is not a word
 sign_kind : (a b c d e f g h : Bool)
     → is_some (if a then Some Open else if b then Some Close else if c then Some BracketOpen else if d then Some BracketClose else if e then Some Arrow else if f then Some Plus else if g then Some Equal else if h then Some Comma else None) ≡ true
     → is_wordy (unwrap_or (if a then Some Open else if b then Some Close else if c then Some BracketOpen else if d then Some BracketClose else if e then Some Arrow else if f then Some Plus else if g then Some Equal else if h then Some Comma else None) Word) ≡ false
@@ -40,7 +40,7 @@ word_kind : (found : Option TokenKind) → is_some found ≡ false → is_wordy 
 word_kind None p = refl
 word_kind (Some kind) p = absurd (grind (arith, p))
 
--- the token of a text that is no number, by what its first byte is
+-- the token of a text that is not a number, by its first byte
 plain : (quote blank unequal sign forbidden closed rest : Bool) (kind : TokenKind) (quoted size others : ℕ)
     → (quote ≡ false → closed ≡ true) → (sign ≡ true → is_wordy kind ≡ false) → (sign ≡ false → is_wordy kind ≡ true)
     → (nat_eq (if quote then quoted else if unequal then 2 else if sign then 1 else (if not (blank || quote || sign || unequal) then 1 + size else 0)) (suc others)
@@ -59,7 +59,7 @@ plain false true false false forbidden closed rest kind quoted size others c s w
 plain false false false false true closed rest kind quoted size others c s w = rw (w refl) refl
 plain false false false false false closed rest kind quoted size others c s w = rw (w refl) (rw (c refl) refl)
 
--- the token of a number, of which no byte is a quote
+-- the token of a number, which contains no quote
 numeric : (same forbidden closed rest : Bool) (fault : Option Code) → closed ≡ true
     → (same && (true && (not (is_some (if forbidden then Some L02 else if not closed then Some L03 else fault)) && rest))) ≡ ((same && not (is_some fault)) && (not forbidden && rest))
 numeric false forbidden closed rest fault c = refl
@@ -100,7 +100,7 @@ by_number byte (next ∷ digit ∷ bytes) true e =
     ∙ numeric (nat_eq (word_size (digit ∷ bytes)) (length (digit ∷ bytes))) (has_forbidden text) (is_closed text) (is_name text && list_all is_inner text)
     (digits_fault (digit ∷ bytes)) is_closed_text)
 
--- a name is one where it is one token without U+0000 and U+FFFF, in one line
+-- a text is a source name exactly where it is one token without U+0000 and U+FFFF, in one line
 pub source_name : (text : List ℕ) → is_source_name text ≡ is_one_name text
 unfolding token_size token_kind token_fault in_word is_one_name
 source_name [] = refl

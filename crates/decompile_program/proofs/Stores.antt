@@ -17,7 +17,7 @@ use Rattle.rule_model.specs.Naming.{SourceNames, names_of, stores_of, store_of}
 use Rattle.rule_model.specs.Src.{src, src_options, numbers_named}
 use Rattle.rule_model.specs.System.{system_options}
 use Rattle.rule_model.specs.Tab.{tab, tab_options, with_options, elements_of, store_elements, element_char, tab_dictionary}
-use Rattle.kmx_format.proofs.Keyboards.{src_stores, tab_stores}
+use Rattle.compile_laws.proofs.Keyboards.{src_stores, tab_stores}
 use Rattle.kmx_format.specs.Playable.{IsPlayable}
 use Rattle.decompile_program.specs.Names.{named_stores}
 use Rattle.decompile_program.specs.Marks.{greatest_mark}
@@ -27,7 +27,7 @@ use Rattle.decompile_program.specs.WrittenOut.{is_ordinary, has_characters, Keep
 use Rattle.decompile_program.proofs.Apart.{StandsFirst, AreFree, own_name, later, each-at, free-differs, names_apart, stands_first, same-turned}
 use Rattle.decompile_program.proofs.Good.{IsNamed, IsOption, GoodElement, members, stores_good}
 use Rattle.decompile_program.proofs.Thin.{thin, KeepsOptions, Stands, stands, behind}
-use Rattle.kmx_format.proofs.Stores.{with_options-append}
+use Rattle.compile_laws.proofs.Stores.{with_options-append}
 use Rattle.decompile_program.proofs.Linking.{thin_stores, IsSimple, stores-mapped, GoesBack, stores-back, written_before, Written, first-written, meanings-thin, options-placed, flags_agree, found-behind, front-fixed, front-other}
 use Rattle.decompile_program.proofs.BackCalls.{AreCalls, are_calls, calls-along, called-at, keeps_options, back-simple}
 use Rattle.decompile_program.proofs.Numbering.{mark-number, key-number}
@@ -67,7 +67,7 @@ module _ (t : Tables) (p : IsPlayable t) (c : CanBeWrittenOut t) where
   pub along : length calls ≡ length t.stores
   along = calls-along (named_stores t) 0 calls t.stores the-calls
 
-  -- what is known of a store that an item names
+  -- the properties of a store that an item names
   pub record Ready (n : ℕ) : Type 0 where
     pub name : List ℕ
     pub at : slice_get calls n ≡ Some (Some name)
@@ -92,7 +92,7 @@ module _ (t : Tables) (p : IsPlayable t) (c : CanBeWrittenOut t) where
         called = ap (λ (o : Option (Option (List ℕ))). unwrap_or (unwrap_or o None) []) called.at;
       }
 
-  -- the stores in front have other names
+  -- a store in front has another name
   abbrev Other : List ℕ → (ℕ → StoreDef) → Type 0
   Other x f = (n : ℕ) → same_name (f n).name x ≡ false
 
@@ -155,7 +155,7 @@ module _ (t : Tables) (p : IsPlayable t) (c : CanBeWrittenOut t) where
       ∙ (map-append (store_of names []) front behind_front
       ∙ ap (λ (ss : List Store). front_file ++ ss) (stores-back names (names_for t) spelled (1 + length (front_stores t)) calls t.stores (go-back t.stores (stores_good t p c))))
 
-  -- where a store stands
+  -- the place of a store in the text
   abbrev pub place : ℕ → ℕ
   place n = length front_file + written_before n calls
 
@@ -173,14 +173,14 @@ module _ (t : Tables) (p : IsPlayable t) (c : CanBeWrittenOut t) where
       ∙ options-placed (stores_of (back t)) (store_called (names_for t)) place (tab_options t)
       (all_weaker (IsOption t) (λ n. position (λ (s : Store). same_name s.name (store_called (names_for t) n)) (stores_of (back t)) ≡ Some (place n)) placed (tab_options t) (members (tab_options t)))
 
-  -- the front stores as the meaning sees them
+  -- the meaning of the stores in front
   abbrev pub front_meanings : List StoreMeaning
   front_meanings = with_options (map place (tab_options t)) 0 front_file
 
   pub front-plain : AllByRecursion (λ (s : StoreMeaning). s.is_option ≡ false) front_meanings
   front-plain = front-fixed (length front_file) calls (tab_options t) 0 front_file (omega arith)
 
-  -- those of the file
+  -- the meaning of the stores of the file
   abbrev pub own_meanings : List StoreMeaning
   own_meanings = with_options (tab_options t) 0 t.stores
 
@@ -220,7 +220,7 @@ module _ (t : Tables) (p : IsPlayable t) (c : CanBeWrittenOut t) where
   pub keeps : KeepsOptions spelled calls own_meanings
   keeps = keeps_options spelled (named_stores t) (tab_options t) 0 calls t.stores the-calls kept
 
-  -- so each store that an item names stands behind those in front
+  -- each store that an item names is found after the stores in front
   pub stands-there : (n : ℕ) (r : Ready n) → Stands spelled r.name n (src (back t)).stores (tab t).stores
   stands-there n r =
       subst (λ (ss : List StoreMeaning). Stands spelled r.name n ss (tab t).stores) (sym meanings-are)

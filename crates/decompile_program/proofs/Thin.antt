@@ -1,4 +1,4 @@
--- Stores that are left away and named anew mean the same.
+-- If stores are omitted or renamed, the remaining stores mean the same.
 use Rattle.std.proofs.Common.{◌≡◌, ℕ, zero, suc, ◌+◌, Bool, true, false, List, [], ◌∷◌, ◌++◌, map, Option, None, Some, refl, sym, ◌∙◌, ap, if◌then◌else◌}
 use Rattle.std.specs.Prelude.{position, slice_get, unwrap_or, option_map}
 use Rattle.std.specs.List.{AllByRecursion}
@@ -8,22 +8,22 @@ use Rattle.kmn_base.specs.Names.{same_name}
 use Rattle.rule_model.specs.Keyboard.{Named, Numbered, StoreMeaning}
 use Rattle.rule_model.specs.Content.{options_before, store_number, elements_of_store, elements_at, content_of, content_at, content, option_of, option_at, option_number}
 use Rattle.rule_model.specs.Trace.{options_of}
-use Rattle.rule_model.proofs.NamePlaces.{position_cons}
-use Rattle.kmx_format.proofs.Stores.{is_called}
+use Rattle.virtual_keys.proofs.NamePlaces.{position_cons}
+use Rattle.compile_laws.proofs.Stores.{is_called}
 use Rattle.decompile_program.proofs.Apart.{StandsFirst}
 
--- a store under another name, with each element changed; a name means no system option
+-- a store under another name, with each element changed; a store with a name is not a system option
 abbrev pub renamed : (Element → Element) → List ℕ → StoreMeaning → StoreMeaning
 renamed f name store = record { name = name; elements = map f store.elements; is_option = store.is_option; is_system = false }
 
--- the stores that have a name here, under that name
+-- the stores that have a name in the text, under that name
 abbrev pub thin : (Element → Element) → List (Option (List ℕ)) → List StoreMeaning → List StoreMeaning
 thin f [] stores = []
 thin f (name ∷ names) [] = []
 thin f (None ∷ names) (store ∷ stores) = thin f names stores
 thin f (Some name ∷ names) (store ∷ stores) = renamed f name store ∷ thin f names stores
 
--- a store that is left away is no option, and an option stays as it is
+-- a store that is omitted is not an option, and an option is unchanged
 abbrev pub KeepsOptions : (Element → Element) → List (Option (List ℕ)) → List StoreMeaning → Type 0
 KeepsOptions f [] [] = Unit {0}
 KeepsOptions f [] (store ∷ stores) = ⊥
@@ -32,7 +32,7 @@ KeepsOptions f (None ∷ names) (store ∷ stores) = (store.is_option ≡ false)
 KeepsOptions f (Some name ∷ names) (store ∷ stores) =
     (store.is_option ≡ true → renamed f name store ≡ store) × KeepsOptions f names stores
 
--- where a store stands among others under its name
+-- the place at which a store is found under its name
 pub record Stands (f : Element → Element) (name : List ℕ) (n : ℕ) (new_stores old_stores : List StoreMeaning) : Type 0 where
   pub place : ℕ
   pub found : position (is_called name) new_stores ≡ Some place
@@ -79,7 +79,7 @@ stands f name (suc n) (Some other ∷ names) (store ∷ stores) more (apart, fir
       kept = rest.kept;
     }
 
--- stores in front aren't called so and are no options
+-- if stores in front have other names and are not options, a store is found after them
 pub behind : (f : Element → Element) (name : List ℕ) (n : ℕ) (front new_stores old_stores : List StoreMeaning)
     → AllByRecursion (λ (store : StoreMeaning). is_called name store ≡ false) front → AllByRecursion (λ (store : StoreMeaning). store.is_option ≡ false) front
     → Stands f name n new_stores old_stores → Stands f name n (front ++ new_stores) old_stores
@@ -104,7 +104,7 @@ content-like : (plain f : Element → Element) → ((e : Element) → plain (f e
 content-like plain f like true value es = refl
 content-like plain f like false value es = map-like plain f like es
 
--- then content, option and elements are the same
+-- if a store is found under its name, its content, option and elements are the same
 module _ (f : Element → Element) (name : List ℕ) (n : ℕ) (new_stores old_stores : List StoreMeaning) (s : Stands f name n new_stores old_stores) where
   new_content : (values : List (List Element)) → content new_stores values (Named name) ≡ content_of values (options_before n old_stores) (Some (renamed f name s.store))
   new_content values =
@@ -137,7 +137,7 @@ module _ (f : Element → Element) (name : List ℕ) (n : ℕ) (new_stores old_s
   pub same_elements : s.store.is_option ≡ true → elements_at new_stores (store_number new_stores (Named name)) ≡ elements_at old_stores (store_number old_stores (Numbered n))
   same_elements is = ap (elements_at new_stores) s.found ∙ ap elements_of_store s.new ∙ s.kept is ∙ sym (ap elements_of_store s.old)
 
--- and the options are the same, with their names
+-- if options are unchanged, all options are the same, with their names
 pub options-same : (f : Element → Element) (names : List (Option (List ℕ))) (stores more : List StoreMeaning) → KeepsOptions f names stores
     → options_of (thin f names stores ++ more) ≡ options_of (stores ++ more)
 options-same f [] [] more keeps = refl
@@ -151,7 +151,7 @@ options-same f (Some name ∷ names) (store ∷ stores) more (named, keeps) =
       | false ↦ λ h. options-same f names stores more keeps
     ] named
 
--- stores in front that are no options add none
+-- if stores in front are not options, they do not add options
 pub options-behind : (front stores : List StoreMeaning) → AllByRecursion (λ (store : StoreMeaning). store.is_option ≡ false) front → options_of (front ++ stores) ≡ options_of stores
 options-behind [] stores plain = refl
 options-behind (x ∷ front) stores (fixed, plain) = cond-false x.is_option _ _ fixed ∙ options-behind front stores plain

@@ -27,7 +27,7 @@ none-found : (stores : List Store) → AllByRecursion IsUncased stores → find 
 none-found [] none = refl
 none-found (s ∷ stores) none = cond-false (is_cased_keys s) (Some s) (find is_cased_keys stores) none.0 ∙ none-found stores none.1
 
--- the stores in front are the version and ordinary ones
+-- a store statement does not state cased keys: those in front are the version and ordinary stores
 abbrev Uncased : (ℕ → StoreDef) → Type 0
 Uncased f = (n : ℕ) → nat_eq (f n).system 39 ≡ false
 
@@ -49,7 +49,7 @@ numbered-uncased : (known : SourceNames) (line : ℕ) (fs : List (ℕ → StoreD
 numbered-uncased known line [] h = tt
 numbered-uncased known line (f ∷ fs) h = (h.0 line, numbered-uncased known (line + 1) fs h.1)
 
--- and a store of the file is written only where a text states its system store
+-- a store of the file is written only if a text can state its system store
 thin-uncased : (f : Element → Element) (named : List ℕ) (n : ℕ) (calls : List (Option (List ℕ))) (stores : List Store) → AreCalls named n calls stores → AllByRecursion IsUncased (thin_stores f calls stores)
 thin-uncased f named n [] stores c = tt
 thin-uncased f named n (call ∷ calls) [] c = tt

@@ -1,4 +1,4 @@
--- The options of tables are those of the program that they go back to.
+-- The options of tables are those of the program that they decompile to.
 use Rattle.std.proofs.Common.{◌≡◌, ℕ, ◌+◌, List, [], ◌∷◌, ◌++◌, length, map, refl, sym, ◌∙◌, ap}
 use Rattle.std.specs.Prelude.{flat_map, filter, find, option_to_list, slice_get, unwrap_or, drop}
 use Rattle.std.proofs.lemmas.List.{map-append}

@@ -1,4 +1,4 @@
--- The program that tables are written out as means what they mean.
+-- The program that tables are written out as has the same meaning as the tables.
 use Rattle.std.proofs.Common.{◌≡◌, ℕ, zero, suc, ◌+◌, ◌^◌, ◌<◌, ◌≤◌, true, false, List, [], ◌∷◌, ◌++◌, length, map, Option, Some, is_some, refl, sym, ◌∙◌, ap, subst, arith, append-nil, append_assoc, if◌then◌else◌}
 use Rattle.std.specs.Prelude.{slice_get, option_map, option_and_then, unwrap_or, codes, nat_eq}
 use Rattle.std.specs.List.{list_all, list_any, filter_map}
@@ -18,7 +18,7 @@ use Rattle.rule_model.specs.Plain.{option_names}
 use Rattle.rule_model.proofs.SystemOptions.{system_option_is, content_by_option}
 use Rattle.rule_model.specs.Tab.{tab, tab_group, tab_options, elements_of, element_char}
 use Rattle.rule_model.specs.Trace.{first_state, options_of, none_saved}
-use Rattle.kmx_format.proofs.Keyboards.{src_start, src_groups, src_dictionary, tab_start, tab_groups, tab_names, tab_choice, tab_stores, src_cased, tab_cased}
+use Rattle.compile_laws.proofs.Keyboards.{src_start, src_groups, src_dictionary, tab_start, tab_groups, tab_names, tab_choice, tab_stores, src_cased, tab_cased}
 use Rattle.kmx_format.specs.Playable.{IsPlayable}
 use Rattle.decompile_program.specs.Names.{free_names}
 use Rattle.decompile_program.specs.Items.{group_called}
@@ -42,7 +42,7 @@ spelled-plain (element.Char c) = refl
 spelled-plain (element.Mark m) = refl
 spelled-plain (element.Key flags code) = refl
 
--- a value is its characters
+-- if a value has only characters, its characters determine it
 value-again : (es : List Element) → list_all (λ (e : Element). is_some (element_char e)) es ≡ true → value_elements (filter_map element_char es) ≡ es
 value-again [] h = refl
 value-again (element.Char c ∷ es) h = ap (λ (rest : List Element). element.Char c ∷ rest) (value-again es h)
@@ -54,7 +54,7 @@ slice-there [] n less = absurd (omega arith)
 slice-there (x ∷ names) zero less = (x, refl)
 slice-there (x ∷ names) (suc n) less = slice-there names n (omega arith)
 
--- the first state is that of the options
+-- the first state of a keyboard with these options
 state_of : List StoreMeaning → State
 state_of options = record {
   left = [];
@@ -130,7 +130,7 @@ module _ (t : Tables) (p : IsPlayable t) (c : CanBeWrittenOut t) where
     same_key = λ flags code key. key-number t p c flags code key;
   }
 
-  -- both begin in the same state
+  -- the program and the tables begin in the same state
   first-same : first_state (src (back t)) ≡ first_state (tab t)
   first-same =
       state-of-options (src (back t))

@@ -1,4 +1,4 @@
--- The texts of two lists of tables, by computation.
+-- The texts of two examples of tables, by computation.
 use Rattle.std.proofs.Common.{◌≡◌, true, false, [], ◌∷◌, refl}
 use Rattle.std.specs.Prelude.{codes}
 use Rattle.std.specs.Fmt.{digits}
@@ -7,7 +7,7 @@ use Rattle.kmn_base.specs.declared.items.Element.TheVariants as element
 use Rattle.kmn_base.specs.declared.keys.RuleKey.TheVariants as key
 use Rattle.kmn_base.specs.Names.{same_name}
 use Rattle.kmn_lines.specs.Tokens.{in_word, token_size, token_kind, token_fault, begins_forbidden}
-use Rattle.rule_model.specs.Keys.{key_codes, shift_flags}
+use Rattle.virtual_keys.specs.Keys.{key_codes, shift_flags}
 use Rattle.rule_model.specs.declared.tables.Pat.TheVariants as pattern
 use Rattle.rule_model.specs.declared.tables.Out.TheVariants as output
 use Rattle.rule_model.specs.declared.tables.Tables.{Tables}
@@ -40,7 +40,7 @@ small_text : program_text (back small_tables)
 unfolding small_tables back free_names named_stores table_marks tab_dictionary same_name program_text system_stores encode token_size in_word token_kind token_fault begins_forbidden
 small_text = refl
 
--- an option, a store that is left away, one whose name isn't kept, a dictionary, a value, a system store, deadkeys, the layer
+-- an option, a store that is omitted, one whose name isn't kept, a dictionary, a value, a system store, deadkeys, the layer
 mixed_tables : Tables
 mixed_tables = record {
   version = 0x0900;

@@ -1,4 +1,4 @@
--- There are no more characters among elements than elements.
+-- A list of elements has at most as many characters as elements.
 use Rattle.std.proofs.Common.{ℕ, suc, ◌≤◌, List, [], ◌∷◌, length, arith}
 use Rattle.std.specs.Prelude.{filter_map}
 use Rattle.kmn_base.specs.declared.items.Element.{Element}

@@ -6,7 +6,7 @@ use Rattle.rule_model.specs.Tab.{tab_dictionary}
 use Rattle.decompile_program.specs.Items.{Names}
 use Rattle.decompile_program.specs.Names.{named_stores, store_names, group_names, free_names}
 
--- the names of a text, where these free names are left for stores
+-- the names of a text, given the free names that are left for stores
 abbrev pub called_by : Tables → (free : List (List ℕ)) → Names
 called_by tables free = record {
   stores = store_names (named_stores tables) free [] 0 tables.stores;

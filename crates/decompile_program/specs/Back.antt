@@ -1,4 +1,4 @@
--- The program that a decompiled text of tables is, statement by statement, each in a line of its own.
+-- The program that tables decompile to, statement by statement, each on its own line.
 use Rattle.std.specs.Prelude.{ℕ, ◌+◌, true, false, nat_eq, if◌then◌else◌, List, [], ◌∷◌, ◌++◌, length, drop, map, codes, Option, Some, None, unwrap_or, slice_get}
 use Rattle.std.specs.List.{range_with_len}
 use Rattle.std.specs.Fmt.{decimal}
@@ -34,17 +34,17 @@ back_rule names line rule = record {
   output = some_items (map (back_output names) rule.output);
 }
 
--- records, from a line on
+-- the rules for records, from a line on
 abbrev pub back_rules : Names → ℕ → List Rule → List RuleDef
 back_rules names line [] = []
 back_rules names line (rule ∷ rules) = back_rule names line rule ∷ back_rules names (line + 1) rules
 
--- a match or nomatch statement, where there is an output
+-- the match or nomatch statement for an output, or no statement if the output is empty
 abbrev pub back_statement : Names → RuleKind → ℕ → List Out → List RuleDef
 back_statement names kind line [] = []
 back_statement names kind line (o ∷ os) = record { line = line; kind = kind; context = []; key = None; output = map (back_output names) (o ∷ os) } ∷ []
 
--- their lines, in a group that stands in a line
+-- the lines of these statements, given the line of their group
 abbrev pub match_line : ℕ → Group → ℕ
 match_line line group = line + 1 + length group.rules
 
@@ -60,14 +60,14 @@ back_group names line name group = record {
       ++ (back_statement names OnMatch (match_line line group) group.on_match ++ back_statement names OnNoMatch (nomatch_line names line group) group.on_nomatch);
 }
 
--- groups that are called so, from a line on
+-- the groups of the program under the given names, from a line on
 abbrev pub back_groups : Names → ℕ → List (List ℕ) → List Group → List GroupDef
 back_groups names line called [] = []
 back_groups names line called (group ∷ groups) =
     let back : GroupDef = back_group names line (unwrap_or (slice_get called 0) []) group in
     back ∷ back_groups names (line + 1 + length back.rules) (drop 1 called) groups
 
--- stores that are called so, from a line on, without those that are left away
+-- the stores of the program under the given names, from a line on, without the omitted ones
 abbrev pub back_stores : Names → ℕ → List (Option (List ℕ)) → List Store → List StoreDef
 back_stores names line [] stores = []
 back_stores names line (called ∷ calls) [] = []
@@ -75,19 +75,19 @@ back_stores names line (None ∷ calls) (store ∷ stores) = back_stores names l
 back_stores names line (Some name ∷ calls) (store ∷ stores) =
     record { line = line; system = store.system; name = name; items = map (back_element names) store.elements } ∷ back_stores names (line + 1) calls stores
 
--- stores that know all but their line, from a line on
+-- store statements that lack only their line, from a line on
 abbrev pub numbered : ℕ → List (ℕ → StoreDef) → List StoreDef
 numbered line [] = []
 numbered line (store ∷ stores) = store line ∷ numbered (line + 1) stores
 
--- a store of the deadkeys up to a number, where there are any: it numbers them as the file does
+-- a store of the deadkeys up to a number, if there are any: it makes the program number them as the file does
 abbrev pub stated_marks : List ℕ → ℕ → ℕ → StoreDef
 stated_marks name count line = record { line = line; system = 0; name = name; items = map (λ m. source.Dead (decimal m)) (range_with_len 1 count) }
 
 abbrev pub mark_store : List ℕ → ℕ → List (ℕ → StoreDef)
 mark_store name count = if nat_eq count 0 then [] else stated_marks name count ∷ []
 
--- a store of the dictionary's keys, where there are any
+-- a store of the dictionary's keys, if there are any
 abbrev pub stated_key : List ℕ → SrcItem
 stated_key name = source.Key (record { flags = VIRTUAL_KEY; code = 0; name = name })
 
@@ -107,7 +107,7 @@ back_begins names line tables =
     record { line = line; unicode = true; group = group_called names tables.start_unicode }
     ∷ (if nat_eq tables.start_ansi NO_GROUP then [] else record { line = line + 1; unicode = false; group = group_called names tables.start_ansi } ∷ [])
 
--- the free names of stores, of which the first are those of the stores of deadkeys and keys
+-- the free names for stores: the first are for the stores of deadkeys and keys
 abbrev pub free_stores : Tables → List (List ℕ)
 free_stores tables = free_names (codes "s") (map (λ (store : Store). store.name) tables.stores) (length tables.stores + 2)
 
@@ -117,11 +117,11 @@ mark_stores tables = mark_store (unwrap_or (slice_get (free_stores tables) 0) []
 abbrev pub key_stores : Tables → List (ℕ → StoreDef)
 key_stores tables = key_store (unwrap_or (slice_get (free_stores tables) (length (mark_stores tables))) []) (tab_dictionary tables.stores)
 
--- the stores that stand before those of the file: the version, the deadkeys, the keys
+-- the stores that precede those of the file: the version, the deadkeys, the keys
 abbrev pub front_stores : Tables → List (ℕ → StoreDef)
 front_stores tables = version_store tables.version ∷ (mark_stores tables ++ key_stores tables)
 
--- the names by which a text calls what tables have
+-- the names of the stores, groups and keys of tables in the text
 abbrev pub names_for : Tables → Names
 names_for tables = record {
   stores = store_names (named_stores tables) (drop (length (mark_stores tables ++ key_stores tables)) (free_stores tables)) [] 0 tables.stores;
@@ -134,15 +134,15 @@ names_for tables = record {
 abbrev pub written_stores : Tables → List StoreDef
 written_stores tables = numbered 1 (front_stores tables) ++ back_stores (names_for tables) (1 + length (front_stores tables)) (names_for tables).stores tables.stores
 
--- the begin statements behind them
+-- the begin statements after the stores
 abbrev pub written_begins : Tables → List BeginDef
 written_begins tables = back_begins (names_for tables) (1 + length (written_stores tables)) tables
 
--- the groups behind those
+-- the groups after the begin statements
 abbrev pub written_groups : Tables → List GroupDef
 written_groups tables =
     back_groups (names_for tables) (1 + length (written_stores tables) + length (written_begins tables)) (names_for tables).groups tables.groups
 
--- the program of tables
+-- the program that tables decompile to
 unfoldable pub back : Tables → Program
 back tables = record { stores = written_stores tables; begins = written_begins tables; groups = written_groups tables }

@@ -1,4 +1,4 @@
--- The items that a decompiled text has for those of tables.
+-- The items of a decompiled text, given those of tables.
 use Rattle.std.specs.Prelude.{ℕ, nat_lt, bit_or, if◌then◌else◌, List, [], ◌∷◌, Option, Some, None, unwrap_or, slice_get}
 use Rattle.std.specs.List.{filter_map}
 use Rattle.std.specs.Fmt.{decimal}
@@ -7,7 +7,7 @@ use Rattle.kmn_base.specs.declared.items.Element.TheVariants as element
 use Rattle.kmn_base.specs.declared.keys.RuleKey.{RuleKey}
 use Rattle.kmn_base.specs.declared.keys.RuleKey.TheVariants as key
 use Rattle.kmn_base.specs.declared.keys.TheConstants.{VIRTUAL_KEY}
-use Rattle.rule_model.specs.Dictionary.{name_in}
+use Rattle.virtual_keys.specs.Dictionary.{name_in}
 use Rattle.rule_model.specs.declared.program.SrcItem.{SrcItem}
 use Rattle.rule_model.specs.declared.program.SrcItem.TheVariants as source
 use Rattle.rule_model.specs.declared.program.KeyName.{KeyName}
@@ -17,9 +17,9 @@ use Rattle.rule_model.specs.declared.tables.Out.{Out}
 use Rattle.rule_model.specs.declared.tables.Out.TheVariants as output
 use Rattle.rule_model.specs.declared.tables.Store.{Store}
 use Rattle.rule_model.specs.Tab.{elements_of, element_char}
-use Rattle.rule_model.specs.declared.dictionary.TheConstants.{FIRST_OWN_CODE}
+use Rattle.virtual_keys.specs.declared.dictionary.TheConstants.{FIRST_OWN_CODE}
 
--- by which names a text calls the stores, groups and dictionary keys of tables, and the stores, for the values
+-- the names of the stores, groups and dictionary keys of tables in a text, and the stores, for the values
 pub record Names : Type 0 where
   pub stores : List (Option (List ℕ))
   pub groups : List (List ℕ)
@@ -36,7 +36,7 @@ group_called names n = unwrap_or (slice_get names.groups n) []
 abbrev pub value_called : Names → ℕ → List ℕ
 value_called names n = filter_map element_char (elements_of names.elements n)
 
--- a virtual key by its code, and by its name in the dictionary; a source's has the flag of virtual keys
+-- a virtual key by its code, and by its name in the dictionary; in a source it has the flag of virtual keys
 abbrev pub key_by_code : ℕ → ℕ → KeyName
 key_by_code flags code = record { flags = bit_or flags VIRTUAL_KEY; code = code; name = [] }
 
@@ -46,7 +46,7 @@ key_by_name names flags code = record { flags = bit_or flags VIRTUAL_KEY; code =
 abbrev pub key_called : Names → ℕ → ℕ → KeyName
 key_called names flags code = if nat_lt code FIRST_OWN_CODE then key_by_code flags code else key_by_name names flags code
 
--- a deadkey is called by its number
+-- the item of a source for an element; the name of a deadkey is its number
 abbrev pub back_element : Names → Element → SrcItem
 back_element names (element.Char c) = source.Char c
 back_element names (element.Mark m) = source.Dead (decimal m)
@@ -85,7 +85,7 @@ back_key names key.Any = None
 back_key names (key.Char c) = Some (source.Char c)
 back_key names (key.Virtual flags code) = Some (source.Key (key_called names flags code))
 
--- an empty output is `nul`
+-- the items of an output; an empty output is `nul`
 abbrev pub some_items : List SrcItem → List SrcItem
 some_items [] = source.Nul ∷ []
 some_items (i ∷ items) = i ∷ items

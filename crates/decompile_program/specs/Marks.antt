@@ -36,6 +36,6 @@ store_marks store = flat_map element_marks store.elements
 unfoldable pub table_marks : Tables → List ℕ
 table_marks tables = flat_map store_marks tables.stores ++ flat_map group_marks tables.groups
 
--- the greatest of them, or 0
+-- the greatest deadkey number of tables, or 0
 abbrev pub greatest_mark : Tables → ℕ
 greatest_mark tables = fold max 0 (table_marks tables)

@@ -1,4 +1,4 @@
-//! All names of a text: of its stores and its groups, by the tables.
+//! All names of a text, computed from the tables: the names of its stores and groups.
 
 ghost use Rattle.std.specs.Prelude.{◌≡◌, ◌<◌, ◌^◌, [], codes, length, map, IfOk};
 ghost use Rattle.rule_model.specs.declared.tables.Group.{Group};
@@ -12,11 +12,11 @@ use crate::free_names::free_names;
 use crate::naming::{group_names, store_names};
 use indexed_tables::IndexedTables;
 use kmn_base::{Memory, Text};
-use kmn_names::NameTable;
 use rule_model::{Group, Store, Tables};
 use std::alloc::Global;
+use store_table::NameTable;
 
-/// The names of stores.
+/// Returns the own names of stores.
 fn names_of_stores(alloc: Global, stores: &[Store]) -> Result<NameTable, Memory>
     ensures { IfOk result (λ names. names ≡ map (λ (store : Store). store.name) stores.now) }
 {
@@ -27,7 +27,7 @@ fn names_of_stores(alloc: Global, stores: &[Store]) -> Result<NameTable, Memory>
     Ok(names)
 }
 
-/// The names of groups.
+/// Returns the own names of groups.
 fn names_of_groups(alloc: Global, groups: &[Group]) -> Result<NameTable, Memory>
     ensures { IfOk result (λ names. names ≡ map (λ (group : Group). group.name) groups.now) }
 {
@@ -38,7 +38,7 @@ fn names_of_groups(alloc: Global, groups: &[Group]) -> Result<NameTable, Memory>
     Ok(names)
 }
 
-/// The free names of stores.
+/// Returns the free names for stores: one for each store, and two more.
 pub fn free_stores(alloc: Global, tables: &Tables) -> Result<Vec<Text>, Memory>
     requires { length tables.now.stores < 2 ^ 32 }
     ensures { IfOk result (λ free. free.items ≡ free_stores tables.now) }
@@ -48,7 +48,7 @@ pub fn free_stores(alloc: Global, tables: &Tables) -> Result<Vec<Text>, Memory>
     free_names(alloc, b"s", &taken, count + 2, count + 2 + count)
 }
 
-/// What groups are called.
+/// Returns the names of groups.
 fn called_groups(alloc: Global, groups: &[Group]) -> Result<Vec<Text>, Memory>
     requires { length groups.now < 2 ^ 32 }
     ensures { IfOk result (λ names. names.items ≡ group_names (free_names (codes "g") (map (λ (group : Group). group.name) groups.now) (length groups.now)) [] groups.now) }
@@ -59,7 +59,7 @@ fn called_groups(alloc: Global, groups: &[Group]) -> Result<Vec<Text>, Memory>
     group_names(alloc, free.as_slice(), groups)
 }
 
-/// The names of a text, where these free names are left for stores.
+/// Returns the names of a text, given the free names that are left for stores.
 #[tactic(auto, unfolding(rule_model::specs::Tab::tab))]
 pub fn called_by<'a>(
     alloc: Global,

@@ -6,7 +6,7 @@ ghost use Rattle.rule_model.specs.Tab.{element_char};
 
 use kmn_base::Element;
 
-/// Whether a character stands among elements.
+/// Returns whether a character is among elements.
 pub fn has_character(elements: &[Element], wanted: char) -> bool
     ensures { result ≡ list_any (λ c. c == wanted) (filter_map element_char elements.now) }
 {

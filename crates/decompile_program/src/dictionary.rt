@@ -1,4 +1,4 @@
-//! The names of the keys that tables have for themselves.
+//! The names of the custom keys of tables.
 
 ghost use Rattle.std.specs.Prelude.{◌≡◌, ◌≤◌, IfOk, length};
 ghost use Rattle.kmn_base.specs.declared.limits.TheConstants.{KEY_NAMES};
@@ -7,10 +7,10 @@ ghost use Rattle.rule_model.specs.Tab.{tab};
 use indexed_tables::IndexedTables;
 use kmn_base::limits::KEY_NAMES;
 use kmn_base::{Memory, Text};
-use rule_model::FIRST_OWN_CODE;
 use std::alloc::Global;
+use virtual_keys::FIRST_OWN_CODE;
 
-/// The names of tables' own keys, of which there are no more than codes.
+/// Returns the names of the custom keys of tables. There are at most as many names as codes.
 #[tactic(auto, using(crate::proofs::OwnNames::next_name, crate::proofs::OwnNames::all_names, crate::proofs::OwnNames::names_ended))]
 pub fn own_keys(alloc: Global, tables: &IndexedTables<'_>) -> Result<Vec<Text>, Memory>
     requires { length (tab tables.now).dictionary ≤ KEY_NAMES }

@@ -5,10 +5,10 @@ ghost use Rattle.decompile_program.specs.Names.{numbered_name, is_free, free_nam
 ghost use Rattle.decompile_program.specs.Free.{one_if_free};
 
 use kmn_base::{Memory, Text};
-use kmn_names::NameTable;
 use std::alloc::Global;
+use store_table::NameTable;
 
-/// A letter with a number.
+/// Returns a letter followed by a number.
 fn numbered_name(alloc: Global, letter: &[u8], number: usize) -> Result<Text, Memory>
     ensures { IfOk result (λ name. name ≡ numbered_name letter.now number) }
 {
@@ -18,15 +18,15 @@ fn numbered_name(alloc: Global, letter: &[u8], number: usize) -> Result<Text, Me
     Ok(name)
 }
 
-/// Whether a name is the same as none of these.
-#[tactic(auto, using(rule_model::proofs::NamePlaces::some_place), unfolding(kmn_names::specs::Names::is_named))]
+/// Returns whether a name differs from all of these.
+#[tactic(auto, using(virtual_keys::proofs::NamePlaces::some_place), unfolding(store_table::specs::Names::is_named))]
 fn is_free(taken: &NameTable, name: &[u8]) -> bool
     ensures { result ≡ is_free taken.now name.now }
 {
     !taken.has(name)
 }
 
-/// Appends a name where it is free.
+/// Appends a name if it is free.
 #[tactic(auto, using(crate::proofs::FreeNames::one_more, crate::proofs::FreeNames::none_more))]
 fn add_free(free: &mut Vec<Text>, taken: &NameTable, name: Text) -> Result<(), Memory>
     ensures names { OnOk result (free.new.items ≡ free.old.items ++ one_if_free taken.now name) }
@@ -38,7 +38,7 @@ fn add_free(free: &mut Vec<Text>, taken: &NameTable, name: Text) -> Result<(), M
     Ok(())
 }
 
-/// The first so many names from a letter and 1 on of which none is taken. So many tries are enough.
+/// Returns the first `count` names of a letter and a number, from 1 on, that are not taken. Testing `tries` numbers is enough.
 #[tactic(auto, using(crate::proofs::FreeNames::none_free, crate::proofs::FreeNames::enough_free, crate::proofs::FreeNames::all_taken), unfolding(crate::specs::Names::free_names))]
 pub(crate) fn free_names(
     alloc: Global,

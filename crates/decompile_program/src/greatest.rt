@@ -1,4 +1,4 @@
-//! The greatest number of a deadkey in tables.
+//! The greatest deadkey number in tables.
 
 ghost use Rattle.std.specs.Prelude.{◌≡◌, flat_map, fold, max};
 ghost use Rattle.decompile_program.specs.Marks.{element_marks, pattern_marks, output_marks, rule_marks, group_marks, store_marks, table_marks, greatest_mark};
@@ -95,7 +95,7 @@ fn in_groups(least: u16, groups: &[Group]) -> u16
     greatest
 }
 
-/// The greatest number of a deadkey, or 0.
+/// Returns the greatest deadkey number, or 0 if there is no deadkey.
 #[tactic(auto, using(crate::proofs::Folds::fold_append), unfolding(crate::specs::Marks::table_marks))]
 pub fn greatest_mark(tables: &Tables) -> u16
     ensures { result ≡ greatest_mark tables.now }

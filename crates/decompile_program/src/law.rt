@@ -1,6 +1,6 @@
 ghost use Rattle.decompile_program.specs.Laws.{DecompilingKeepsMeaning};
 
-/// Whatever events come, the program that tables are written out as takes the same steps as the tables.
+/// If tables can be played and written out, the program that they are written out as takes the same steps for all events.
 pub fn decompiling_keeps_meaning()
     ensures { DecompilingKeepsMeaning }
 {}

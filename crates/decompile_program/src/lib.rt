@@ -1,17 +1,23 @@
-//! The program that a file's tables are written out as, the law that it means what the tables mean, and what its text calls their
-//! stores, groups and keys: by their own names where a source can have these, else by the next free ones.
+//! Defines the program that the tables of a compiled keyboard decompile to: it has the same meaning, under names that a source can have.
 //!
-//! It stands on `rule_model`, on `kmx_format` for which tables can be played, on `indexed_tables`, where it looks stores and keys up,
-//! on `kmn_names`, whose `NameTable` tells which names were met, on `kmn_parser` for the names that a source can have, and on
-//! `kmn_lines` and `kmn_items`, which tell whether a source reads a name as one. `specs/Names` says what stores and groups are called,
-//! `specs/Items` which item of a source stands for one of a file, `specs/Back` which program the tables go back to, and
-//! `specs/WrittenOut` of which tables that keeps the meaning. A layer above that has such tables calls `decompiling_keeps_meaning`, a
-//! function with an empty body, for the law in its contract.
+//! Stores and groups keep their own names if a source can have them and no earlier store or group has them. Otherwise they get the
+//! next free names. Keys keep the names of the dictionary.
 //!
-//! The layer above calls `free_stores` for the free names, of which the first may be those of stores of its own, and then
-//! `called_by`, which answers the names that `specs/AllNames` says: `Called` lends them one by one, and contracts see it as these
-//! names. `greatest_mark` and `own_keys` tell what such stores have. Whoever asks why a file has no text takes `is_source_name` for
-//! a name, `has_character` for elements, and `named_by_pattern` and `named_by_output` for the store that an item names.
+//! `specs/Names` defines the names of stores and groups, `specs/Items` the item of a source for each item of a file, `specs/Back` the
+//! program that tables decompile to, and `specs/WrittenOut` the tables for which this keeps the meaning.
+//!
+//! Use: `free_stores` returns the free names, and the caller may use the first of them for stores that it adds. Then `called_by`
+//! returns all names of the text (`specs/AllNames`). `Called` returns a reference to each name, and contracts model it as these names.
+//! For the added stores, `greatest_mark` returns the greatest deadkey number and `own_keys` the names of the custom keys. To find out
+//! why a file has no text, use `is_source_name` for a name, `has_character` for elements, and `named_by_pattern` and
+//! `named_by_output` for the store that an item names.
+//!
+//! Law: if tables can be played and written out, the program takes the same steps as the tables for all events. For this law,
+//! call `decompiling_keeps_meaning`, a function with an empty body.
+//!
+//! Depends on `rule_model`; `kmx_format`, which defines the tables that can be played; `indexed_tables`, which finds stores and keys;
+//! `store_table` (`NameTable` finds the names that are already used); `kmn_parser` for the names that a source can have; and
+//! `kmn_lines`, `kmn_tokens` and `kmn_items`, which decide whether a source reads a text as a name.
 #![tactic(auto)]
 
 mod all_names;

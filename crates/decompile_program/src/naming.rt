@@ -1,4 +1,4 @@
-//! What stores and groups are called: by their own names where these can be kept, else by the next free ones.
+//! The names of stores and groups in a text: their own names if these can be kept, otherwise the next free names.
 
 ghost use Rattle.std.specs.Prelude.{◌≡◌, ◌<◌, nat_eq, ◌++◌, ◌∷◌, [], false, length, replicate, drop, if◌then◌else◌, unwrap_or, slice_get, IfOk, OnOk, Some};
 ghost use Rattle.std.specs.List.{list_any};
@@ -11,12 +11,12 @@ use crate::source_names::is_source_name;
 use crate::used::named_flags;
 use indexed_tables::flag_at;
 use kmn_base::{Memory, Text};
-use kmn_names::NameTable;
 use rule_model::system::{BITMAP, MNEMONIC_LAYOUT};
 use rule_model::{Group, Store, Tables};
 use std::alloc::Global;
+use store_table::NameTable;
 
-/// Whether a name is that of a system store.
+/// Returns whether a name is that of a system store.
 fn is_system_name(name: &[u8]) -> bool
     ensures { result ≡ is_system_name name.now }
 {
@@ -26,22 +26,22 @@ fn is_system_name(name: &[u8]) -> bool
     }
 }
 
-/// Whether a name can be kept behind these.
-#[tactic(auto, using(rule_model::proofs::NamePlaces::some_place), unfolding(kmn_names::specs::Names::is_named))]
+/// Returns whether a name can be kept after these earlier names.
+#[tactic(auto, using(virtual_keys::proofs::NamePlaces::some_place), unfolding(store_table::specs::Names::is_named))]
 fn keeps_name(earlier: &NameTable, name: &[u8]) -> bool
     ensures { result ≡ keeps_name earlier.now name.now }
 {
     is_source_name(name) && !earlier.has(name)
 }
 
-/// Whether a store's name can be kept behind these.
+/// Returns whether a store's name can be kept after these earlier names.
 fn keeps_store_name(earlier: &NameTable, name: &[u8]) -> bool
     ensures { result ≡ keeps_store_name earlier.now name.now }
 {
     !is_system_name(name) && keeps_name(earlier, name)
 }
 
-/// The names that were met, and the free ones that are left.
+/// The own names of the stores or groups so far, and the free names that are left.
 #[derive(Drop)]
 struct Naming<'a> {
     alloc: Global,
@@ -50,7 +50,7 @@ struct Naming<'a> {
 }
 
 impl<'a> Naming<'a> {
-    /// The next free name, which is taken off.
+    /// Removes and returns the next free name, or returns an empty name if none is left.
     fn next_free(&mut self) -> Result<Text, Memory>
         ensures name { IfOk result (λ name. name ≡ unwrap_or (slice_get self.old.free.now 0) []) }
         ensures left { OnOk result (self.new.free.now ≡ drop 1 self.old.free.now) }
@@ -66,7 +66,7 @@ impl<'a> Naming<'a> {
         }
     }
 
-    /// Its own name for what keeps it, else the next free one.
+    /// Returns the own name of a store or group if it is kept, otherwise the next free name.
     fn name(&mut self, own: &[u8], kept: bool) -> Result<Text, Memory>
         ensures name { IfOk result (λ name. name ≡ (if kept then own.now else unwrap_or (slice_get self.old.free.now 0) [])) }
         ensures left { OnOk result (self.new.free.now ≡ (if kept then self.old.free.now else drop 1 self.old.free.now)) }
@@ -80,7 +80,7 @@ impl<'a> Naming<'a> {
         }
     }
 
-    /// What the groups are called.
+    /// Returns the names of groups.
     fn group_names(&mut self, groups: &[Group]) -> Result<Vec<Text>, Memory>
         ensures { IfOk result (λ names. names.items ≡ group_names self.old.free.now self.old.earlier groups.now) }
     {
@@ -92,7 +92,7 @@ impl<'a> Naming<'a> {
         Ok(names)
     }
 
-    /// What an ordinary store is called that is written.
+    /// Returns the name of an ordinary store that is written.
     fn ordinary_name(&mut self, store: &Store) -> Result<Option<Text>, Memory>
         ensures name { IfOk result (λ name. name ≡ Some (if keeps_store_name self.old.earlier store.now.name then store.now.name else unwrap_or (slice_get self.old.free.now 0) [])) }
         ensures left { OnOk result (self.new.free.now ≡ (if keeps_store_name self.old.earlier store.now.name then self.old.free.now else drop 1 self.old.free.now)) }
@@ -102,7 +102,7 @@ impl<'a> Naming<'a> {
         Ok(Some(self.name(store.name.as_slice(), kept)?))
     }
 
-    /// What a store is called: None where it isn't written, nothing for a system store.
+    /// Returns the name of a store: `None` if it isn't written, and an empty name for a system store.
     fn store_name(&mut self, written: bool, store: &Store) -> Result<Option<Text>, Memory>
         ensures name { IfOk result (λ name. name ≡ store_call written self.old.free.now self.old.earlier store.now) }
         ensures left { OnOk result (self.new.free.now ≡ free_left written self.old.free.now self.old.earlier store.now) }
@@ -118,7 +118,7 @@ impl<'a> Naming<'a> {
     }
 }
 
-/// What groups are called by these free names.
+/// Returns the names of groups, given the free names.
 pub(crate) fn group_names(
     alloc: Global,
     free: &[Text],
@@ -134,7 +134,7 @@ pub(crate) fn group_names(
     naming.group_names(groups)
 }
 
-/// Whether a system store is written.
+/// Returns whether a system store is written.
 fn is_written_system(system: u32) -> bool
     ensures { result ≡ list_any (nat_eq system) written_ids }
 {
@@ -144,7 +144,7 @@ fn is_written_system(system: u32) -> bool
     )
 }
 
-/// Whether the store of a number is written, by the flags of the stores that are named.
+/// Returns whether the store of a number is written, given the flags of the stores that are named.
 #[tactic(auto, using(indexed_tables::proofs::OptionFlags::flag_is))]
 fn is_written(flags: &[bool], number: usize, store: &Store, tables: &Tables) -> bool
     requires flags { flags.now ≡ with_flags (replicate (length tables.now.stores) false) (named_stores tables.now) }
@@ -158,7 +158,7 @@ fn is_written(flags: &[bool], number: usize, store: &Store, tables: &Tables) -> 
     }
 }
 
-/// What stores are called by these free names.
+/// Returns the names of stores, given the free names.
 pub(crate) fn store_names(
     alloc: Global,
     free: &[Text],

@@ -1,4 +1,4 @@
-//! Which names a source reads as such.
+//! The texts that a source reads as names.
 
 ghost use Rattle.std.specs.Prelude.{◌≡◌, ◌&&◌, nat_eq, not, length, is_some};
 ghost use Rattle.std.specs.List.{list_all};
@@ -9,23 +9,23 @@ ghost use Rattle.decompile_program.specs.SourceNames.{is_token, is_one_name};
 
 use kmn_base::slices::behind;
 use kmn_items::is_name;
-use kmn_lines::{has_forbidden, number, starts_number, word_size};
+use kmn_tokens::{has_forbidden, number, starts_number, word_size};
 
-/// Whether all of a text is one word.
+/// Returns whether a whole text is one word.
 fn is_word(text: &[u8]) -> bool
     ensures { result ≡ nat_eq (word_size text.now) (length text.now) }
 {
     word_size(text) == text.len()
 }
 
-/// Whether digits are 4 to 6 hexadecimal digits of a character.
+/// Returns whether digits are 4 to 6 hexadecimal digits of a character.
 fn are_character_digits(digits: &[u8]) -> bool
     ensures { result ≡ not (is_some (digits_fault digits.now)) }
 {
     number(digits).is_ok()
 }
 
-/// Whether a text is a word token, or a number token without a fault.
+/// Returns whether a text is a word token, or a number token without a fault.
 fn is_token(text: &[u8]) -> bool
     ensures { result ≡ is_token text.now }
 {
@@ -36,28 +36,28 @@ fn is_token(text: &[u8]) -> bool
     }
 }
 
-/// Whether a byte ends no line.
+/// Returns whether a byte does not end a line.
 fn is_inner(byte: u8) -> bool
     ensures { result ≡ is_inner byte }
 {
     byte != b'\n' && byte != b'\r'
 }
 
-/// Whether no byte ends a line.
+/// Returns whether no byte of a name ends a line.
 fn are_inner(name: &[u8]) -> bool
     ensures { result ≡ list_all is_inner name.now }
 {
     name.iter().all(|byte| is_inner(*byte))
 }
 
-/// Whether a name has 1 to 80 characters in one line.
+/// Returns whether a name has 1 to 80 characters in one line.
 fn is_line_name(name: &[u8]) -> bool
     ensures { result ≡ (is_name name.now && list_all is_inner name.now) }
 {
     is_name(name) && are_inner(name)
 }
 
-/// Whether a name is one token without U+0000 and U+FFFF, of 1 to 80 characters in one line.
+/// Returns whether a name is one token without U+0000 and U+FFFF, of 1 to 80 characters in one line.
 #[tactic(auto, unfolding(crate::specs::SourceNames::is_one_name))]
 fn is_one_name(name: &[u8]) -> bool
     ensures { result ≡ is_one_name name.now }
@@ -65,7 +65,7 @@ fn is_one_name(name: &[u8]) -> bool
     is_token(name) && !has_forbidden(name) && is_line_name(name)
 }
 
-/// Whether a source reads a name as one without a refusal: a word or number token, whole, in one line.
+/// Returns whether a source reads a whole text as a name without a refusal: as a word or number token in one line.
 pub fn is_source_name(name: &[u8]) -> bool
     ensures { result ≡ is_source_name name.now }
 {

@@ -1,4 +1,4 @@
-//! Which stores some item names otherwise than as a value.
+//! The stores that items name, except as a value.
 
 ghost use Rattle.std.specs.Prelude.{◌≡◌, IfOk, false, length, replicate, flat_map, option_to_list};
 ghost use Rattle.decompile_program.specs.Names.{named_by_pattern, named_by_output, named_by_rule, named_by_group, named_stores};
@@ -8,7 +8,7 @@ use kmn_base::Memory;
 use rule_model::{Group, Out, Pat, Rule, Tables};
 use std::alloc::Global;
 
-/// The store that an item of a context names otherwise than as a value.
+/// Returns the store that an item of a context names, except as a value, if any.
 pub fn named_by_pattern(pattern: &Pat) -> Option<u32>
     ensures { option_to_list result ≡ named_by_pattern pattern.now }
 {
@@ -22,7 +22,7 @@ pub fn named_by_pattern(pattern: &Pat) -> Option<u32>
     }
 }
 
-/// The store that an item of an output names otherwise than as a value.
+/// Returns the store that an item of an output names, except as a value, if any.
 pub fn named_by_output(output: &Out) -> Option<u32>
     ensures { option_to_list result ≡ named_by_output output.now }
 {
@@ -34,7 +34,7 @@ pub fn named_by_output(output: &Out) -> Option<u32>
     }
 }
 
-/// Sets the flag of a store, where there is one.
+/// Sets the flag of a store, if any.
 fn mark(flags: &mut [bool], store: Option<u32>)
     ensures { flags.new ≡ with_flags flags.old (option_to_list store) }
 {
@@ -96,7 +96,7 @@ fn mark_groups(flags: &mut [bool], groups: &[Group])
     }
 }
 
-/// A flag for each store: whether some item names it otherwise than as a value.
+/// Returns a flag for each store: whether some item names it, except as a value.
 #[tactic(auto, unfolding(crate::specs::Names::named_stores))]
 pub(crate) fn named_flags(alloc: Global, tables: &Tables) -> Result<Vec<bool>, Memory>
     ensures { IfOk result (λ flags. flags.items ≡ with_flags (replicate (length tables.now.stores) false) (named_stores tables.now)) }

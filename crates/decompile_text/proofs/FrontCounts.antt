@@ -1,4 +1,4 @@
--- How many stores stand in front of those of a file.
+-- The number of stores before the stores of a file.
 use Rattle.std.proofs.Common.{◌≡◌, ℕ, zero, suc, true, false, nat_eq, nat_lt, if◌then◌else◌, List, [], ◌∷◌, length, refl, arith}
 use Rattle.std.proofs.lemmas.Bool.Decides.{nat_tests}
 use Rattle.decompile_program.specs.Back.{mark_store, key_store}

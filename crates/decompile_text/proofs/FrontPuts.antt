@@ -1,4 +1,4 @@
--- What stands in front of the stores of a file, put part by part.
+-- The stores before the stores of a file, appended part by part.
 use Rattle.std.proofs.Common.{◌≡◌, ℕ, List, [], length, refl, ap, ◌∙◌}
 use Rattle.std.specs.Prelude.{unwrap_or, slice_get}
 use Rattle.rule_model.specs.declared.tables.Tables.{Tables}

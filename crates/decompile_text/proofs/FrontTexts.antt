@@ -1,4 +1,4 @@
--- The text of tables is that of their program.
+-- The text of tables is the text of their program.
 use Rattle.std.proofs.Common.{◌≡◌, ℕ, ◌+◌, Bool, true, false, nat_eq, if◌then◌else◌, List, [], ◌∷◌, ◌++◌, length, drop, Some, None, map, flat_map, refl, sym, ap, ◌∙◌, append_assoc, append-nil, codes}
 use Rattle.std.specs.Prelude.{slice_get, unwrap_or, option_map}
 use Rattle.std.specs.List.{range_with_len}
@@ -58,7 +58,7 @@ printed_version version line rest =
     ∙ ap (λ (text : List ℕ). codes "store(&version) \"" ++ (text ++ 10 ∷ rest)) (append-nil (version_text version ++ 34 ∷ []))
     ∙ ap (λ (text : List ℕ). codes "store(&version) \"" ++ text) (append_assoc (version_text version) (34 ∷ []) (10 ∷ rest) ∙ sym (append_assoc (version_text version) (34 ∷ 10 ∷ []) rest))
 
--- a store in front with its items, and what follows
+-- the line of a front store with its items, and what follows
 front_line : (line : ℕ) (name : List ℕ) (items : List SrcItem) (text rest : List ℕ) → printed (joined_items items) ≡ text
     → printed (store_pieces (record { line = line; system = 0; name = name; items = items })) ++ 10 ∷ rest ≡ (call_text (codes "store") name ++ (text ++ 10 ∷ [])) ++ rest
 front_line line name items text rest e =
@@ -68,7 +68,7 @@ front_line line name items text rest e =
     ∙ sym (append_assoc (name ++ 41 ∷ []) (text ++ 10 ∷ []) rest ∙ append_assoc name (41 ∷ []) ((text ++ 10 ∷ []) ++ rest)
     ∙ ap (λ (found : List ℕ). name ++ 41 ∷ found) (append_assoc text (10 ∷ []) rest)))
 
--- the lines of the keys' store, and of the deadkeys' store with those behind it
+-- the line of the key store, and the line of the deadkey store with the lines after it
 printed_key_store : (line : ℕ) (name : List ℕ) (keys : List (List ℕ)) → sheet (map store_pieces (numbered line (key_store name keys))) ≡ key_line name keys
 printed_key_store line name [] = refl
 printed_key_store line name (key ∷ keys) =
@@ -84,7 +84,7 @@ printed_mark_store line name count false others rest h =
     front_line line name (map (λ m. source.Dead (decimal m)) (range_with_len 1 count)) (marks_text (range_with_len 1 count)) (sheet (map store_pieces (numbered (line + 1) others))) (printed_marks (range_with_len 1 count))
     ∙ ap (λ (text : List ℕ). (call_text (codes "store") name ++ (marks_text (range_with_len 1 count) ++ 10 ∷ [])) ++ text) (h (line + 1))
 
--- the lines of the stores in front
+-- the lines of the front stores
 printed_front : (tables : Tables) → sheet (map store_pieces (numbered 1 (front_stores tables)))
     ≡ version_line tables.version ++ (mark_line (unwrap_or (slice_get (free_stores tables) 0) []) (greatest_mark tables)
     ++ key_line (unwrap_or (slice_get (free_stores tables) (length (mark_stores tables))) []) (tab_dictionary tables.stores))
@@ -109,7 +109,7 @@ begins_by names line unicode ansi false =
     ∙ ap (λ (text : List ℕ). begin_text (codes "Unicode") (group_called names unicode) ++ text)
     (printed_begin (line + 1) false (group_called names ansi) [] ∙ append-nil (begin_text (codes "ANSI") (group_called names ansi)))
 
--- the text of tables, as it is put part by part
+-- the text of the program of tables is the text of the tables, appended part by part
 pub text_of_tables : (tables : Tables) → program_text (back tables) ≡ tables_text tables
 unfolding program_text back tables_text
 text_of_tables tables =

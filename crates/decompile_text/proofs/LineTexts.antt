@@ -1,9 +1,9 @@
--- The printed lines of statements, as they are put one by one.
+-- The printed lines of statements, as they are appended one by one.
 use Rattle.std.proofs.Common.{◌≡◌, ℕ, ◌+◌, List, [], ◌∷◌, ◌++◌, Option, Some, None, map, refl, sym, ap, ◌∙◌, append_assoc, codes}
 use Rattle.std.specs.Fmt.{decimal}
 use Rattle.kmn_base.specs.declared.items.Element.{Element}
 use Rattle.kmn_base.specs.declared.keys.RuleKey.TheVariants as key
-use Rattle.rule_model.specs.Keys.{shift_flags}
+use Rattle.virtual_keys.specs.Keys.{shift_flags}
 use Rattle.rule_model.specs.declared.program.SrcItem.{SrcItem}
 use Rattle.rule_model.specs.declared.program.SrcItem.TheVariants as source
 use Rattle.rule_model.specs.declared.program.RuleKind.TheVariants.{OnMatch, OnNoMatch}
@@ -21,7 +21,7 @@ use Rattle.decompile_program.specs.Items.{Names, back_element, back_pattern, bac
 use Rattle.decompile_program.specs.Back.{back_rule, back_rules, back_statement}
 use Rattle.decompile_text.specs.Texts.{element_text, elements_text, pattern_text, context_text, output_text, outputs_text, some_outputs_text, key_text, virtual_text, rule_text, rules_text, statement_text, marks_text, keys_line}
 
--- the elements of a store
+-- the printed elements of a store are their `elements_text`
 pub printed_elements : (names : Names) (elements : List Element) → printed (joined_items (map (back_element names) elements)) ≡ elements_text names elements
 unfolding element_text
 printed_elements names [] = refl
@@ -30,7 +30,7 @@ printed_elements names (element ∷ elements) =
     (printed_append (item_pieces (back_element names element)) (joined_items (map (back_element names) elements))
     ∙ ap (λ (text : List ℕ). printed (item_pieces (back_element names element)) ++ text) (printed_elements names elements))
 
--- the items of an output
+-- the printed items of an output are their `outputs_text`
 pub printed_outputs : (names : Names) (outputs : List Out) → printed (joined_items (map (back_output names) outputs)) ≡ outputs_text names outputs
 unfolding output_text
 printed_outputs names [] = refl
@@ -43,7 +43,7 @@ pub printed_some : (names : Names) (outputs : List Out) → printed (joined_item
 printed_some names [] = refl
 printed_some names (output ∷ outputs) = printed_outputs names (output ∷ outputs)
 
--- the items of a context, and what follows
+-- the printed items of a context are their `context_text`, whatever follows
 pub printed_context : (names : Names) (context : List Pat) (more : List (Option LineToken))
     → printed (spaced_items (map (back_pattern names) context) more) ≡ context_text names context ++ printed more
 unfolding pattern_text
@@ -61,12 +61,12 @@ key_parted (Some item) more =
     ∙ sym (append_assoc (printed (item_pieces item)) (32 ∷ []) (printed more))
     ∙ ap (λ (text : List ℕ). text ++ printed more) (sym (printed_append (item_pieces item) (None ∷ []))))
 
--- the key of a record that is a virtual key
+-- the text of a record's key that is a virtual key is a plus and the key, each followed by a space
 pub virtual_part : (names : Names) (flags code : ℕ) → key_text names (key.Virtual flags code) ≡ 43 ∷ 32 ∷ (virtual_text names flags code ++ 32 ∷ [])
 unfolding key_text virtual_text
 virtual_part names flags code = ap (λ (text : List ℕ). 43 ∷ 32 ∷ text) (printed_append (key_pieces (key_called names flags code)) (None ∷ []))
 
--- the line of a record
+-- the printed line of a record is its `rule_text`
 pub printed_rule : (names : Names) (line : ℕ) (rule : Rule) → printed (rule_line (back_rule names line rule)) ++ 10 ∷ [] ≡ rule_text names rule
 unfolding rule_text key_text
 printed_rule names line rule =
@@ -79,7 +79,7 @@ printed_rule names line rule =
     ∙ append_assoc (context_text names rule.context) (printed (key_part part []) ++ 62 ∷ some_outputs_text names rule.output) (10 ∷ [])
     ∙ ap (λ (text : List ℕ). context_text names rule.context ++ text) (append_assoc (printed (key_part part [])) (62 ∷ some_outputs_text names rule.output) (10 ∷ []))
 
--- the lines of records
+-- the printed lines of records are their `rules_text`
 pub printed_rules : (names : Names) (line : ℕ) (rules : List Rule) → sheet (map rule_line (back_rules names line rules)) ≡ rules_text names rules
 printed_rules names line [] = refl
 printed_rules names line (rule ∷ rules) =
@@ -87,7 +87,7 @@ printed_rules names line (rule ∷ rules) =
     ∙ ap (λ (text : List ℕ). text ++ sheet (map rule_line (back_rules names (line + 1) rules))) (printed_rule names line rule)
     ∙ ap (λ (text : List ℕ). rule_text names rule ++ text) (printed_rules names (line + 1) rules)
 
--- a match line, and a nomatch line
+-- a printed match or nomatch line is its `statement_text`
 pub printed_match : (names : Names) (line : ℕ) (outputs : List Out)
     → sheet (map rule_line (back_statement names OnMatch line outputs)) ≡ statement_text names (codes "match") outputs
 printed_match names line [] = refl
@@ -98,7 +98,7 @@ pub printed_nomatch : (names : Names) (line : ℕ) (outputs : List Out)
 printed_nomatch names line [] = refl
 printed_nomatch names line (output ∷ outputs) = ap (λ (text : List ℕ). codes "nomatch >" ++ (text ++ 10 ∷ [])) (printed_outputs names (output ∷ outputs))
 
--- all deadkeys, and all keys of the keyboard's own
+-- the printed deadkeys are their `marks_text`, and the printed custom keys are their `keys_line`
 pub printed_marks : (marks : List ℕ) → printed (joined_items (map (λ m. source.Dead (decimal m)) marks)) ≡ marks_text marks
 printed_marks [] = refl
 printed_marks (mark ∷ marks) =

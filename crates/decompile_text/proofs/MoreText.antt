@@ -22,7 +22,7 @@ same_page page text other size larger t s =
 sum_of : (size : ℕ) (first second : List ℕ) → size + length first + length second ≡ size + length (first ++ second)
 sum_of size first second = grind (arith, length-append)
 
--- one text and another are put as both in one
+-- appending one text and then another is appending the joined texts
 pub with_text_append : (page : Page) (first second : List ℕ) → with_text (with_text page first) second ≡ with_text page (first ++ second)
 unfolding with_text
 with_text_append page [] second = refl
@@ -35,7 +35,7 @@ with_text_append page (byte ∷ bytes) (next ∷ others) =
     ∙ ap (λ (n : ℕ). if nat_lt TEXT_BYTES n then [] else page.text ++ (first ++ second)) (sum_of page.size first second))
     (sum_of page.size first second)
 
--- no text changes nothing
+-- appending an empty text does not change the page
 pub with_no_text : (page : Page) → with_text page [] ≡ page
 unfolding with_text
 with_no_text page = refl
@@ -52,7 +52,7 @@ unfolding with_text
 kept_text empty [] h within = h.text
 kept_text empty (byte ∷ bytes) h within = rw within (ap (λ (found : List ℕ). found ++ byte ∷ bytes) h.text)
 
--- what was put on an empty page: its size, and the text where it is within the limit
+-- the size of a page is the size of the appended text, and the page has this text if the size is within the limit
 pub page_size : (empty page : Page) (text : List ℕ) → IsEmptyPage empty → page ≡ with_text empty text → page.size ≡ length text
 page_size empty page text h is = ap (λ (found : Page). found.size) is ∙ size_of empty text h
 
@@ -66,7 +66,7 @@ unfolding with_text
 past_text empty [] h past = h.text
 past_text empty (byte ∷ bytes) h past = ap (λ (is_past : Bool). if is_past then [] else empty.text ++ byte ∷ bytes) past
 
--- past the limit only the size is kept
+-- if the size is above the limit, the page has no text
 pub page_past : (empty page : Page) (text : List ℕ) → IsEmptyPage empty → page ≡ with_text empty text → nat_lt TEXT_BYTES page.size ≡ true → page.text ≡ []
 page_past empty page text h is past =
     ap (λ (found : Page). found.text) is

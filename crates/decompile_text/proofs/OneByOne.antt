@@ -1,4 +1,4 @@
--- What is put one by one is put as one text.
+-- Appending texts one by one is appending the joined text.
 use Rattle.std.proofs.Common.{◌≡◌, ℕ, ◌+◌, List, [], ◌∷◌, ◌++◌, sym, ◌∙◌, codes, None}
 use Rattle.std.specs.Prelude.{slice_get, unwrap_or}
 use Rattle.kmn_base.specs.declared.items.Element.{Element}
@@ -10,9 +10,14 @@ use Rattle.rule_model.specs.declared.tables.Group.{Group}
 use Rattle.decompile_program.specs.Items.{Names, group_called}
 use Rattle.decompile_text.specs.declared.page.Page.{Page}
 use Rattle.decompile_text.specs.Pages.{with_text}
-use Rattle.decompile_text.specs.Texts.{flag_text, flags_text, element_text, elements_text, pattern_text, context_text, output_text, outputs_text, rule_text, rules_text, group_text, groups_text, if_called, stores_text, keys_line}
+use Rattle.decompile_text.specs.Texts.{flag_text, element_text, elements_text, pattern_text, context_text, output_text, outputs_text, rule_text, rules_text, group_text, groups_text, if_called, stores_text, keys_line}
 use Rattle.decompile_text.specs.OneByOne.{with_flag_words, with_elements, with_context, with_outputs, with_rules, with_groups, with_stores, with_keys}
 use Rattle.decompile_text.proofs.MoreText.{with_text_append, with_no_text}
+
+-- the modifier words of flags by a table
+abbrev pub flags_text : ℕ → List (List ℕ × ℕ) → List ℕ
+flags_text flags [] = []
+flags_text flags (row ∷ rows) = flag_text flags row.0 row.1 ++ flags_text flags rows
 
 pub flag_words_are : (flags : ℕ) (page : Page) (rows : List (List ℕ × ℕ)) → with_flag_words flags page rows ≡ with_text page (flags_text flags rows)
 flag_words_are flags page [] = sym (with_no_text page)

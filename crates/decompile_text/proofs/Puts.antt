@@ -1,8 +1,8 @@
--- What is put in several parts is put as one text.
+-- Appending a text in several parts is appending the whole text.
 use Rattle.std.proofs.Common.{◌≡◌, ℕ, List, [], ◌∷◌, ◌++◌, ap, ◌∙◌, append_assoc}
 use Rattle.decompile_text.specs.declared.page.Page.{Page}
 use Rattle.decompile_text.specs.Pages.{with_text}
-use Rattle.decompile_text.specs.Texts.{flags_text}
+use Rattle.decompile_text.proofs.OneByOne.{flags_text}
 use Rattle.decompile_text.specs.OneByOne.{with_flag_words}
 use Rattle.decompile_text.proofs.MoreText.{with_text_append}
 use Rattle.decompile_text.proofs.OneByOne.{flag_words_are}
@@ -14,7 +14,7 @@ three page first second third = with_text_append (with_text page first) second t
 four : (page : Page) (first second third fourth : List ℕ) → with_text (with_text (with_text (with_text page first) second) third) fourth ≡ with_text page (first ++ (second ++ (third ++ fourth)))
 four page first second third fourth = three (with_text page first) second third fourth ∙ with_text_append page first (second ++ (third ++ fourth))
 
--- a comparison or a setting
+-- a comparison or an assignment
 pub compared_is : (page : Page) (word name sign value : List ℕ)
     → with_text (with_text (with_text (with_text page (word ++ 40 ∷ name)) (32 ∷ (sign ++ 32 ∷ []))) value) (41 ∷ [])
     ≡ with_text page (word ++ 40 ∷ (name ++ 32 ∷ (sign ++ 32 ∷ (value ++ 41 ∷ []))))

@@ -1,4 +1,4 @@
--- The lines of stores, those of a file and those in front of them.
+-- The lines of the stores of a file and of the stores before them.
 use Rattle.std.proofs.Common.{◌≡◌, ℕ, ◌+◌, Bool, true, false, nat_eq, if◌then◌else◌, List, [], ◌∷◌, ◌++◌, drop, Option, Some, None, map, refl, sym, ap, ◌∙◌, append_assoc, codes, arith}
 use Rattle.std.specs.Prelude.{slice_get, unwrap_or}
 use Rattle.std.specs.List.{list_any}
@@ -13,7 +13,7 @@ use Rattle.decompile_text.specs.Texts.{elements_text, store_text, stores_text, i
 use Rattle.decompile_text.proofs.LineTexts.{printed_elements}
 use Rattle.decompile_text.proofs.WholeTexts.{first_left, one_less}
 
--- a store that is called something isn't `&version`
+-- no store that the text contains is `&version`
 abbrev NotVersion : List (Option (List ℕ)) → List Store → Type 0
 NotVersion [] stores = Unit {0}
 NotVersion (called ∷ calls) [] = Unit {0}
@@ -43,14 +43,14 @@ calls_from named free earlier n store stores true false kept w s k h = rw w (rw 
 calls_from named free earlier n store stores true true true w s k h = rw w (rw s (rw k (written_is named n store true s w, h free (earlier ++ store.name ∷ []) (n + 1))))
 calls_from named free earlier n store stores true true false w s k h = rw w (rw s (rw k (written_is named n store true s w, h (drop 1 free) (earlier ++ store.name ∷ []) (n + 1))))
 
--- none of the stores that are called something is `&version`
+-- by the names that stores get, no store that the text contains is `&version`
 pub called_stores : (named : List ℕ) (free earlier : List (List ℕ)) (n : ℕ) (stores : List Store) → NotVersion (store_names named free earlier n stores) stores
 called_stores named free earlier n [] = tt
 called_stores named free earlier n (store ∷ stores) =
     calls_from named free earlier n store stores (is_written named n store) (nat_eq store.system 0) (keeps_store_name earlier store.name) refl refl refl
     (λ free earlier n. called_stores named free earlier n stores)
 
--- the line of a store that isn't `&version`, and what follows
+-- the line of a store that is not `&version`, and what follows
 store_line : (names : Names) (line : ℕ) (name : List ℕ) (store : Store) (rest : List ℕ) → nat_eq store.system 8 ≡ false
     → printed (store_pieces (record { line = line; system = store.system; name = name; items = map (back_element names) store.elements })) ++ 10 ∷ rest ≡ store_text names name store ++ rest
 unfolding store_text

@@ -16,7 +16,7 @@ use Rattle.decompile_program.specs.Back.{back_rules, back_statement, back_group,
 use Rattle.decompile_text.specs.Texts.{rules_text, statement_text, group_text, groups_text, call_text}
 use Rattle.decompile_text.proofs.LineTexts.{printed_rules, printed_match, printed_nomatch}
 
--- the lines of some statements and of others
+-- the lines of joined statements are the lines of the first statements, then the lines of the second
 pub statements_append : {X : Type 0} (line : X → List (Option LineToken)) (first second : List X) → sheet (map line (first ++ second)) ≡ sheet (map line first) ++ sheet (map line second)
 statements_append line first second = ap sheet (map-append line first second) ∙ sheet_append (map line first) (map line second)
 
@@ -47,7 +47,7 @@ printed_group names line name group =
     ∙ ap (λ (text : List ℕ). rules_text names group.rules ++ (statement_text names (codes "match") group.on_match ++ text)) (printed_nomatch names (nomatch_line names line group) group.on_nomatch))
     ∙ group_header (back_group names line name group) name group.using_keys _ refl refl
 
--- the first of what is left behind a place stands at the place
+-- the first element of the rest of a list from an index on is the element at the index
 pub first_left : {X : Type 0} (xs : List X) (n : ℕ) → slice_get (drop n xs) 0 ≡ slice_get xs n
 first_left [] zero = refl
 first_left [] (suc n) = refl
@@ -65,7 +65,7 @@ one_less xs n =
     let next : suc n ≡ n + 1 = omega arith in
     one_by_one xs n ∙ ap (λ (m : ℕ). drop m xs) next
 
--- the lines of groups that are called by the names from a number on
+-- the lines of groups that have the names from a number on
 printed_groups_from : (names : Names) (line n : ℕ) (called : List (List ℕ)) (groups : List Group) → called ≡ drop n names.groups
     → sheet (flat_map group_lines (back_groups names line called groups)) ≡ groups_text names n groups
 printed_groups_from names line n called [] e = refl

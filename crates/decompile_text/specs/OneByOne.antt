@@ -1,4 +1,4 @@
--- A page on which items or lines are put one after the other.
+-- A page to which items or lines are appended one after the other.
 use Rattle.std.specs.Prelude.{ℕ, ◌+◌, List, [], ◌∷◌, codes, None, slice_get, unwrap_or}
 use Rattle.kmn_base.specs.declared.items.Element.{Element}
 use Rattle.rule_model.specs.declared.tables.Pat.{Pat}
@@ -31,7 +31,7 @@ abbrev pub with_rules : Names → Page → List Rule → Page
 with_rules names page [] = page
 with_rules names page (rule ∷ rules) = with_rules names (with_text page (rule_text names rule)) rules
 
--- groups and stores from a number on
+-- the lines of groups and of stores that are numbered from `n` on
 abbrev pub with_groups : Names → ℕ → Page → List Group → Page
 with_groups names n page [] = page
 with_groups names n page (group ∷ groups) = with_groups names (n + 1) (with_text page (group_text names (group_called names n) group)) groups
@@ -40,7 +40,7 @@ abbrev pub with_stores : Names → ℕ → Page → List Store → Page
 with_stores names n page [] = page
 with_stores names n page (store ∷ stores) = with_stores names (n + 1) (with_text page (if_called names (unwrap_or (slice_get names.stores n) None) store)) stores
 
--- keys in brackets
+-- keys in brackets, each preceded by a space
 abbrev pub with_keys : Page → List (List ℕ) → Page
 with_keys page [] = page
 with_keys page (key ∷ keys) = with_keys (with_text (with_text (with_text page (codes " [")) key) (93 ∷ [])) keys

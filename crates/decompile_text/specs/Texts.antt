@@ -1,4 +1,4 @@
--- The texts of items and lines, as they are put one by one.
+-- The texts of items and lines, as they are appended one by one.
 use Rattle.std.specs.Prelude.{ℕ, ◌+◌, nat_eq, bit_and, if◌then◌else◌, List, [], ◌∷◌, ◌++◌, codes, Option, Some, None, slice_get, unwrap_or}
 use Rattle.std.specs.List.{filter_map, range_with_len}
 use Rattle.std.specs.Fmt.{decimal}
@@ -17,11 +17,11 @@ use Rattle.kmn_parser.specs.Statements.{key_part, system_name}
 use Rattle.kmx_format.specs.Versions.{version_text}
 use Rattle.decompile_program.specs.Items.{Names, group_called, key_called, back_element, back_pattern, back_output, back_key}
 
--- the characters of a value in the quotes that they have not
+-- the characters of a value in quotes: `'` if they contain a `"`, else `"`
 unfoldable pub quoted_text : List Element → List ℕ
 quoted_text elements = (value_token (filter_map element_char elements)).text
 
--- a word and a name in parentheses, and a comparison or a setting
+-- a word and a name in parentheses, an `index`, and a comparison or an assignment
 abbrev pub call_text : (word name : List ℕ) → List ℕ
 call_text word name = word ++ 40 ∷ (name ++ 41 ∷ [])
 
@@ -31,16 +31,11 @@ index_text name offset = codes "index(" ++ (name ++ 44 ∷ (decimal offset ++ 41
 abbrev pub compared_text : (word name sign : List ℕ) → List Element → List ℕ
 compared_text word name sign value = word ++ 40 ∷ (name ++ 32 ∷ (sign ++ 32 ∷ (quoted_text value ++ 41 ∷ [])))
 
--- the word of a flag with a blank behind it, where the flag is set
+-- the word of a flag and a space, if the flag is set
 abbrev pub flag_text : ℕ → List ℕ → ℕ → List ℕ
 flag_text flags word flag = if nat_eq (bit_and flags flag) 0 then [] else word ++ 32 ∷ []
 
--- the modifier words of flags by a table
-abbrev pub flags_text : ℕ → List (List ℕ × ℕ) → List ℕ
-flags_text flags [] = []
-flags_text flags (row ∷ rows) = flag_text flags row.0 row.1 ++ flags_text flags rows
-
--- a virtual key, an element, an item of a context and one of an output
+-- the text of a virtual key, of an element, of an item of a context and of an item of an output
 unfoldable pub virtual_text : Names → (flags code : ℕ) → List ℕ
 virtual_text names flags code = printed (key_pieces (key_called names flags code))
 
@@ -53,11 +48,11 @@ pattern_text names pattern = printed (item_pieces (back_pattern names pattern))
 unfoldable pub output_text : Names → Out → List ℕ
 output_text names output = printed (item_pieces (back_output names output))
 
--- the key of a record with its plus
+-- the key of a record with its plus, which is empty for a record of a group without keys
 unfoldable pub key_text : Names → RuleKey → List ℕ
 key_text names key = printed (key_part (back_key names key) [])
 
--- elements with a blank before each, items of a context with a blank behind each, items of an output with a blank before each
+-- elements with a space before each, items of a context with a space after each, items of an output with a space before each
 abbrev pub elements_text : Names → List Element → List ℕ
 elements_text names [] = []
 elements_text names (element ∷ elements) = 32 ∷ (element_text names element ++ elements_text names elements)
@@ -70,12 +65,12 @@ abbrev pub outputs_text : Names → List Out → List ℕ
 outputs_text names [] = []
 outputs_text names (output ∷ outputs) = 32 ∷ (output_text names output ++ outputs_text names outputs)
 
--- an empty output is `nul`
+-- the output of a record, which is `nul` if it is empty
 abbrev pub some_outputs_text : Names → List Out → List ℕ
 some_outputs_text names [] = codes " nul"
 some_outputs_text names (output ∷ outputs) = outputs_text names (output ∷ outputs)
 
--- the line of a record, and those of records
+-- the line of a record, and the lines of records
 unfoldable pub rule_text : Names → Rule → List ℕ
 rule_text names rule = context_text names rule.context ++ (key_text names rule.key ++ 62 ∷ (some_outputs_text names rule.output ++ 10 ∷ []))
 
@@ -83,16 +78,16 @@ abbrev pub rules_text : Names → List Rule → List ℕ
 rules_text names [] = []
 rules_text names (rule ∷ rules) = rule_text names rule ++ rules_text names rules
 
--- a match or nomatch line, where there is an output
+-- a match or nomatch line, if the output is not empty
 abbrev pub statement_text : Names → (word : List ℕ) → List Out → List ℕ
 statement_text names word [] = []
 statement_text names word (output ∷ outputs) = word ++ (codes " >" ++ (outputs_text names (output ∷ outputs) ++ 10 ∷ []))
 
--- what stands behind the name in a group's line
+-- the rest of a group's line after the name
 abbrev pub keys_text : Group → List ℕ
 keys_text group = if group.using_keys then codes " using keys\n" else codes "\n"
 
--- the lines of a group, and of groups from a number on
+-- the lines of a group, and of groups that are numbered from `n` on
 unfoldable pub group_text : Names → (name : List ℕ) → Group → List ℕ
 group_text names name group =
     call_text (codes "group") name ++ (keys_text group ++ (rules_text names group.rules
@@ -102,22 +97,22 @@ abbrev pub groups_text : Names → ℕ → List Group → List ℕ
 groups_text names n [] = []
 groups_text names n (group ∷ groups) = group_text names (group_called names n) group ++ groups_text names (n + 1) groups
 
--- the line of a store that is called so
+-- the line of a store with this name, or with the name of its system id if it has one
 unfoldable pub store_text : Names → (name : List ℕ) → Store → List ℕ
 store_text names name store =
     call_text (codes "store") (if nat_eq store.system 0 then name else system_name store.system) ++ (elements_text names store.elements ++ 10 ∷ [])
 
--- the same where it is called something
+-- the line of a store if the text contains the store
 abbrev pub if_called : Names → Option (List ℕ) → Store → List ℕ
 if_called names None store = []
 if_called names (Some name) store = store_text names name store
 
--- the lines of stores from a number on
+-- the lines of stores that are numbered from `n` on
 abbrev pub stores_text : Names → ℕ → List Store → List ℕ
 stores_text names n [] = []
 stores_text names n (store ∷ stores) = if_called names (unwrap_or (slice_get names.stores n) None) store ++ stores_text names (n + 1) stores
 
--- begin statements
+-- a begin statement, and all begin statements
 unfoldable pub begin_text : (kind name : List ℕ) → List ℕ
 begin_text kind name = codes "begin " ++ (kind ++ (codes " > " ++ (call_text (codes "use") name ++ 10 ∷ [])))
 
@@ -130,7 +125,7 @@ begins_text names unicode ansi =
 abbrev pub version_line : ℕ → List ℕ
 version_line version = codes "store(&version) \"" ++ (version_text version ++ codes "\"\n")
 
--- the lines of a store of deadkeys up to a number, and of one of keys, where there are any
+-- the line of a store of the deadkeys up to a number, and the line of a store of keys, if there are any
 abbrev pub marks_text : List ℕ → List ℕ
 marks_text [] = []
 marks_text (mark ∷ marks) = codes " dk(" ++ (decimal mark ++ 41 ∷ marks_text marks)

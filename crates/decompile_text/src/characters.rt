@@ -1,4 +1,4 @@
-//! Characters as a source may have them: `U+` and digits, or in quotes.
+//! Writes characters as a source can have them: as `U+` and digits, or in quotes.
 
 ghost use Rattle.std.specs.Prelude.{◌≡◌, ◌==◌, ◌<◌, filter_map, if◌then◌else◌, OnOk};
 ghost use Rattle.std.specs.List.{list_any};
@@ -12,7 +12,7 @@ use decompile_program::has_character;
 use indexed_tables::element_text;
 use kmn_base::{Element, Memory};
 
-/// A hexadecimal digit in upper case.
+/// Returns a hexadecimal digit in upper case.
 fn hex_glyph(digit: u32) -> u8
     requires { digit < 16 }
     ensures { result ≡ hex_glyph digit }
@@ -24,7 +24,7 @@ fn hex_glyph(digit: u32) -> u8
     }
 }
 
-/// Four hexadecimal digits of a number.
+/// Returns the last four hexadecimal digits of a number.
 fn four_digits(number: u32) -> [u8; 4]
     ensures { result ≡ hex_text 4 number }
 {
@@ -38,7 +38,7 @@ fn four_digits(number: u32) -> [u8; 4]
     ]
 }
 
-/// Puts five hexadecimal digits of a number.
+/// Appends the last five hexadecimal digits of a number.
 #[tactic(auto, using(crate::proofs::MoreText::with_text_append))]
 fn put_five(page: &mut Page, number: u32) -> Result<(), Memory>
     ensures { OnOk result (page.new ≡ with_text page.old (hex_text 5 number)) }
@@ -47,7 +47,7 @@ fn put_five(page: &mut Page, number: u32) -> Result<(), Memory>
     page.put(&[hex_glyph(number % 16)])
 }
 
-/// Puts six hexadecimal digits of a number.
+/// Appends the last six hexadecimal digits of a number.
 #[tactic(auto, using(crate::proofs::MoreText::with_text_append))]
 fn put_six(page: &mut Page, number: u32) -> Result<(), Memory>
     ensures { OnOk result (page.new ≡ with_text page.old (hex_text 6 number)) }
@@ -56,7 +56,7 @@ fn put_six(page: &mut Page, number: u32) -> Result<(), Memory>
     page.put(&[hex_glyph(number % 16)])
 }
 
-/// Puts the digits of a character, at least four.
+/// Appends the hexadecimal digits of a character, at least four.
 fn put_digits(page: &mut Page, character: u32) -> Result<(), Memory>
     ensures { OnOk result (page.new ≡ with_text page.old (hex_text (hex_count character) character)) }
 {
@@ -69,7 +69,7 @@ fn put_digits(page: &mut Page, character: u32) -> Result<(), Memory>
     }
 }
 
-/// Puts a character by its number.
+/// Appends a character as `U+` and its hexadecimal number.
 #[tactic(auto, using(crate::proofs::MoreText::with_text_append, crate::proofs::MoreText::with_no_text))]
 pub(crate) fn put_character(page: &mut Page, character: u32) -> Result<(), Memory>
     ensures { OnOk result (page.new ≡ with_text page.old (char_text character)) }
@@ -78,7 +78,7 @@ pub(crate) fn put_character(page: &mut Page, character: u32) -> Result<(), Memor
     put_digits(page, character)
 }
 
-/// The quote that stands around the characters of elements: `'` where they have a `"`.
+/// Returns the quote for the characters of elements: `'` if they contain a `"`, else `"`.
 fn quote_of(elements: &[Element]) -> u8
     ensures { result ≡ (if list_any (λ c. c == 34) (filter_map element_char elements.now) then 39 else 34) }
 {
@@ -89,7 +89,7 @@ fn quote_of(elements: &[Element]) -> u8
     }
 }
 
-/// Puts the characters of elements in quotes.
+/// Appends the characters of elements in quotes.
 #[tactic(auto, using(crate::proofs::MoreText::with_text_append, crate::proofs::MoreText::with_no_text), unfolding(crate::specs::Texts::quoted_text))]
 pub(crate) fn put_quoted(page: &mut Page, elements: &[Element]) -> Result<(), Memory>
     ensures { OnOk result (page.new ≡ with_text page.old (quoted_text elements.now)) }

@@ -1,4 +1,4 @@
-//! The stores that stand before those of the file: the version, all deadkeys, all keys of the keyboard's own.
+//! Writes the front stores, which precede the stores of the file: the version, all deadkeys, all custom keys.
 
 ghost use Rattle.std.specs.Prelude.{◌≡◌, ◌++◌, ◌∷◌, [], codes, OnOk};
 ghost use Rattle.std.specs.List.{range_with_len};
@@ -11,7 +11,7 @@ use crate::page::Page;
 use kmn_base::{Memory, Text};
 use kmx_format::version_text;
 
-/// Puts the line of the version.
+/// Appends the line of the version.
 #[tactic(auto, using(crate::proofs::MoreText::with_text_append, crate::proofs::MoreText::with_no_text))]
 pub(crate) fn put_version(page: &mut Page, version: u16) -> Result<(), Memory>
     ensures { OnOk result (page.new ≡ with_text page.old (version_line version)) }
@@ -21,7 +21,7 @@ pub(crate) fn put_version(page: &mut Page, version: u16) -> Result<(), Memory>
     page.put(b"\"\n")
 }
 
-/// Puts the deadkeys up to a number, each with a blank before it.
+/// Appends the deadkeys up to a number, each preceded by a space.
 #[tactic(auto, using(crate::proofs::MoreText::with_text_append, crate::proofs::MoreText::with_no_text, crate::proofs::Marks::next_mark, crate::proofs::Marks::no_mark))]
 fn put_marks(page: &mut Page, greatest: u16) -> Result<(), Memory>
     ensures { OnOk result (page.new ≡ with_text page.old (marks_text (range_with_len 1 greatest))) }
@@ -34,7 +34,7 @@ fn put_marks(page: &mut Page, greatest: u16) -> Result<(), Memory>
     Ok(())
 }
 
-/// Puts a store of the deadkeys up to a number, where there are any.
+/// Appends a store of the deadkeys up to a number, if there are any.
 #[tactic(auto, using(crate::proofs::MoreText::with_text_append, crate::proofs::MoreText::with_no_text))]
 pub(crate) fn put_mark_store(page: &mut Page, name: &[u8], greatest: u16) -> Result<(), Memory>
     ensures { OnOk result (page.new ≡ with_text page.old (mark_line name.now greatest)) }
@@ -47,7 +47,7 @@ pub(crate) fn put_mark_store(page: &mut Page, name: &[u8], greatest: u16) -> Res
     page.put(b"\n")
 }
 
-/// Puts keys in brackets, each with a blank before it.
+/// Appends keys in brackets, each preceded by a space.
 fn put_keys(page: &mut Page, keys: &[Text]) -> Result<(), Memory>
     ensures { OnOk result (page.new ≡ with_keys page.old keys.now) }
 {
@@ -59,7 +59,7 @@ fn put_keys(page: &mut Page, keys: &[Text]) -> Result<(), Memory>
     Ok(())
 }
 
-/// Puts a store of keys.
+/// Appends a store of keys.
 #[tactic(auto, using(crate::proofs::MoreText::with_text_append, crate::proofs::OneByOne::keys_are))]
 fn put_some_keys(page: &mut Page, name: &[u8], keys: &[Text]) -> Result<(), Memory>
     ensures { OnOk result (page.new ≡ with_text page.old (call_text (codes "store") name.now ++ (keys_line keys.now ++ 10 ∷ []))) }
@@ -69,7 +69,7 @@ fn put_some_keys(page: &mut Page, name: &[u8], keys: &[Text]) -> Result<(), Memo
     page.put(b"\n")
 }
 
-/// Puts a store of the keys of the keyboard's own, where there are any.
+/// Appends a store of the custom keys, if there are any.
 #[tactic(auto, using(crate::proofs::MoreText::with_no_text))]
 pub(crate) fn put_key_store(page: &mut Page, name: &[u8], keys: &[Text]) -> Result<(), Memory>
     ensures { OnOk result (page.new ≡ with_text page.old (key_line name.now keys.now)) }

@@ -1,9 +1,9 @@
-//! The items of stores, contexts, keys and outputs as a text has them.
+//! Writes the items of stores, contexts, keys and outputs.
 
 ghost use Rattle.std.specs.Prelude.{◌≡◌, ◌++◌, ◌∷◌, [], map, bit_or, OnOk};
 ghost use Rattle.std.specs.Fmt.{decimal};
 ghost use Rattle.kmn_base.specs.declared.keys.TheConstants.{VIRTUAL_KEY};
-ghost use Rattle.rule_model.specs.Keys.{shift_flags};
+ghost use Rattle.virtual_keys.specs.Keys.{shift_flags};
 ghost use Rattle.kmn_parser.specs.Items.{option_name};
 ghost use Rattle.decompile_text.specs.Pages.{with_text};
 ghost use Rattle.decompile_text.specs.OneByOne.{with_flag_words};
@@ -15,9 +15,10 @@ use decompile_program::Called;
 use kmn_base::keys::VIRTUAL_KEY;
 use kmn_base::{Element, Memory, RuleKey};
 use rule_model::system::PLATFORM;
-use rule_model::{Out, Pat, modifiers};
+use rule_model::{Out, Pat};
+use virtual_keys::modifiers;
 
-/// The name of a system option by its id, with its `&`.
+/// Returns the name of the system option with an id, with its `&`.
 fn option_name(id: u32) -> &'static [u8]
     ensures { result.now ≡ option_name id }
 {
@@ -28,7 +29,7 @@ fn option_name(id: u32) -> &'static [u8]
     }
 }
 
-/// Puts a word with a name in parentheses.
+/// Appends a word with a name in parentheses.
 #[tactic(auto, using(crate::proofs::MoreText::with_text_append, crate::proofs::MoreText::with_no_text))]
 pub(crate) fn put_call(page: &mut Page, word: &[u8], name: &[u8]) -> Result<(), Memory>
     ensures { OnOk result (page.new ≡ with_text page.old (call_text word.now name.now)) }
@@ -39,7 +40,7 @@ pub(crate) fn put_call(page: &mut Page, word: &[u8], name: &[u8]) -> Result<(), 
     page.put(b")")
 }
 
-/// Puts a word with a number in parentheses.
+/// Appends a word with a number in parentheses.
 #[tactic(auto, using(crate::proofs::MoreText::with_text_append, crate::proofs::MoreText::with_no_text))]
 fn put_numbered(page: &mut Page, word: &[u8], number: u32) -> Result<(), Memory>
     ensures { OnOk result (page.new ≡ with_text page.old (call_text word.now (decimal number))) }
@@ -50,7 +51,7 @@ fn put_numbered(page: &mut Page, word: &[u8], number: u32) -> Result<(), Memory>
     page.put(b")")
 }
 
-/// Puts `index` with a name and an offset.
+/// Appends `index` with a name and an offset.
 #[tactic(auto, using(crate::proofs::MoreText::with_text_append, crate::proofs::MoreText::with_no_text))]
 fn put_index(page: &mut Page, name: &[u8], offset: u32) -> Result<(), Memory>
     ensures { OnOk result (page.new ≡ with_text page.old (index_text name.now offset)) }
@@ -62,7 +63,7 @@ fn put_index(page: &mut Page, name: &[u8], offset: u32) -> Result<(), Memory>
     page.put(b")")
 }
 
-/// Puts a word, a parenthesis and a name.
+/// Appends a word, an opening parenthesis and a name.
 #[tactic(auto, using(crate::proofs::MoreText::with_text_append, crate::proofs::MoreText::with_no_text))]
 fn put_opened(page: &mut Page, word: &[u8], name: &[u8]) -> Result<(), Memory>
     ensures { OnOk result (page.new ≡ with_text page.old (word.now ++ 40 ∷ name.now)) }
@@ -72,7 +73,7 @@ fn put_opened(page: &mut Page, word: &[u8], name: &[u8]) -> Result<(), Memory>
     page.put(name)
 }
 
-/// Puts a sign between blanks.
+/// Appends an operator between spaces.
 #[tactic(auto, using(crate::proofs::MoreText::with_text_append, crate::proofs::MoreText::with_no_text))]
 fn put_sign(page: &mut Page, sign: &[u8]) -> Result<(), Memory>
     ensures { OnOk result (page.new ≡ with_text page.old (32 ∷ (sign.now ++ 32 ∷ []))) }
@@ -82,7 +83,7 @@ fn put_sign(page: &mut Page, sign: &[u8]) -> Result<(), Memory>
     page.put(b" ")
 }
 
-/// Puts a comparison or a setting: a word, and in parentheses a name, a sign and a value.
+/// Appends a comparison or an assignment: a word, and in parentheses a name, an operator and a value.
 #[tactic(auto, using(crate::proofs::Puts::compared_is))]
 fn put_compared(
     page: &mut Page,
@@ -99,7 +100,7 @@ fn put_compared(
     page.put(b")")
 }
 
-/// Puts the word of a flag, with a blank behind it, where the flag is set.
+/// Appends the word of a flag and a space, if the flag is set.
 #[tactic(auto, using(crate::proofs::MoreText::with_text_append, crate::proofs::MoreText::with_no_text))]
 fn put_flag(page: &mut Page, flags: u32, word: &[u8], flag: u32) -> Result<(), Memory>
     ensures { OnOk result (page.new ≡ with_text page.old (flag_text flags word.now flag)) }
@@ -111,7 +112,7 @@ fn put_flag(page: &mut Page, flags: u32, word: &[u8], flag: u32) -> Result<(), M
     page.put(b" ")
 }
 
-/// Puts the modifier words of shift flags, each with a blank behind it.
+/// Appends the modifier words of shift flags, each followed by a space.
 #[tactic(auto, using(crate::proofs::MoreText::with_text_append, crate::proofs::MoreText::with_no_text))]
 fn put_flags(
     page: &mut Page,
@@ -126,14 +127,14 @@ fn put_flags(
     Ok(())
 }
 
-/// Puts the modifier words of a virtual key's flags, among which a text always says that of a virtual key.
+/// Appends the modifier words of a virtual key's flags. In a text, `VIRTUAL_KEY` is always one of the flags.
 fn put_modifiers(page: &mut Page, flags: u32) -> Result<(), Memory>
     ensures { OnOk result (page.new ≡ with_flag_words (bit_or flags VIRTUAL_KEY) page.old shift_flags) }
 {
     put_flags(page, flags | u32::from(VIRTUAL_KEY), modifiers())
 }
 
-/// Puts a virtual key.
+/// Appends a virtual key.
 #[tactic(auto, using(crate::proofs::Puts::key_is, crate::proofs::KeyTexts::virtual_is))]
 fn put_key(page: &mut Page, names: &Called<'_>, flags: u32, code: u16) -> Result<(), Memory>
     ensures { OnOk result (page.new ≡ with_text page.old (virtual_text names.now flags code)) }
@@ -144,7 +145,7 @@ fn put_key(page: &mut Page, names: &Called<'_>, flags: u32, code: u16) -> Result
     page.put(b"]")
 }
 
-/// Puts an element of a store.
+/// Appends an element of a store.
 #[tactic(auto, using(crate::proofs::MoreText::with_text_append, crate::proofs::MoreText::with_no_text), unfolding(crate::specs::Texts::element_text, crate::specs::Texts::virtual_text))]
 pub(crate) fn put_element(
     page: &mut Page,
@@ -160,7 +161,7 @@ pub(crate) fn put_element(
     }
 }
 
-/// Puts an item of a context.
+/// Appends an item of a context.
 #[tactic(auto, using(crate::proofs::MoreText::with_text_append, crate::proofs::MoreText::with_no_text), unfolding(crate::specs::Texts::pattern_text, crate::specs::Texts::quoted_text))]
 pub(crate) fn put_pattern(page: &mut Page, names: &Called<'_>, pattern: &Pat) -> Result<(), Memory>
     ensures { OnOk result (page.new ≡ with_text page.old (pattern_text names.now pattern.now)) }
@@ -188,7 +189,7 @@ pub(crate) fn put_pattern(page: &mut Page, names: &Called<'_>, pattern: &Pat) ->
     }
 }
 
-/// Puts an item of an output.
+/// Appends an item of an output.
 #[tactic(auto, using(crate::proofs::MoreText::with_text_append, crate::proofs::MoreText::with_no_text), unfolding(crate::specs::Texts::output_text, crate::specs::Texts::quoted_text))]
 pub(crate) fn put_output(page: &mut Page, names: &Called<'_>, output: &Out) -> Result<(), Memory>
     ensures { OnOk result (page.new ≡ with_text page.old (output_text names.now output.now)) }
@@ -214,7 +215,7 @@ pub(crate) fn put_output(page: &mut Page, names: &Called<'_>, output: &Out) -> R
     }
 }
 
-/// Puts a record's key with its plus and blanks; nothing for a record of a group without keys.
+/// Appends a record's key with its plus and spaces. Does not change the text for a record of a group without keys.
 #[tactic(auto, using(crate::proofs::MoreText::with_text_append, crate::proofs::MoreText::with_no_text, crate::proofs::LineTexts::virtual_part), unfolding(crate::specs::Texts::key_text))]
 pub(crate) fn put_key_part(page: &mut Page, names: &Called<'_>, key: &RuleKey) -> Result<(), Memory>
     ensures { OnOk result (page.new ≡ with_text page.old (key_text names.now key.now)) }

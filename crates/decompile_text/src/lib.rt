@@ -1,9 +1,10 @@
-//! The text of a compiled file: the source that its tables go back to.
+//! Writes the source of a compiled keyboard: `page_of` returns exactly the text that `kmn_parser` defines for the program to which
+//! `decompile_program` decompiles the tables, or only the size of this text if it is above the limit of a source.
 //!
-//! It stands on `decompile_program`, whose definitions say which program the tables go back to and what the text calls
-//! their stores, groups and keys, on `kmn_parser`, whose definitions say which text a program has, and on `kmx_format` for the texts
-//! of versions. The layer above has made the names itself, to ask what of the tables no source can say, and calls `page_of` with what stands in `Front`
-//! before the file's own stores: the text exactly, or its size where a source may not have so many bytes.
+//! Depends on `decompile_program`, whose definitions specify the program of the tables and the names of stores, groups and keys in the
+//! text; on `kmn_parser`, whose definitions specify the text of a program; and on `kmx_format` for the texts of versions. The layer above
+//! has already created the names, to test which parts of the tables no source can express. It passes them to `page_of` with a `Front`,
+//! which describes the stores before the file's own stores.
 #![tactic(auto)]
 
 mod characters;

@@ -1,4 +1,4 @@
-//! The lines of a text: stores, begin statements, groups and their records.
+//! Writes the lines of a text: stores, begin statements, groups and their records.
 
 ghost use Rattle.std.specs.Prelude.{◌≡◌, ◌++◌, ◌∷◌, [], None, unwrap_or, codes, nat_eq, slice_get, OnOk, if◌then◌else◌};
 ghost use Rattle.rule_model.specs.declared.system.TheConstants.{NO_GROUP};
@@ -15,7 +15,7 @@ use kmn_parser::system_store_name;
 use rule_model::system::NO_GROUP;
 use rule_model::{Group, Out, Pat, Rule, Store};
 
-/// Puts elements, each with a blank before it.
+/// Appends elements, each preceded by a space.
 fn put_elements(page: &mut Page, names: &Called<'_>, elements: &[Element]) -> Result<(), Memory>
     ensures { OnOk result (page.new ≡ with_elements names.now page.old elements.now) }
 {
@@ -26,7 +26,7 @@ fn put_elements(page: &mut Page, names: &Called<'_>, elements: &[Element]) -> Re
     Ok(())
 }
 
-/// Puts the items of a context, each with a blank behind it.
+/// Appends the items of a context, each followed by a space.
 fn put_context(page: &mut Page, names: &Called<'_>, context: &[Pat]) -> Result<(), Memory>
     ensures { OnOk result (page.new ≡ with_context names.now page.old context.now) }
 {
@@ -37,7 +37,7 @@ fn put_context(page: &mut Page, names: &Called<'_>, context: &[Pat]) -> Result<(
     Ok(())
 }
 
-/// Puts the items of an output, each with a blank before it.
+/// Appends the items of an output, each preceded by a space.
 fn put_outputs(page: &mut Page, names: &Called<'_>, outputs: &[Out]) -> Result<(), Memory>
     ensures { OnOk result (page.new ≡ with_outputs names.now page.old outputs.now) }
 {
@@ -48,7 +48,7 @@ fn put_outputs(page: &mut Page, names: &Called<'_>, outputs: &[Out]) -> Result<(
     Ok(())
 }
 
-/// Puts the output of a record, which is `nul` where it is empty.
+/// Appends the output of a record, or `nul` if the output is empty.
 #[tactic(auto, using(crate::proofs::MoreText::with_text_append, crate::proofs::MoreText::with_no_text, crate::proofs::OneByOne::elements_are, crate::proofs::OneByOne::context_is, crate::proofs::OneByOne::outputs_are, crate::proofs::OneByOne::rules_are))]
 fn put_some_outputs(page: &mut Page, names: &Called<'_>, outputs: &[Out]) -> Result<(), Memory>
     ensures { OnOk result (page.new ≡ with_text page.old (some_outputs_text names.now outputs.now)) }
@@ -60,7 +60,7 @@ fn put_some_outputs(page: &mut Page, names: &Called<'_>, outputs: &[Out]) -> Res
     }
 }
 
-/// Puts the line of a record.
+/// Appends the line of a record.
 #[tactic(auto, using(crate::proofs::MoreText::with_text_append, crate::proofs::MoreText::with_no_text, crate::proofs::OneByOne::elements_are, crate::proofs::OneByOne::context_is, crate::proofs::OneByOne::outputs_are, crate::proofs::OneByOne::rules_are), unfolding(crate::specs::Texts::rule_text))]
 fn put_rule(page: &mut Page, names: &Called<'_>, rule: &Rule) -> Result<(), Memory>
     ensures { OnOk result (page.new ≡ with_text page.old (rule_text names.now rule.now)) }
@@ -72,7 +72,7 @@ fn put_rule(page: &mut Page, names: &Called<'_>, rule: &Rule) -> Result<(), Memo
     page.put(b"\n")
 }
 
-/// Puts the lines of records.
+/// Appends the lines of records.
 fn put_rules(page: &mut Page, names: &Called<'_>, rules: &[Rule]) -> Result<(), Memory>
     ensures { OnOk result (page.new ≡ with_rules names.now page.old rules.now) }
 {
@@ -82,7 +82,7 @@ fn put_rules(page: &mut Page, names: &Called<'_>, rules: &[Rule]) -> Result<(), 
     Ok(())
 }
 
-/// Puts a match or nomatch line with this word.
+/// Appends a match or nomatch line that begins with this word.
 #[tactic(auto, using(crate::proofs::MoreText::with_text_append, crate::proofs::OneByOne::outputs_are))]
 fn put_some_statement(
     page: &mut Page,
@@ -98,7 +98,7 @@ fn put_some_statement(
     page.put(b"\n")
 }
 
-/// Puts a match or nomatch line with this word, where there is an output.
+/// Appends a match or nomatch line that begins with this word, if the output is not empty.
 #[tactic(auto, using(crate::proofs::MoreText::with_no_text))]
 fn put_statement(
     page: &mut Page,
@@ -114,14 +114,14 @@ fn put_statement(
     }
 }
 
-/// What stands behind the name in a group's line.
+/// Returns the rest of a group's line after the name.
 fn keys_part(using_keys: bool) -> &'static [u8]
     ensures { result.now ≡ (if using_keys then codes " using keys\n" else codes "\n") }
 {
     if using_keys { b" using keys\n" } else { b"\n" }
 }
 
-/// Puts a group that has this name.
+/// Appends the lines of a group that has this name.
 #[tactic(auto, using(crate::proofs::MoreText::with_text_append, crate::proofs::MoreText::with_no_text, crate::proofs::OneByOne::elements_are, crate::proofs::OneByOne::context_is, crate::proofs::OneByOne::outputs_are, crate::proofs::OneByOne::rules_are), unfolding(crate::specs::Texts::group_text))]
 fn put_group(page: &mut Page, names: &Called<'_>, name: &[u8], group: &Group) -> Result<(), Memory>
     ensures { OnOk result (page.new ≡ with_text page.old (group_text names.now name.now group.now)) }
@@ -133,7 +133,7 @@ fn put_group(page: &mut Page, names: &Called<'_>, name: &[u8], group: &Group) ->
     put_statement(page, names, b"nomatch", group.on_nomatch.as_slice())
 }
 
-/// Puts the groups.
+/// Appends the lines of the groups.
 pub(crate) fn put_groups(
     page: &mut Page,
     names: &Called<'_>,
@@ -147,7 +147,7 @@ pub(crate) fn put_groups(
     Ok(())
 }
 
-/// Puts the word and the name of a system store, with its `&`.
+/// Appends the word `store` and the name of a system store, with its `&`.
 #[tactic(auto, using(crate::proofs::MoreText::with_text_append, crate::proofs::MoreText::with_no_text))]
 fn put_system_name(page: &mut Page, system: u32) -> Result<(), Memory>
     ensures { OnOk result (page.new ≡ with_text page.old (call_text (codes "store") (system_name system))) }
@@ -157,7 +157,7 @@ fn put_system_name(page: &mut Page, system: u32) -> Result<(), Memory>
     page.put(b")")
 }
 
-/// Puts the word and the name of a store, that of its system id where it has one.
+/// Appends the word `store` and the name of a store: the name of its system id if it has one, else this name.
 fn put_store_name(page: &mut Page, name: &[u8], system: u32) -> Result<(), Memory>
     ensures { OnOk result (page.new ≡ with_text page.old (call_text (codes "store") (if nat_eq system 0 then name.now else system_name system))) }
 {
@@ -168,7 +168,7 @@ fn put_store_name(page: &mut Page, name: &[u8], system: u32) -> Result<(), Memor
     }
 }
 
-/// Puts the line of a store that is written, under its name.
+/// Appends the line of a store under its name.
 #[tactic(auto, using(crate::proofs::MoreText::with_text_append, crate::proofs::MoreText::with_no_text, crate::proofs::OneByOne::elements_are, crate::proofs::OneByOne::context_is, crate::proofs::OneByOne::outputs_are, crate::proofs::OneByOne::rules_are), unfolding(crate::specs::Texts::store_text))]
 fn put_store(page: &mut Page, names: &Called<'_>, name: &[u8], store: &Store) -> Result<(), Memory>
     ensures { OnOk result (page.new ≡ with_text page.old (store_text names.now name.now store.now)) }
@@ -178,7 +178,7 @@ fn put_store(page: &mut Page, names: &Called<'_>, name: &[u8], store: &Store) ->
     page.put(b"\n")
 }
 
-/// Puts the line of the store of a number where it is called something.
+/// Appends the line of the store of a number if the text contains this store.
 fn put_if_called(
     page: &mut Page,
     names: &Called<'_>,
@@ -193,7 +193,7 @@ fn put_if_called(
     }
 }
 
-/// Puts the stores that are written.
+/// Appends the lines of those stores that the text contains.
 pub(crate) fn put_stores(
     page: &mut Page,
     names: &Called<'_>,
@@ -207,7 +207,7 @@ pub(crate) fn put_stores(
     Ok(())
 }
 
-/// Puts a begin statement of a kind, with the name of its group.
+/// Appends a begin statement of a kind, with the name of its group.
 #[tactic(auto, using(crate::proofs::MoreText::with_text_append, crate::proofs::MoreText::with_no_text, crate::proofs::OneByOne::elements_are, crate::proofs::OneByOne::context_is, crate::proofs::OneByOne::outputs_are, crate::proofs::OneByOne::rules_are), unfolding(crate::specs::Texts::begin_text))]
 fn put_begin(page: &mut Page, kind: &[u8], name: &[u8]) -> Result<(), Memory>
     ensures { OnOk result (page.new ≡ with_text page.old (begin_text kind.now name.now)) }
@@ -219,14 +219,14 @@ fn put_begin(page: &mut Page, kind: &[u8], name: &[u8]) -> Result<(), Memory>
     page.put(b"\n")
 }
 
-/// Whether the number of a start group says that there is none.
+/// Returns whether the number of a start group is the number for no group.
 fn is_no_group(group: u32) -> bool
     ensures { result ≡ nat_eq group NO_GROUP }
 {
     group == NO_GROUP
 }
 
-/// Puts the begin statement of the kind `ANSI`, where there is one.
+/// Appends the begin statement of the kind `ANSI`, unless it is absent.
 #[tactic(auto, using(crate::proofs::MoreText::with_no_text))]
 fn put_ansi(page: &mut Page, is_none: bool, name: &[u8]) -> Result<(), Memory>
     ensures { OnOk result (page.new ≡ with_text page.old (if is_none then [] else begin_text (codes "ANSI") name.now)) }
@@ -238,7 +238,7 @@ fn put_ansi(page: &mut Page, is_none: bool, name: &[u8]) -> Result<(), Memory>
     }
 }
 
-/// Puts the begin statements.
+/// Appends the begin statements.
 #[tactic(auto, using(crate::proofs::MoreText::with_text_append))]
 pub(crate) fn put_begins(
     page: &mut Page,

@@ -1,4 +1,4 @@
-//! The text as it is written. Beyond the limit of a text only its size is counted.
+//! The text that is being written. If it grows beyond the limit of a text, only its size is counted.
 
 ghost use Rattle.std.specs.Prelude.{◌≡◌, ◌+◌, IfOk, OnOk};
 ghost use Rattle.std.specs.Fmt.{decimal};
@@ -8,7 +8,7 @@ use kmn_base::limits::TEXT_BYTES;
 use kmn_base::{Memory, Seq, Text};
 use std::alloc::Global;
 
-/// A text while it is within the limit, and its size in bytes.
+/// A text, which is empty if it is beyond the limit, and its size in bytes.
 #[derive(Drop)]
 pub struct Page {
     pub alloc: Global,
@@ -16,7 +16,7 @@ pub struct Page {
     pub size: u64,
 }
 
-/// A size with so many bytes more. A text whose size no number of the type tells wants more memory than there is.
+/// Returns the sum of a size and `more` bytes. Fails with `Memory` if the sum does not fit in the type.
 fn larger(size: u64, more: usize) -> Result<u64, Memory>
     ensures { IfOk result (λ sum. sum ≡ size + more) }
 {
@@ -24,7 +24,7 @@ fn larger(size: u64, more: usize) -> Result<u64, Memory>
 }
 
 impl Page {
-    /// An empty text.
+    /// Creates a page with an empty text.
     pub(crate) fn new(alloc: Global) -> Page
         ensures { IsEmptyPage result }
     {
@@ -35,7 +35,7 @@ impl Page {
         }
     }
 
-    /// Puts bytes at the end.
+    /// Appends bytes.
     #[tactic(auto, unfolding(crate::specs::Pages::with_text))]
     pub(crate) fn put(&mut self, bytes: &[u8]) -> Result<(), Memory>
         ensures { OnOk result (self.new ≡ with_text self.old bytes.now) }
@@ -52,7 +52,7 @@ impl Page {
         }
     }
 
-    /// Puts a number in decimal digits.
+    /// Appends a number in decimal digits.
     pub(crate) fn put_number(&mut self, number: u32) -> Result<(), Memory>
         ensures { OnOk result (self.new ≡ with_text self.old (decimal number)) }
     {

@@ -1,4 +1,4 @@
-//! The text of tables as a whole.
+//! Writes the whole text of tables.
 
 ghost use Rattle.std.specs.Prelude.{◌≡◌, ◌≤◌, ◌++◌, [], false, length, nat_lt, true, unwrap_or, slice_get, if◌then◌else◌, IfOk, OnOk};
 ghost use Rattle.kmn_base.specs.declared.limits.TheConstants.{KEY_NAMES, TEXT_BYTES};
@@ -17,7 +17,7 @@ use kmn_base::{Memory, Text};
 use rule_model::Tables;
 use std::alloc::Global;
 
-/// The name at a place, empty where there is none.
+/// Returns the name at an index, or an empty name if there is none.
 fn name_at(names: &[Text], place: usize) -> &[u8]
     ensures { result.now ≡ unwrap_or (slice_get names.now place) [] }
 {
@@ -27,21 +27,21 @@ fn name_at(names: &[Text], place: usize) -> &[u8]
     }
 }
 
-/// What stands in front of the stores of a file: the greatest number of a deadkey, and the keys of the keyboard's own.
+/// The content of the front stores, except the version: the greatest number of a deadkey, and the custom keys.
 #[derive(Drop)]
 pub struct Front {
     pub marks: u16,
     pub keys: Vec<Text>,
 }
 
-/// 1 where there is something, else 0.
+/// Returns 1 if the argument is true, else 0.
 fn one_if(some: bool) -> usize
     ensures { result ≡ (if some then 1 else 0) }
 {
     if some { 1 } else { 0 }
 }
 
-/// What stands in front of the stores of tables.
+/// Returns the content of the front stores of tables.
 #[tactic(auto, unfolding(rule_model::specs::Tab::tab))]
 pub fn front_of(
     alloc: Global,
@@ -58,7 +58,7 @@ pub fn front_of(
     })
 }
 
-/// How many stores stand in front.
+/// Returns the number of front stores that have free names: one for the deadkeys, if any, and one for the custom keys, if any.
 #[tactic(auto, using(crate::proofs::FrontCounts::mark_count, crate::proofs::FrontCounts::key_count))]
 pub fn front_count(front: &Front, tables: &Tables) -> usize
     requires { IsFront tables.now front.now }
@@ -67,7 +67,7 @@ pub fn front_count(front: &Front, tables: &Tables) -> usize
     one_if(front.marks > 0) + one_if(front.keys.len() > 0)
 }
 
-/// At which of the free names that of the keys' store stands.
+/// Returns the index of the name of the key store among the free names.
 #[tactic(auto, using(crate::proofs::FrontCounts::mark_count))]
 fn key_place(front: &Front, tables: &Tables) -> usize
     requires { IsFront tables.now front.now }
@@ -76,7 +76,7 @@ fn key_place(front: &Front, tables: &Tables) -> usize
     one_if(front.marks > 0)
 }
 
-/// Puts the version and the stores in front, which take the first of the free names.
+/// Appends the front stores: the version, then the stores of deadkeys and custom keys, which have the first of the free names.
 fn put_front(page: &mut Page, front: &Front, tables: &Tables, free: &[Text]) -> Result<(), Memory>
     requires front { IsFront tables.now front.now }
     requires free { free.now ≡ free_stores tables.now }
@@ -92,7 +92,7 @@ fn put_front(page: &mut Page, front: &Front, tables: &Tables, free: &[Text]) -> 
     Ok(())
 }
 
-/// Puts the text of tables.
+/// Appends the text of tables.
 #[tactic(auto, using(crate::proofs::MoreText::with_text_append, crate::proofs::OneByOne::stores_are, crate::proofs::OneByOne::groups_are), unfolding(crate::specs::Whole::tables_text))]
 fn put_tables(
     page: &mut Page,
@@ -112,7 +112,7 @@ fn put_tables(
     put_groups(page, names, tables.groups.as_slice())
 }
 
-/// The text of tables, where it is within the limit of a text, and else no bytes; in both cases its size.
+/// Returns the text of tables with its size in bytes. If the size is above the limit of a text, the page has the size but no text.
 #[tactic(auto, using(crate::proofs::FrontTexts::text_of_tables, crate::proofs::MoreText::page_size, crate::proofs::MoreText::page_text, crate::proofs::MoreText::page_past))]
 pub fn page_of(
     alloc: Global,

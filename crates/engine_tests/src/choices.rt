@@ -1,4 +1,4 @@
-//! The lines of the rules that the events of a session choose.
+//! Tests the lines of the rules that fire for the events of a session.
 
 use crate::events::event;
 use compile_tests::fixtures::compiled;
@@ -9,14 +9,15 @@ use std::alloc::Global;
 use std::fmt::Write;
 use std::test::Fail;
 
-/// Rules on the lines 4 to 8, 11, 13 and 15. One enters a group whose rule enters another, one a group that enters itself.
+/// A keyboard with rules on the lines 4 to 8, 11, 13 and 15. One enters a group whose rule enters another group, and one enters
+/// a group that enters itself.
 const KEYBOARD: &str = "begin Unicode > use(main)\nstore(o) '0'\ngroup(main) using keys\n\
     + 'a' > 'x' use(more) use(last)\n'x' + 'd' > 'y'\n+ 'd' > 'x'\n+ 'r' > 'x' use(round)\nif(o = '1') + 's' > 'n'\n\
     match > use(last)\ngroup(more)\n'x' > 'y' use(last)\ngroup(last)\n'y' > 'z'\ngroup(round)\n'x' > 'x' use(round)\n";
 
-/// On each line the steps of a session, each with the lines of the rules that it chooses, `-` where there are none. A refused
-/// step leaves those of the step before. A press whose rule enters a group that enters itself tells a line for each group that may
-/// be entered.
+/// Each line lists the steps of a session, each with the lines of the rules that fire, or `-` if none fires. After a refused
+/// step the lines are the lines of the step before. A key press whose rule enters a group that enters itself shows a line for
+/// each group that may be entered.
 const CASES: &str = "\
 K_A 4,11,13 ; K_E - ; K_A 4,11,13 ; @0 -
 K_D 6 ; K_D 5,13 ; K_D 6 ; -0,0,u - ; K_D 5,13
@@ -24,7 +25,7 @@ K_S - ; o=1 - ; K_S 8 ; o=0 -
 K_R 7,15,15,15,15,15,15,15,15,15,15,15,15,15,15,15,15,15,15,15,15,15,15,15,15,15,15,15,15,15,15,15,15,15,15,15,15,15,15,15,15,15,15,15,15,15,15,15,15,15
 K_A 4,11,13 ; @9 4,11,13 ; x=1 -";
 
-/// The lines that a session tells.
+/// Returns the lines that a session reports, or `-` if there are none.
 fn shown(alloc: Global, session: &Session) -> Result<String, Memory> {
     let mut text = String::new(alloc);
     for line in session.chosen() {
@@ -39,7 +40,7 @@ fn shown(alloc: Global, session: &Session) -> Result<String, Memory> {
     Ok(text)
 }
 
-/// Does one step, which may be refused; whether the session tells what is wanted.
+/// Performs one step, which may be refused, and returns whether the session reports the expected lines.
 fn shows(alloc: Global, session: &mut Session, step: &str) -> Result<bool, Fail> {
     let (word, wanted) = step.split_once(' ').unwrap_or((step, ""));
     let event = event(alloc, word)?;
@@ -47,7 +48,7 @@ fn shows(alloc: Global, session: &mut Session, step: &str) -> Result<bool, Fail>
     Ok(shown(alloc, session)?.as_str() == wanted)
 }
 
-/// The first step of a session that chooses other rules.
+/// Returns the first step of a session for which other rules fire.
 fn wrong_step(
     alloc: Global,
     session: &mut Session,
@@ -61,7 +62,7 @@ fn wrong_step(
     Ok(None)
 }
 
-/// The first wrong step of a case that a fresh session plays.
+/// Returns the first wrong step of a case that a fresh session plays.
 fn wrong_case(
     alloc: Global,
     session: &Session,
@@ -71,7 +72,7 @@ fn wrong_case(
     wrong_step(alloc, &mut fresh, case)
 }
 
-/// The first wrong step of the cases.
+/// Returns the first wrong step of the cases.
 fn wrong_in(alloc: Global, session: &Session) -> Result<Option<&'static str>, Fail> {
     for case in CASES.lines() {
         if let Some(step) = wrong_case(alloc, session, case)? {
@@ -81,14 +82,14 @@ fn wrong_in(alloc: Global, session: &Session) -> Result<Option<&'static str>, Fa
     Ok(None)
 }
 
-/// The first wrong step of the cases with a session on a file's bytes.
+/// Returns the first wrong step of the cases in a session on the bytes of a file.
 fn wrong_in_file(alloc: Global, bytes: &[u8]) -> Result<Option<&'static str>, Fail> {
     let file = verify(alloc, bytes)?;
     let session = Session::start(alloc, &file)?;
     wrong_in(alloc, &session)
 }
 
-/// The first wrong step of the cases with that keyboard.
+/// Returns the first wrong step of the cases with that keyboard.
 fn wrong_with_keyboard(alloc: Global) -> Result<Option<&'static str>, Fail> {
     let bytes = compiled(alloc, KEYBOARD)?;
     wrong_in_file(alloc, bytes.as_slice())

@@ -1,15 +1,15 @@
-//! The events of words.
+//! Reads events from the steps of test tables.
 
 use crate::fixtures::press;
 use kmn_base::{Event, KeyPress, Memory, Seq};
 use std::alloc::Global;
 
-/// A number of a table; one that is no place of any text where it is malformed.
+/// Returns the number of a table entry. A malformed number is larger than any position in a text.
 fn number(text: &str) -> u32 {
     text.parse().unwrap_or(u32::MAX)
 }
 
-/// The press of a word.
+/// Returns the key press of a step.
 fn press_of(word: &str) -> KeyPress {
     let (mods, name) = word.split_once('+').unwrap_or(("0", word));
     KeyPress {
@@ -26,7 +26,7 @@ fn chars(alloc: Global, text: &str) -> Result<Seq<char>, Memory> {
     Ok(Seq::from_vec(text.chars().collect(alloc)?))
 }
 
-/// The edit of its places and its text, between commas.
+/// Returns the edit with two positions and a text, separated by commas.
 fn edit(alloc: Global, edit: &str) -> Result<Event, Memory> {
     let (from, rest) = edit.split_once(',').unwrap_or((edit, ""));
     let (to, text) = rest.split_once(',').unwrap_or((rest, ""));
@@ -46,8 +46,9 @@ fn setting(alloc: Global, name: &str, value: &str) -> Result<Event, Memory> {
     })
 }
 
-/// The event of a word: `@` and a place of the caret, `-` and an edit, the name and the value of a setting with `=` between
-/// them, where `_` is a space, or a key's name, perhaps behind its modifiers and `+`. A key `T_..` is the first of its own.
+/// Returns the event of a step: `@` and a caret position; `-` and an edit; the name and the value of an option with `=` between
+/// them, where `_` is a space; or a key name, perhaps after its modifiers and `+`. A key `T_..` is the first custom key of the
+/// keyboard.
 pub fn event(alloc: Global, word: &str) -> Result<Event, Memory> {
     if let Some(place) = word.strip_prefix('@') {
         return Ok(Event::Caret(number(place)));

@@ -1,10 +1,11 @@
-//! The tests of what a keyboard means and of the engine: `meaning` and `tracing` of `plain_event`, `pressing` of `rule_engine`, and
-//! of `play_session`: `sessions` has sessions event by event, and `choices` the lines of the rules that they choose.
+//! Tests the meaning of keyboards and the engine: `meaning` tests `plain_event`, `tracing` tests `rule_trace`, `pressing` tests
+//! `rule_engine`, and for `play_session`, `sessions` tests sessions event by event and `choices` the lines of the rules that
+//! fire.
 //!
-//! They stand here because a crate with tests is proved twice, once with them and once without: so each of those crates is
-//! proved once, and the tests are proved over them, beside those of `source_tests` and `compile_tests`, whose signs of items and files
-//! they take. `events` has the events of words, `fixtures` the press of a key, `keyboards` the files of rows, and `states` the
-//! states that keyboards are played in. No layer stands above.
+//! A crate with tests is proved twice, once with them and once without. The tests are in this crate so that each tested crate
+//! is proved only once. Depends on the tested crates, and on `source_tests` and `compile_tests` for the symbols of items and
+//! files. `events` reads events, `fixtures` creates the press of a key, `keyboards` compiles rows, and `states` creates the
+//! states that keyboards are played in. No crate depends on this one.
 #![tactic(auto)]
 
 #[cfg(test)]

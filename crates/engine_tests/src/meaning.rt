@@ -1,4 +1,4 @@
-//! Keyboards that are played by the plain evaluator of their meaning.
+//! Tests keyboards that the plain evaluator of their meaning plays.
 
 use crate::events::event;
 use crate::states::{can_be_done, elements, start};
@@ -10,11 +10,11 @@ use source_tests::fixtures::{parted, put_items};
 use std::alloc::Global;
 use std::test::Fail;
 
-/// On each line the stores of a keyboard, each with one character as its name or with a name up to a colon, behind ` ⇒ ` its
-/// records, and behind another the events that it is played, parted by ` ; `, each with the text that it leaves, whose caret is
-/// `|`. In a value `*` is a mark, and `_` a space. The items of a record are parted by dots: `*` is a mark, `?s` any(s), `=sv` a
-/// condition, `!sv` one for unequal, `#so` index(s,o), `:sv` a set, and `^` enters the group again; `l` is the layer and `p` the
-/// platform in place of a store. Events are words that `event` reads.
+/// Each line contains the stores of a keyboard, each with one character as its name or with a name up to a colon; after ` ⇒ `
+/// its records; and after another ` ⇒ ` the events that it plays, separated by ` ; `, each with the text after the event, in
+/// which the caret is `|`. In a value `*` is a mark (a deadkey in the item list), and `_` a space. Dots separate the items of a
+/// record: `*` is a mark, `?s` any(s), `=sv` a condition, `!sv` an unequal condition, `#so` index(s,o), `:sv` sets a store, and
+/// `^` enters the group again. Instead of a store `l` is the layer and `p` the platform. `event` reads the events.
 const CASES: &str = " ⇒ a,c>y ,c>x ⇒ K_A a| ; K_C y| ; K_F5 y| ; K_LEFT |y
  ⇒ *,a>à ,`>* ⇒ K_BKQUOTE *| ; K_A à| ; K_BKSP |
 vaea wxyz ⇒ ?0,1>#11 ⇒ K_A a| ; K_1 x|
@@ -52,7 +52,7 @@ fn character(text: &str) -> char {
     text.chars().next().unwrap_or('?')
 }
 
-/// The system id of a letter that stands in place of a store's number.
+/// Returns the system id for a letter that is used instead of the number of a store.
 fn system_id(letter: u8) -> Option<u32> {
     match letter {
         b'l' => Some(33),
@@ -61,7 +61,7 @@ fn system_id(letter: u8) -> Option<u32> {
     }
 }
 
-/// A condition that a store, or a system option, has a value or, for unequal, has another.
+/// Returns the condition that a store or a system option has a value or, if `is_equal` is false, has a different one.
 fn condition(is_equal: bool, store: u8, value: u8) -> Pat {
     match (system_id(store), is_equal) {
         (Some(id), true) => Pat::SystemEqual(id, digit(value)),
@@ -81,7 +81,7 @@ fn pattern(text: &str) -> Pat {
     }
 }
 
-/// A set of a store, or of a system option.
+/// Returns the output that sets a store or a system option.
 fn set(store: u8, value: u8) -> Out {
     match system_id(store) {
         Some(id) => Out::SetSystem(id, digit(value)),
@@ -99,7 +99,7 @@ fn output(text: &str) -> Out {
     }
 }
 
-/// The items of a context, parted by dots.
+/// Returns the items of a context, which dots separate.
 fn patterns(alloc: Global, text: &str) -> Result<Seq<Pat>, Memory> {
     let mut patterns = Seq::new(alloc);
     for item in text.split('.') {
@@ -110,7 +110,7 @@ fn patterns(alloc: Global, text: &str) -> Result<Seq<Pat>, Memory> {
     Ok(patterns)
 }
 
-/// The items of an output, parted by dots.
+/// Returns the items of an output, which dots separate.
 fn outputs(alloc: Global, text: &str) -> Result<Seq<Out>, Memory> {
     let mut outputs = Seq::new(alloc);
     for item in text.split('.') {
@@ -119,7 +119,7 @@ fn outputs(alloc: Global, text: &str) -> Result<Seq<Out>, Memory> {
     Ok(outputs)
 }
 
-/// A record: the items of its context, a comma and its key, and the items of its output.
+/// Returns a record: the items of its context, a comma and its key, and the items of its output.
 fn rule(alloc: Global, text: &str) -> Result<Rule, Memory> {
     let (input, made) = text.split_once('>').unwrap_or((text, ""));
     let (context, key) = input.split_once(',').unwrap_or(("", input));
@@ -134,7 +134,7 @@ fn rule(alloc: Global, text: &str) -> Result<Rule, Memory> {
     })
 }
 
-/// A store, by its name and its value.
+/// Returns a store with its name and its value.
 fn store(alloc: Global, text: &str) -> Result<Store, Memory> {
     let (name, value) = match text.split_once(':') {
         Some(parts) => parts,
@@ -165,14 +165,14 @@ fn rules(alloc: Global, texts: &str) -> Result<Seq<Rule>, Memory> {
     Ok(rules)
 }
 
-/// Tables of one group, which uses keys, with these stores and records.
+/// Returns tables of one group, which uses keys, with these stores and records.
 fn keyboard(alloc: Global, store_texts: &str, records: &str) -> Result<Tables, Memory> {
     let stores = stores(alloc, store_texts)?;
     let rules = rules(alloc, records)?;
     tables(alloc, stores, rules)
 }
 
-/// The text with its caret.
+/// Returns the text with its caret.
 fn shown(alloc: Global, state: &PlainState) -> Result<String, Memory> {
     let mut text = String::new(alloc);
     put_items(&mut text, state.left.as_slice())?;
@@ -183,7 +183,7 @@ fn shown(alloc: Global, state: &PlainState) -> Result<String, Memory> {
     Ok(text)
 }
 
-/// The state after an event.
+/// Returns the state after an event.
 fn after(
     alloc: Global,
     tables: &Tables,
@@ -196,7 +196,7 @@ fn after(
     Err(Fail::from("an event that can't be done"))
 }
 
-/// The state after the event of a word.
+/// Returns the state after the event of a step.
 fn after_word(
     alloc: Global,
     tables: &Tables,
@@ -207,7 +207,7 @@ fn after_word(
     after(alloc, tables, state, &event)
 }
 
-/// Does the event of a step; whether it leaves the wanted text.
+/// Performs the event of a step and returns whether the text is the expected one.
 fn leaves(
     alloc: Global,
     tables: &Tables,
@@ -219,7 +219,7 @@ fn leaves(
     Ok(shown(alloc, state)?.as_str() == wanted)
 }
 
-/// Whether each step leaves the wanted text.
+/// Returns whether the text is the expected one after each step.
 fn leave(
     alloc: Global,
     tables: &Tables,
@@ -234,13 +234,13 @@ fn leave(
     Ok(true)
 }
 
-/// Whether each step from the start on leaves the wanted text.
+/// Returns whether the text is the expected one after each step, beginning before the first event.
 fn is_played(alloc: Global, tables: &Tables, steps: &str) -> Result<bool, Fail> {
     let mut state = start(alloc, tables)?;
     leave(alloc, tables, &mut state, steps)
 }
 
-/// Whether each event of a case leaves the wanted text.
+/// Returns whether the text is the expected one after each event of a case.
 fn is_right(alloc: Global, case: &str) -> Result<bool, Fail> {
     let (stores, rest) = parted(case)?;
     let (records, steps) = parted(rest)?;

@@ -1,4 +1,4 @@
-//! Presses of keys on an engine, texts that it reads again, and the options that it finds by name.
+//! Tests key presses on an engine, texts that it reads again, and the options that it finds by name.
 
 use crate::fixtures::press;
 use crate::keyboards::keyboard;
@@ -11,9 +11,10 @@ use std::alloc::Global;
 use std::fmt::Write;
 use std::test::Fail;
 
-/// On each line the statements of a keyboard behind its first two lines, and behind ` ⇒ ` its steps, parted by ` ; `. A step is a
-/// key, and how many characters it deletes, what it inserts, whether it is passed on, and the context then; or `=` and a text
-/// that is read again, and the context then. `*` is a mark.
+/// Each line contains the statements of a keyboard after its first two lines and, after ` ⇒ `, its steps, separated by ` ; `. A
+/// step is a key, the number of deleted characters, the inserted characters, whether the key is passed on, and the cached
+/// context afterwards; or `=`, a text that the engine reads again, and the cached context afterwards. `*` is a mark (a deadkey
+/// in the item list).
 const CASES: &str = "\
 'a' + 'c' > 'y'¶+ 'c' > 'x' ⇒ K_A 0 a 0 a ; K_C 1 y 0 y ; K_F5 0  1 y
 + '`' > dk(1)¶dk(1) + 'a' > 'à' ⇒ K_BKQUOTE 0  0 * ; K_A 0 à 0 à
@@ -22,7 +23,7 @@ const CASES: &str = "\
 + 's' > U+1F600¶U+1F600 + 'a' > U+10FFFF ⇒ K_S 0 \u{1F600} 0 \u{1F600} ; K_A 1 \u{10FFFF} 0 \u{10FFFF}
 'a' + 'b' > 'ab' ⇒ K_A 0 a 0 a ; K_B 0 b 0 ab";
 
-/// What a press did, as the table writes it.
+/// Returns the outcome of a press in the notation of the table.
 fn shown(alloc: Global, outcome: Outcome, engine: &Engine) -> Result<String, Memory> {
     let mut text = String::new(alloc);
     write!(text, "{} ", outcome.delete)?;
@@ -34,7 +35,7 @@ fn shown(alloc: Global, outcome: Outcome, engine: &Engine) -> Result<String, Mem
     Ok(text)
 }
 
-/// Reads another text before the caret; what the table writes of it.
+/// Reads another text before the caret and returns the cached context in the notation of the table.
 fn read_again(
     alloc: Global,
     engine: &mut Engine,
@@ -50,7 +51,7 @@ fn read_again(
     Ok(line)
 }
 
-/// Presses a key; what the table writes of it.
+/// Presses a key and returns its outcome in the notation of the table.
 fn pressed(
     alloc: Global,
     engine: &mut Engine,
@@ -66,7 +67,7 @@ fn pressed(
     Ok(shown(alloc, outcome, engine)?)
 }
 
-/// Does one step on an engine and the text before the caret; whether it shows what is wanted.
+/// Performs one step on an engine and the text before the caret, and returns whether the outcome is the expected one.
 fn shows(
     alloc: Global,
     engine: &mut Engine,
@@ -81,7 +82,7 @@ fn shows(
     Ok(line.as_str() == wanted)
 }
 
-/// The first step that ends otherwise.
+/// Returns the first step with a different outcome.
 fn wrong_step(
     alloc: Global,
     engine: &mut Engine,
@@ -96,13 +97,13 @@ fn wrong_step(
     Ok(None)
 }
 
-/// The engine of a file, which stays when the check of the file is gone.
+/// Returns the engine of a file. It outlives the verified file.
 fn started(alloc: Global, bytes: &[u8]) -> Result<Engine<'_>, Fail> {
     let file = verify(alloc, bytes)?;
     Ok(Engine::start(alloc, &file)?)
 }
 
-/// The first step of a case that ends otherwise.
+/// Returns the first step of a case with a different outcome.
 fn wrong_in_case(alloc: Global, case: &'static str) -> Result<Option<&'static str>, Fail> {
     let (statements, steps) = parted(case)?;
     let bytes = keyboard(alloc, statements)?;
@@ -119,11 +120,11 @@ fn worked_keyboards(rt: HostRuntime) -> Result<(), Fail> {
     Ok(())
 }
 
-/// A keyboard that has an option `o` and another store `s`.
+/// A keyboard with an option `o` and another store `s`.
 const WITH_AN_OPTION: &str = "store(o) '0'\nstore(s) '0'\n\
     begin Unicode > use(main)\ngroup(main) using keys\n+ 'a' > save(o)\n";
 
-/// Names, and whether an option of that keyboard has them.
+/// Names, and whether an option of that keyboard has the name.
 const NAMES: &[(&str, bool)] = &[
     ("o", true),
     ("O", true),
@@ -138,7 +139,7 @@ const NAMES: &[(&str, bool)] = &[
     ("&bitmap", false),
 ];
 
-/// The first name of which a setting answers otherwise.
+/// Returns the first name for which `setting` returns a different value.
 fn wrong_name(alloc: Global, engine: &mut Engine) -> Result<Option<&'static str>, Fail> {
     for &(name, is_option) in NAMES {
         if engine.setting(alloc, name.as_bytes(), &['x'])? != is_option {
@@ -148,7 +149,7 @@ fn wrong_name(alloc: Global, engine: &mut Engine) -> Result<Option<&'static str>
     Ok(None)
 }
 
-/// The first wrong name with that keyboard.
+/// Returns the first wrong name with that keyboard.
 fn wrong_option(alloc: Global) -> Result<Option<&'static str>, Fail> {
     let bytes = compiled(alloc, WITH_AN_OPTION)?;
     let mut engine = started(alloc, bytes.as_slice())?;
@@ -162,13 +163,13 @@ fn names_of_options(rt: HostRuntime) -> Result<(), Fail> {
     Ok(())
 }
 
-/// A keyboard whose key Q puts `z` 70 times and enters a group that takes 60 of them, then one that takes the other 10.
+/// A keyboard whose key Q outputs `z` 70 times and enters a group that deletes 60 of them, then one that deletes the other 10.
 const TAKES_WHAT_IT_PUTS: &str = "begin Unicode > use(main)\ngroup(main) using keys\n\
     + 'q' > 'zzzzzzzzzzzzzzzzzzzzzzzzzzzzzzzzzzzzzzzzzzzzzzzzzzzzzzzzzzzzzzzzzzzzzz' use(t) use(n)\n\
     group(t)\n'zzzzzzzzzzzzzzzzzzzzzzzzzzzzzzzzzzzzzzzzzzzzzzzzzzzzzzzzzzzz' > nul\n\
     group(n)\n'zzzzzzzzzz' > 'N'\n";
 
-/// Whether a press on an empty text leaves the last character alone.
+/// Returns whether a press on an empty text inserts only the last character.
 fn takes_all(engine: &mut Engine) -> bool {
     let outcome = engine.key(&[], press(b"K_Q"));
     outcome.delete == 0
@@ -177,13 +178,13 @@ fn takes_all(engine: &mut Engine) -> bool {
         && engine.context() == [Item::Char('N')].as_slice()
 }
 
-/// Whether the first press of a fresh engine on the file of another does so.
+/// Returns whether the first press of a fresh engine on the same file does so.
 fn fresh_takes_all(alloc: Global, engine: &Engine) -> Result<bool, Fail> {
     let mut fresh = engine.fresh(alloc)?;
     Ok(takes_all(&mut fresh))
 }
 
-/// Whether the first press of an engine does so, and the first of a fresh one too.
+/// Returns whether the first presses of an engine and of a fresh one do so.
 fn both_take_all(alloc: Global, engine: &mut Engine) -> Result<bool, Fail> {
     if takes_all(engine) {
         return fresh_takes_all(alloc, engine);
@@ -191,7 +192,7 @@ fn both_take_all(alloc: Global, engine: &mut Engine) -> Result<bool, Fail> {
     Ok(false)
 }
 
-/// Whether engines with that keyboard do so.
+/// Returns whether engines with that keyboard do so.
 fn takes_all_that_it_puts(alloc: Global) -> Result<bool, Fail> {
     let bytes = compiled(alloc, TAKES_WHAT_IT_PUTS)?;
     let mut engine = started(alloc, bytes.as_slice())?;

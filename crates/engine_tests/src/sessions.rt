@@ -1,4 +1,4 @@
-//! Sessions with compiled keyboards, event by event.
+//! Tests sessions with compiled keyboards, event by event.
 
 use crate::events::event;
 use crate::fixtures::key;
@@ -11,13 +11,14 @@ use std::alloc::{AllocError, Global};
 use std::str;
 use std::test::Fail;
 
-/// An option o that holds `0`, and rules that test and change it; one that puts a mark, and one that takes it.
+/// An option o with the value `0`, rules that test and change it, a rule that outputs a deadkey, and one that deletes it.
 const KEYBOARD: &str = "begin Unicode > use(main)\nstore(o) '0'\ngroup(main) using keys\n\
     if(o = '1') + 'a' > 'x'\n+ 'a' > 'y'\n+ 's' > set(o = '1')\n+ 'v' > save(o)\n\
     + 'r' > reset(o)\n+ 'z' > set(o = '0')\n+ '`' > dk(x)\ndk(x) + 'q' > U+00E0\n";
 
-/// On each line the steps of a session with that keyboard. A step is a word that `event` reads. Behind a blank stand what it
-/// inserted, the context and the changed values, `!` before a saved one; or the refusal. `*` is a mark.
+/// Each line lists the steps of a session with that keyboard. A step is an event that `event` reads, a space, and the inserted
+/// text, the cached context and the changed values, with `!` before a saved one, or the refusal. `*` is a mark (a deadkey in
+/// the item list).
 const CASES: &str = "\
 K_A y,y, ; K_S ,y,o1 ; K_A x,yx, ; K_R ,yx,o0 ; o=1 ,yx,o1!o1 ; K_Z ,yx,o0 ; K_R ,yx,o1 ; K_V ,yx,
 O=0 ,,!o0 ; x=1 ,,
@@ -26,8 +27,8 @@ K_X x,x, ; K_BKQUOTE ,x*, ; -0,0,uu ,uux, ; @9 E1 ; -2,1, E1 ; -3,4, E1
 K_X x,x, ; K_BKQUOTE ,x*, ; -1,1,u ,x*,
 K_BKQUOTE ,*, ; K_Q à,à,";
 
-/// Keyboards that look at the layer and the platform, each with the steps of sessions. They have stores that are called so too, and
-/// the option `~layer` of the second gets the name `&layer`, which no source can give it.
+/// Keyboards that test the layer and the platform, each with the steps of sessions. They also have stores with these names. The
+/// option `~layer` of the second gets the name `&layer`, which no source can express.
 const ON_SYSTEM_OPTIONS: &[(&str, &str)] = &[
     (
         "store(layer) 'l'\nstore(platform) 'p'\nstore(o) '0'\nbegin Unicode > use(main)\ngroup(main) using keys\n\
@@ -51,7 +52,7 @@ K_A d,d, ; &layer=1 ,d,&layer1!&layer1 ; K_A o,do, ; &Layer=s ,do,&layers!&layer
     ),
 ];
 
-/// Numbers of a file without stores, each with the name and the value that it has before the first event.
+/// Store numbers of a file without stores, each with its name and its value before the first event.
 const NUMBERS: &[(u32, &str, &str)] = &[
     (0, "&layer", "default"),
     (1, "&platform", "windows desktop hardware native"),
@@ -86,7 +87,7 @@ fn show_change(
     }
 }
 
-/// Appends the names and the new values of what the last step changed.
+/// Appends the names and the new values of the stores that the last step changed.
 fn show_changes(alloc: Global, text: &mut String, session: &Session) -> Result<(), Memory> {
     for change in session.changes() {
         show_change(alloc, text, session, *change)?;
@@ -102,7 +103,7 @@ fn put_chars(text: &mut String, chars: &[char]) -> Result<(), Memory> {
     Ok(())
 }
 
-/// What a session tells of its last step, as the table writes it.
+/// Returns what a session reports about its last step, in the notation of the table.
 fn shown(alloc: Global, session: &Session) -> Result<String, Memory> {
     let mut text = String::new(alloc);
     put_chars(&mut text, session.inserted())?;
@@ -113,12 +114,12 @@ fn shown(alloc: Global, session: &Session) -> Result<String, Memory> {
     Ok(text)
 }
 
-/// Whether a session tells this of its last step.
+/// Returns whether a session reports this about its last step.
 fn tells(alloc: Global, session: &Session, wanted: &str) -> Result<bool, Fail> {
     Ok(shown(alloc, session)?.as_str() == wanted)
 }
 
-/// Does one step; whether it shows what is wanted.
+/// Performs one step and returns whether the result is the expected one.
 fn shows(alloc: Global, session: &mut Session, step: &str) -> Result<bool, Fail> {
     let (word, wanted) = step.split_once(' ').unwrap_or((step, ""));
     let event = event(alloc, word)?;
@@ -130,13 +131,13 @@ fn shows(alloc: Global, session: &mut Session, step: &str) -> Result<bool, Fail>
     }
 }
 
-/// Does one step with a copy of a session; whether it shows what is wanted.
+/// Performs one step with a copy of a session and returns whether the result is the expected one.
 fn copy_shows(alloc: Global, session: &Session, step: &str) -> Result<bool, Fail> {
     let mut copy = session.copy(alloc)?;
     shows(alloc, &mut copy, step)
 }
 
-/// Whether a preview of a press inserts this text.
+/// Returns whether a preview of a press inserts this text.
 fn inserts(alloc: Global, session: &Session, press: KeyPress, wanted: &str) -> Result<bool, Fail> {
     let mut inserted = String::new(alloc);
     put_chars(
@@ -146,7 +147,7 @@ fn inserts(alloc: Global, session: &Session, press: KeyPress, wanted: &str) -> R
     Ok(inserted.as_str() == wanted)
 }
 
-/// Whether a preview of a step shows what the step is to insert, where it is a press.
+/// Returns whether a preview of a step inserts the expected text. An event that is not a press passes.
 fn preview_shows(alloc: Global, session: &Session, step: &str) -> Result<bool, Fail> {
     let (word, wanted) = step.split_once(' ').unwrap_or((step, ""));
     let (inserted, _) = wanted.split_once(',').unwrap_or((wanted, ""));
@@ -156,7 +157,8 @@ fn preview_shows(alloc: Global, session: &Session, step: &str) -> Result<bool, F
     }
 }
 
-/// Whether a step of a session, of a copy made before it, and a preview before it show what is wanted.
+/// Returns whether a step of a session, the same step of a copy made before, and a preview made before have the expected
+/// results.
 fn all_show(alloc: Global, session: &mut Session, step: &str) -> Result<bool, Fail> {
     if preview_shows(alloc, session, step)? && copy_shows(alloc, session, step)? {
         return shows(alloc, session, step);
@@ -164,7 +166,7 @@ fn all_show(alloc: Global, session: &mut Session, step: &str) -> Result<bool, Fa
     Ok(false)
 }
 
-/// The first step of a session that shows something else.
+/// Returns the first step of a session with a different result.
 fn wrong_step(
     alloc: Global,
     session: &mut Session,
@@ -178,7 +180,7 @@ fn wrong_step(
     Ok(None)
 }
 
-/// The first wrong step of a session that starts with the keyboard of a file.
+/// Returns the first wrong step of a session that starts with the keyboard of a file.
 fn wrong_case(
     alloc: Global,
     file: &Verified,
@@ -188,7 +190,7 @@ fn wrong_case(
     wrong_step(alloc, &mut session, case)
 }
 
-/// The first wrong step of cases with the keyboard of a file.
+/// Returns the first wrong step of cases with the keyboard of a file.
 fn wrong_in(
     alloc: Global,
     file: &Verified,
@@ -202,7 +204,7 @@ fn wrong_in(
     Ok(None)
 }
 
-/// The first wrong step of cases with the keyboard of a file's bytes.
+/// Returns the first wrong step of cases with the keyboard in the bytes of a file.
 fn wrong_in_file(
     alloc: Global,
     bytes: &[u8],
@@ -212,7 +214,7 @@ fn wrong_in_file(
     wrong_in(alloc, &file, cases)
 }
 
-/// The first wrong step of the cases with that keyboard.
+/// Returns the first wrong step of the cases with that keyboard.
 fn wrong_with_keyboard(alloc: Global) -> Result<Option<&'static str>, Fail> {
     let bytes = compiled(alloc, KEYBOARD)?;
     wrong_in_file(alloc, bytes.as_slice(), CASES)
@@ -225,7 +227,7 @@ fn events_of_every_kind(rt: HostRuntime) -> Result<(), Fail> {
     Ok(())
 }
 
-/// The file of a keyboard with `&` for each `~`.
+/// Compiles a keyboard and replaces each `~` in the file with `&`.
 fn with_ampersands(alloc: Global, keyboard: &str) -> Result<Seq<u8>, Fail> {
     let mut bytes = compiled(alloc, keyboard)?;
     for byte in bytes.as_mut_slice() {
@@ -236,7 +238,7 @@ fn with_ampersands(alloc: Global, keyboard: &str) -> Result<Seq<u8>, Fail> {
     Ok(bytes)
 }
 
-/// The first wrong step of cases with such a keyboard.
+/// Returns the first wrong step of cases with such a keyboard.
 fn wrong_with_system_options(
     alloc: Global,
     keyboard: &str,
@@ -255,7 +257,7 @@ fn events_with_system_options(rt: HostRuntime) -> Result<(), Fail> {
     Ok(())
 }
 
-/// Whether a number has a name, a value and nothing saved.
+/// Returns whether a store number has a name, a value and no saved value.
 fn has_value(
     alloc: Global,
     session: &Session,
@@ -274,7 +276,7 @@ fn has_value(
     )
 }
 
-/// The name of the first number that is wrong before the first event on the file of one rule.
+/// Returns the name of the first store number that is wrong before the first event on the file of one rule.
 fn wrong_number(alloc: Global) -> Result<Option<&'static str>, Fail> {
     let file = verify(alloc, &ONE_RULE)?;
     let session = Session::start(alloc, &file)?;
@@ -293,7 +295,7 @@ fn numbers_behind_the_stores(rt: HostRuntime) -> Result<(), Fail> {
     Ok(())
 }
 
-/// Whether the first press of a session puts a b into the text.
+/// Returns whether the first press of a session inserts a b into the text.
 fn puts_b(alloc: Global, session: &mut Session) -> Result<bool, Fail> {
     let step = session.step(alloc, &Event::Key(KeyPress { code: 65, mods: 0 }))?;
     Ok(
@@ -304,13 +306,13 @@ fn puts_b(alloc: Global, session: &mut Session) -> Result<bool, Fail> {
     )
 }
 
-/// Whether a fresh session on the file of another does so too.
+/// Returns whether the first press of a fresh session on the same file does so too.
 fn fresh_puts_b(alloc: Global, session: &Session) -> Result<bool, Fail> {
     let mut fresh = session.fresh(alloc)?;
     puts_b(alloc, &mut fresh)
 }
 
-/// Whether the file of one rule puts a b, in a session and then in a fresh one.
+/// Returns whether the file of one rule inserts a b, in a session and then in a fresh one.
 fn one_rule_puts_b(alloc: Global) -> Result<bool, Fail> {
     let file = verify(alloc, &ONE_RULE)?;
     let mut session = Session::start(alloc, &file)?;
@@ -323,7 +325,7 @@ fn one_press(rt: HostRuntime) -> Result<(), Fail> {
     Ok(())
 }
 
-/// Puts a text of 991,232 characters before the caret.
+/// Inserts a text of 991,232 characters before the caret.
 fn put_long_text(alloc: Global, session: &mut Session) -> Result<(), Fail> {
     for _ in 0..242 {
         let text = Seq::from_vec(vec![in alloc; 'x'; 4096]?);
@@ -338,7 +340,7 @@ fn put_long_text(alloc: Global, session: &mut Session) -> Result<(), Fail> {
     Ok(())
 }
 
-/// Whether so many presses of a key without a rule are passed on.
+/// Returns whether the keyboard passes on each of `presses` presses of a key without a rule.
 fn passes(alloc: Global, session: &mut Session, presses: u32) -> Result<bool, Fail> {
     let press = key(b"K_F5");
     for _ in 0..presses {
@@ -349,7 +351,7 @@ fn passes(alloc: Global, session: &mut Session, presses: u32) -> Result<bool, Fa
     Ok(true)
 }
 
-/// Whether so many presses in a long text leave it, and look at no more than the last items.
+/// Returns whether `presses` presses leave a long text unchanged, and the cached context has only 64 items.
 fn stays(alloc: Global, session: &mut Session, presses: u32) -> Result<bool, Fail> {
     put_long_text(alloc, session)?;
     Ok(
@@ -359,7 +361,7 @@ fn stays(alloc: Global, session: &mut Session, presses: u32) -> Result<bool, Fai
     )
 }
 
-/// Whether a session stays so with the file of one rule.
+/// Returns whether a session does so with the file of one rule.
 fn stays_far_along(alloc: Global, presses: u32) -> Result<bool, Fail> {
     let file = verify(alloc, &ONE_RULE)?;
     let mut session = Session::start(alloc, &file)?;
@@ -372,14 +374,14 @@ fn many_presses_in_a_long_text(rt: HostRuntime) -> Result<(), Fail> {
     Ok(())
 }
 
-/// Errors, and how they are printed.
+/// Errors and their printed texts.
 const PRINTED: &[(StepError, &str)] = &[
     (StepError::Place, "refused E1"),
     (StepError::Length, "refused E2"),
     (StepError::Memory, "out of memory"),
 ];
 
-/// Whether an error is printed so.
+/// Returns whether an error has this printed text.
 fn is_printed(alloc: Global, error: &StepError, wanted: &str) -> Result<bool, AllocError> {
     Ok(format!(in alloc; "{error}")?.as_str() == wanted)
 }

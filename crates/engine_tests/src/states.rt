@@ -1,4 +1,4 @@
-//! The states that keyboards are played in: the one before the first event, and which one an event can be done on.
+//! Creates the state before the first event, and checks which events can be performed in a state.
 
 ghost use Rattle.std.specs.Prelude.{◌≡◌, ◌+◌, ◌≤◌, ℕ, List, length, IsTrue};
 ghost use Rattle.kmn_base.specs.Lists.{characters};
@@ -10,10 +10,10 @@ use plain_event::PlainState;
 use rule_model::Tables;
 use std::alloc::Global;
 
-/// The elements of the system options, which stand behind the stores.
+/// The elements of the system options, which follow the stores.
 const SYSTEM_OPTIONS: &[&str] = &["default", "windows_desktop_hardware_native"];
 
-/// The elements of a value, in which `*` is a mark, and `_` a space.
+/// Returns the elements of a value, in which `*` is a mark (a deadkey in the item list), and `_` a space.
 pub fn elements(alloc: Global, text: &str) -> Result<Seq<Element>, Memory> {
     let mut elements = Seq::new(alloc);
     for c in text.chars() {
@@ -46,7 +46,7 @@ fn add_options(alloc: Global, values: &mut Seq<Seq<Element>>) -> Result<(), Memo
     Ok(())
 }
 
-/// Each store and system option with its elements.
+/// Returns the elements of each store and each system option.
 fn first_values(alloc: Global, tables: &Tables) -> Result<Seq<Seq<Element>>, Memory> {
     let mut values = Seq::new(alloc);
     add_stores(alloc, &mut values, tables)?;
@@ -54,7 +54,7 @@ fn first_values(alloc: Global, tables: &Tables) -> Result<Seq<Seq<Element>>, Mem
     Ok(values)
 }
 
-/// So many values, none of which is saved.
+/// Returns `count` entries without a saved value.
 fn nothing_saved(alloc: Global, count: usize) -> Result<Seq<Option<Seq<Element>>>, Memory> {
     let mut saved = Seq::new(alloc);
     for _ in 0..count {
@@ -63,7 +63,7 @@ fn nothing_saved(alloc: Global, count: usize) -> Result<Seq<Option<Seq<Element>>
     Ok(saved)
 }
 
-/// Before the first event: no text, each store and system option with its elements, and nothing saved.
+/// Returns the state before the first event: no text, each store and system option with its elements, and no saved values.
 pub fn start(alloc: Global, tables: &Tables) -> Result<PlainState, Memory> {
     let current = first_values(alloc, tables)?;
     let saved = nothing_saved(alloc, current.len())?;
@@ -83,14 +83,14 @@ pub fn start(alloc: Global, tables: &Tables) -> Result<PlainState, Memory> {
     })
 }
 
-/// Whether there is one for each store and each system option.
+/// Returns whether there are as many values as stores and system options.
 fn is_full(count: usize, tables: &Tables) -> bool
     ensures { IsTrue result → count ≡ length tables.now.stores + 2 }
 {
     count >= 2 && count - 2 == tables.stores.len()
 }
 
-/// Whether a state is one of these tables.
+/// Returns whether a state is one of these tables.
 fn is_state(tables: &Tables, state: &PlainState) -> bool
     ensures { IsTrue result → IsStateOf tables.now state.now }
 {
@@ -99,7 +99,7 @@ fn is_state(tables: &Tables, state: &PlainState) -> bool
         && is_full(state.saved.len(), tables)
 }
 
-/// How many of the items are characters.
+/// Returns the number of characters among the items.
 fn character_count(items: &[Item]) -> usize
     ensures { result ≡ length (characters items.now) }
 {
@@ -112,7 +112,7 @@ fn character_count(items: &[Item]) -> usize
     count
 }
 
-/// Whether the places of an event are within a text of at least so many characters.
+/// Returns whether the positions of an event are within a text of at least `count` characters.
 fn is_within(count: usize, event: &Event) -> bool
     ensures { IsTrue result → (text : List ℕ) → count ≤ length text → IsWithin text event.now }
 {
@@ -123,7 +123,7 @@ fn is_within(count: usize, event: &Event) -> bool
     }
 }
 
-/// Whether an event can be done on a state of these tables.
+/// Returns whether an event can be performed in a state of these tables.
 pub fn can_be_done(tables: &Tables, state: &PlainState, event: &Event) -> bool
     ensures state { IsTrue result → IsStateOf tables.now state.now }
     ensures places { IsTrue result → IsWithin (whole_text (state_of tables.now state.now)) event.now }

@@ -1,8 +1,8 @@
-//! The lines that events choose, and how often each line of a keyboard is chosen.
+//! Tests the lines of the rules that fire for events, and how often each line of a keyboard fires.
 
 ghost use Rattle.std.specs.Prelude.{All, IfOk};
 ghost use Rattle.std.specs.List.{Contains};
-ghost use Rattle.plain_event.specs.Coverage.{record_lines, AreLinesOf};
+ghost use Rattle.rule_trace.specs.Coverage.{record_lines, AreLinesOf};
 
 use crate::events::event;
 use crate::keyboards::keyboard;
@@ -10,18 +10,19 @@ use crate::states::{can_be_done, start};
 use compile_tests::fixtures::compiled;
 use kmn_base::{Event, Memory};
 use kmx_verifier::verify;
-use plain_event::{Coverage, PlainState, Traced, chosen_lines_are_lines, traced_event};
+use plain_event::PlainState;
 use rule_model::Tables;
+use rule_trace::{Coverage, Traced, chosen_lines_are_lines, trace_event};
 use source_tests::fixtures::parted;
 use std::alloc::Global;
 use std::fmt::Write;
 use std::test::Fail;
 
-/// On each line the statements behind the first two of a keyboard, which are `begin Unicode > use(main)` and
-/// `group(main) using keys`, so that they stand from line 3 on; behind ` ⇒ ` its events, parted by ` ; `, each with the lines
-/// that it chooses; and behind another each line of a rule with its count. `¶` is a line feed. A press may have its modifiers
-/// before its key, `T_` keys are the first of their own, `@` is a place of the caret, and `=` parts the name and the value of a
-/// setting.
+/// Each line contains the statements of a keyboard after the first two, `begin Unicode > use(main)` and
+/// `group(main) using keys`, so the statements begin on line 3; after ` ⇒ ` its events, separated by ` ; `, each with the lines
+/// that fire; and after another ` ⇒ ` each line of a rule with its count. `¶` is a line feed. A key press may have its
+/// modifiers before its key, each `T_` key is the first custom key, `@` precedes a caret position, and `=` separates the name
+/// and the value of an option.
 const CASES: &str = "\
 + 'c' > 'x'¶'a' + 'c' > 'y' ⇒ K_A - ; K_C 4 ⇒ 3=0 4=1
 + 'a' > 'x' ⇒ K_B - ⇒ 3=0
@@ -34,8 +35,8 @@ c no rule ⇒ K_A - ⇒
 + 'a' > use(g) 'x' use(h)¶group(g)¶nul > 'y'¶group(h)¶'yx' > 'z'¶match > use(g) ⇒ K_A 3.5.7 ⇒ 3=1 5=1 7=1
 store(v) 'ab'¶+ any(v) > 'x' ⇒ K_A 4 ; K_B 4 ⇒ 4=2";
 
-/// A keyboard with deadkeys, an option and three groups: the lines of `examples/sample.kmn`, with a comment in place of the one
-/// that names a picture.
+/// A keyboard with deadkeys, an option and three groups: the lines of `examples/sample.kmn`, with a comment instead of the line
+/// that names a bitmap.
 const SAMPLE: &str = "c Acute and grave vowels
 store(&version) '10.0'
 store(&name) 'Sample Accents'
@@ -69,32 +70,31 @@ group(after)
 '--' > U+2013
 ";
 
-/// The presses of `examples/sample.keys` and the lines that they choose, as the second run of `trace_rows` in `run_tests` prints
-/// them.
+/// The presses of `examples/sample.keys` and the lines that fire, as the second run of `trace_rows` in `run_tests` prints them.
 const SAMPLE_EVENTS: &str =
     "K_QUOTE 15 ; K_A 17 ; T_flip 21.27 ; K_BKQUOTE 16 ; 16+K_E 18 ; K_HYPHEN 24 ; \
     K_HYPHEN 24.31 ; 5+K_Q 23 ; 16+K_QUOTE 22 ; K_BKSP - ; T_flip 21";
 
 const SAMPLE_HITS: &str = "15=1 16=1 17=1 18=1 19=0 20=0 21=2 22=1 23=1 24=2 27=1 28=0 31=1";
 
-/// The tables of a compiled file.
+/// Returns the tables of a compiled keyboard.
 fn tables_of_file(alloc: Global, bytes: &[u8]) -> Result<Tables, Fail> {
     let file = verify(alloc, bytes)?;
     Ok(file.copied_tables(alloc)?)
 }
 
-/// What one event does, and the lines that it chooses, which are lines of records.
+/// Returns the effect of one event and the lines that fire, which are lines of records.
 fn traced(alloc: Global, tables: &Tables, state: &PlainState, event: &Event) -> Result<Traced, Fail>
     ensures { IfOk result (λ traced. All (Contains (record_lines tables.now)) traced.lines) }
 {
     chosen_lines_are_lines();
     if can_be_done(tables, state, event) {
-        return Ok(traced_event(alloc, tables, state, event)?);
+        return Ok(trace_event(alloc, tables, state, event)?);
     }
     Err(Fail::from("an event that can't be done"))
 }
 
-/// Lines parted by dots, or `-` for none.
+/// Returns the lines, separated by dots, or `-` if there are none.
 fn shown_lines(alloc: Global, lines: &[u32]) -> Result<String, Memory> {
     let mut text = String::new(alloc);
     for line in lines {
@@ -106,7 +106,7 @@ fn shown_lines(alloc: Global, lines: &[u32]) -> Result<String, Memory> {
     Ok(text)
 }
 
-/// Each line with its count.
+/// Returns each line with its count.
 fn shown_hits(alloc: Global, coverage: &Coverage) -> Result<String, Memory> {
     let mut text = String::new(alloc);
     for hit in coverage.hits() {
@@ -127,12 +127,12 @@ fn count(tables: &Tables, coverage: &mut Coverage, lines: &[u32])
     requires among { All (Contains (record_lines tables.now)) lines.now }
     ensures { AreLinesOf tables.now coverage.new }
 {
-    // The contract alone speaks of the tables.
+    // Only the contract mentions the tables.
     let _ = tables;
     coverage.add(lines);
 }
 
-/// Does an event and counts the lines that it chooses, which it tells.
+/// Performs an event, counts the lines that fire and returns them.
 fn chosen_by(
     alloc: Global,
     tables: &Tables,
@@ -151,7 +151,7 @@ fn chosen_by(
     Ok(shown)
 }
 
-/// Does one step and counts the lines that it chooses; whether these are the wanted ones.
+/// Performs one step, counts the lines that fire, and returns whether they are the expected ones.
 fn shows(
     alloc: Global,
     tables: &Tables,
@@ -167,7 +167,7 @@ fn shows(
     Ok(chosen_by(alloc, tables, state, coverage, &event)?.as_str() == wanted)
 }
 
-/// Whether each step shows the wanted lines.
+/// Returns whether the expected lines fire for each step.
 fn show(
     alloc: Global,
     tables: &Tables,
@@ -185,7 +185,7 @@ fn show(
     Ok(true)
 }
 
-/// Whether each step from the start on shows the wanted lines.
+/// Returns whether the expected lines fire for each step, beginning before the first event.
 fn show_all(
     alloc: Global,
     tables: &Tables,
@@ -198,7 +198,7 @@ fn show_all(
     show(alloc, tables, &mut state, coverage, steps)
 }
 
-/// Whether each event chooses the wanted lines, and they come to the wanted hits.
+/// Returns whether the expected lines fire for each event, and the counts are the expected ones.
 fn is_covered(
     alloc: Global,
     tables: &Tables,
@@ -214,19 +214,19 @@ fn is_covered(
     Ok(false)
 }
 
-/// Whether this is so of the lines of these tables.
+/// Returns whether this is true for the lines of these tables.
 fn is_traced(alloc: Global, tables: &Tables, steps: &str, hits: &str) -> Result<bool, Fail> {
     let mut coverage = Coverage::new(alloc, tables)?;
     is_covered(alloc, tables, &mut coverage, steps, hits)
 }
 
-/// Whether this is so of the tables of a file.
+/// Returns whether this is true for the tables of a file.
 fn is_right(alloc: Global, bytes: &[u8], steps: &str, hits: &str) -> Result<bool, Fail> {
     let tables = tables_of_file(alloc, bytes)?;
     is_traced(alloc, &tables, steps, hits)
 }
 
-/// Whether a case is right.
+/// Returns whether a case is right.
 fn is_case_right(alloc: Global, case: &str) -> Result<bool, Fail> {
     let (statements, rest) = parted(case)?;
     let (steps, hits) = parted(rest)?;
@@ -234,7 +234,7 @@ fn is_case_right(alloc: Global, case: &str) -> Result<bool, Fail> {
     is_right(alloc, bytes.as_slice(), steps, hits)
 }
 
-/// Whether the sample is.
+/// Returns whether the sample is right.
 fn is_sample_right(alloc: Global) -> Result<bool, Fail> {
     let bytes = compiled(alloc, SAMPLE)?;
     is_right(alloc, bytes.as_slice(), SAMPLE_EVENTS, SAMPLE_HITS)

@@ -1,4 +1,4 @@
--- What an answer of the exporter says of the run.
+-- The results of the exporter as results of a run.
 use Rattle.std.proofs.Common.{◌≡◌, List, ℕ, Some, Result, Ok, Err, sym, subst}
 use Rattle.std.specs.Result.{IsErrAnd}
 use Rattle.kmx_verifier.specs.FaultOf.{IsRefusal, IsValid, fault_of}
@@ -13,14 +13,14 @@ use Rattle.export_run.specs.declared.reading.ExportStop.{ExportStop}
 use Rattle.export_run.specs.declared.reading.ExportStop.TheVariants as stop
 use Rattle.export_run.specs.Reads.{Answers, States, export_stop, verify_stop}
 
--- why a file isn't exported
+-- if the exporter returns an error, it is the reason why the file isn't exported
 pub stop_answered : (bytes : List ℕ) (why : ExportError) → IsExportError bytes why → Answers bytes (Err (export_stop why))
 stop_answered bytes (error.SavesTwice line) h = h
 stop_answered bytes error.NoZeroUnit h = h
 stop_answered bytes error.Entangled h = h
 stop_answered bytes error.Memory h = h
 
--- the answer for a valid file is that for its bytes
+-- if bytes are a valid file, the result for the file is the result for the bytes
 pub states_answered : (bytes : List ℕ) (result : Result Export ExportStop) → IsValid bytes → Answers bytes result → States bytes result
 states_answered bytes (Ok out) valid h = (valid, h)
 states_answered bytes (Err (stop.Refused (File fault))) valid h = absurd h
@@ -30,12 +30,12 @@ states_answered bytes (Err (stop.Refused Entangled)) valid h = (valid, h)
 states_answered bytes (Err stop.ReadFault) valid h = absurd h
 states_answered bytes (Err stop.Memory) valid h = h
 
--- why bytes are no valid file
+-- if the verifier refuses bytes, its fault is the reason why the bytes have no export
 pub fault_stated : (bytes : List ℕ) (error : VerifyError) → IsRefusal error (λ fault. fault_of bytes ≡ Some fault) → States bytes (Err (verify_stop error))
 fault_stated bytes (verify.Refused fault) h = h
 fault_stated bytes verify.Memory h = h
 
--- what stops a step is handed on
+-- if a result is a stop, and this stop is the specified result, the result is the specified one
 pub answers_handed : (bytes : List ℕ) (why : ExportStop) (result : Result Export ExportStop) → IsErrAnd result (λ given. given ≡ why) → Answers bytes (Err why) → Answers bytes result
 answers_handed bytes why (Ok out) is answers = absurd is
 answers_handed bytes why (Err given) is answers = subst (λ (s : ExportStop). Answers bytes (Err s)) (sym is) answers

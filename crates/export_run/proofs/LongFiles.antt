@@ -13,14 +13,14 @@ use Rattle.export_run.specs.declared.reading.ExportStop.TheVariants as stop
 use Rattle.keyman_words.specs.Seen.{FolderView}
 use Rattle.export_run.specs.Reads.{Gives}
 
--- their first fault is V15 at 0
+-- if a file is over the limit, its first fault is V15 at 0
 long_fault : (bytes : List ℕ) → FILE_BYTES < length bytes → fault_of bytes ≡ Some (record { code = V15; at = 0; unit = 0 })
 unfolding fault_of size_fault
 long_fault bytes long =
     let over : nat_lt FILE_BYTES (length bytes) ≡ true = grind (arith, nat_tests) in
     rw over refl
 
--- so the reason is known, though their bytes weren't read
+-- so a file over the limit is refused for this fault, although its bytes weren't read
 pub gives_long : {F : Type 0} (file : List ℕ) (folders : FolderView F) (folder after : F) (error : ReadError) (size : ℕ) → error ≡ read.Over size
     → ReadCounts (folders.faults folder) (folders.faults after) (Err error) → folders.told after ≡ folders.told folder
     → (IsTrue (folders.told folder) → Reads (folders.files folder) (folders.files after) (folders.calls folder) (folders.calls after) file FILE_BYTES (Err error))

@@ -11,11 +11,11 @@ use Rattle.export_run.specs.declared.reading.ExportReason.{ExportReason}
 use Rattle.export_run.specs.declared.reading.ExportReason.TheVariants.{File, SavesTwice, NoZeroUnit, Entangled}
 use Rattle.export_run.specs.declared.reading.Export.{Export}
 
--- the size of an export
+-- the line with the size of an export
 unfoldable pub exported_line : ℕ → List ℕ
 exported_line size = concat (codes "exported bytes=" ∷ decimal size ∷ codes "\n" ∷ [])
 
--- the word of what a record has that the other engine does otherwise
+-- the word of a construct that the other engine treats differently
 abbrev pub construct_word : Construct → List ℕ
 construct_word construct.Use = codes "use"
 construct_word construct.Match = codes "match"
@@ -26,16 +26,16 @@ construct_word construct.Sides = codes "sides"
 construct_word construct.Right = codes "right"
 construct_word construct.Long = codes "long"
 
--- a line of the source whose records have something, and the words of all that they have
+-- the printed line of a difference: a line of the source, and the words of all constructs that its records have
 abbrev pub differs_line : Difference → List ℕ
 differs_line difference =
     concat (codes "differs " ∷ decimal difference.line ∷ codes " " ∷ joined (map construct_word difference.constructs) ∷ codes "\n" ∷ [])
 
--- what is printed of an export: its size, and a line for each line of the source with which the other engine does something else
+-- what is printed for an export: its size, and a line for each line of the source for which the other engine behaves differently
 abbrev pub exported_text : Export → List ℕ
 exported_text export = exported_line (length export.bytes) ++ flat_map differs_line export.differences
 
--- why a file isn't exported
+-- the line of the reason why a file isn't exported
 abbrev pub unexported_line : ExportReason → List ℕ
 unexported_line (File fault) = fault_line fault
 unexported_line (SavesTwice line) = concat (codes "refused K01 line " ∷ decimal line ∷ codes "\n" ∷ [])

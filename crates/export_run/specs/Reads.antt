@@ -1,4 +1,4 @@
--- What reading and exporting a file comes to.
+-- The results of reading and exporting a file.
 use Rattle.std.specs.Prelude.{◌≡◌, ◌⊎◌, ℕ, true, false, IsTrue, List, [], ◌∷◌, ◌++◌, Some, Result, Ok, Err}
 use Rattle.kmn_outside.specs.Outside.{Files, Rose, SameFiles, call_of}
 use Rattle.kmx_format.specs.TablesOf.{tables_of}
@@ -16,7 +16,7 @@ use Rattle.export_run.specs.declared.reading.Export.{Export}
 use Rattle.export_run.specs.declared.reading.ExportStop.{ExportStop}
 use Rattle.export_run.specs.declared.reading.ExportStop.TheVariants as stop
 
--- this is the export of a file, with where the other engine does something else
+-- the exported file of these bytes, with the lines for which the other engine behaves differently
 abbrev pub IsExportOf : List ℕ → Export → Type 0
 IsExportOf bytes out = Exports bytes (Ok out.bytes) × (out.differences ≡ differences (tables_of bytes))
 
@@ -27,19 +27,19 @@ IsReasonOfValid bytes (SavesTwice line) = IsExportError bytes (error.SavesTwice 
 IsReasonOfValid bytes NoZeroUnit = IsExportError bytes error.NoZeroUnit
 IsReasonOfValid bytes Entangled = IsExportError bytes error.Entangled
 
--- why bytes have no export: they have a fault (a file over the limit V15 at 0), or are a valid file that isn't exported
+-- why bytes have no export: they have a fault (V15 at 0 if they are over the limit), or are a valid file that isn't exported
 abbrev pub IsReason : List ℕ → ExportReason → Type 0
 IsReason bytes (File fault) = fault_of bytes ≡ Some fault
 IsReason bytes (SavesTwice line) = IsValid bytes × IsReasonOfValid bytes (SavesTwice line)
 IsReason bytes NoZeroUnit = IsValid bytes × IsReasonOfValid bytes NoZeroUnit
 IsReason bytes Entangled = IsValid bytes × IsReasonOfValid bytes Entangled
 
--- why a run stops where bytes are no valid file
+-- why a run stops if bytes are not a valid file
 abbrev pub verify_stop : VerifyError → ExportStop
 verify_stop (verify.Refused fault) = stop.Refused (File fault)
 verify_stop verify.Memory = stop.Memory
 
--- why a run stops where a valid file isn't exported
+-- why a run stops if a valid file isn't exported
 abbrev pub export_stop : ExportError → ExportStop
 export_stop (error.SavesTwice line) = stop.Refused (SavesTwice line)
 export_stop error.NoZeroUnit = stop.Refused NoZeroUnit
@@ -67,40 +67,40 @@ pub record HasExport (files : Files) (file : List ℕ) (out : Export) : Type 0 w
   pub valid : IsValid bytes
   pub export : IsExportOf bytes out
 
--- the file of a name has none, for this reason
+-- the file of a name has no export, for this reason
 pub record HasReason (files : Files) (file : List ℕ) (why : ExportReason) : Type 0 where
   pub bytes : List ℕ
   pub is : files file ≡ Some bytes
   pub reason : IsReason bytes why
 
--- the file of a name was read: no file differs
+-- the file of a name was read, and no file differs
 pub record HasRead (file : List ℕ) (before after : FolderState) : Type 0 where
   pub calls : after.calls ≡ before.calls ++ call_of file false false ∷ []
   pub files : SameFiles before.files after.files
 
--- reading it failed: no file differs
+-- reading the file of a name failed, and no file differs
 pub record HasFailedToRead (file : List ℕ) (before after : FolderState) : Type 0 where
   pub calls : after.calls ≡ before.calls ++ call_of file false true ∷ []
   pub files : SameFiles before.files after.files
 
--- for want of memory it was read or not: no file differs
+-- an allocation failed before or after the file was read, and no file differs
 pub record HasMaybeRead (file : List ℕ) (before after : FolderState) : Type 0 where
   pub calls : (after.calls ≡ before.calls) ⊎ (after.calls ≡ before.calls ++ call_of file false false ∷ [])
   pub files : SameFiles before.files after.files
 
--- what a read and an export leave, by their answer
+-- the effects of a read and an export, by their result
 abbrev pub GivesBy : List ℕ → FolderState → FolderState → Result Export ExportStop → Type 0
 GivesBy file before after (Ok out) = HasExport before.files file out × HasRead file before after
 GivesBy file before after (Err (stop.Refused why)) = HasReason before.files file why × HasRead file before after
 GivesBy file before after (Err stop.ReadFault) = HasFailedToRead file before after
 GivesBy file before after (Err stop.Memory) = HasMaybeRead file before after
 
--- the folder's count of faults rises where the read failed, and stays where not
+-- the folder's fault count rises if the read failed, and is unchanged if not
 abbrev pub StopCounts : ℕ → ℕ → Result Export ExportStop → Type 0
 StopCounts before after (Err stop.ReadFault) = Rose before after
 StopCounts before after _ = after ≡ before
 
--- a read and an export, from one state of a folder to another, with this answer
+-- a read and an export, from one state of a folder to another, with this result
 pub record Gives {F : Type 0} (file : List ℕ) (folders : FolderView F) (folder folder_after : F) (result : Result Export ExportStop) : Type 0 where
   pub counts : StopCounts (folders.faults folder) (folders.faults folder_after) result
   pub told : folders.told folder_after ≡ folders.told folder

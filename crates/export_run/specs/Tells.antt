@@ -1,4 +1,4 @@
--- What is printed where a run stops before it writes.
+-- What a run prints if it stops before it writes.
 use Rattle.std.specs.Prelude.{◌≡◌}
 use Rattle.export_run.specs.declared.reading.ExportStop.{ExportStop}
 use Rattle.export_run.specs.declared.reading.ExportStop.TheVariants as stop
@@ -8,7 +8,7 @@ use Rattle.keyman_words.specs.Seen.{SinkView}
 use Rattle.keyman_words.specs.Tells.{Tells}
 use Rattle.export_run.specs.Lines.{unexported_line}
 
--- the line of the reason, or nothing
+-- the run prints the line of the reason, or no output
 abbrev pub TellsStop : {S : Type 0} → ExportStop → SinkView S → S → S → Status → Type 0
 TellsStop (stop.Refused why) sinks out out_after how = Tells status.Refused (unexported_line why) sinks out out_after how
 TellsStop stop.ReadFault sinks out out_after how = (how ≡ status.ReadFault) × (out_after ≡ out)

@@ -1,8 +1,8 @@
-//! A run of the exporter: a compiled file is read and verified, and the file that Keyman's own engine plays is written.
+//! Runs the exporter, which writes a file that Keyman's own engine plays instead of a compiled keyboard.
 //!
-//! It stands on `core_export`, which makes that file, on `kmx_verifier`, on `keyman_words` for reading and writing by name, for the
-//! line of a file's fault and for how a run ends, and on `kmn_outside` for the folder and the sink. The layer above calls `export_run`, whose clause `Runs` (`specs/Runs`) says by status what was read, written and
-//! printed, and ends with the number of its `Status`.
+//! Depends on `core_export`, which makes that file; `kmx_verifier`; `keyman_words` (reading and writing by name, the line of a
+//! file's fault, and how a run ends); and `kmn_outside` (the folder and the sink). The layer above calls `export_run` and ends
+//! with the number of its `Status`. The contract `Runs` (`specs/Runs`) states by status what was read, written and printed.
 #![tactic(auto)]
 
 mod printing;

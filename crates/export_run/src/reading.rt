@@ -1,4 +1,4 @@
-//! The export of the file of a name, or why there is none.
+//! Reads a file by name and exports it.
 
 ghost use Rattle.std.specs.Prelude.{◌≡◌};
 ghost use Rattle.export_run.specs.Reads.{Answers, Gives, States};
@@ -14,17 +14,17 @@ use std::alloc::Global;
 /// Why a file isn't exported.
 #[derive(Clone, Copy)]
 pub enum ExportReason {
-    /// It isn't valid.
+    /// The file isn't valid.
     File(Fault),
     /// An event may save twice, first at this line of the source.
     SavesTwice(u32),
-    /// It has no string at all, so no zero unit to point to.
+    /// The file has no strings, so it has no zero unit to point to.
     NoZeroUnit,
-    /// Its parts lie on one another.
+    /// Parts of the file overlap.
     Entangled,
 }
 
-/// The export of a file, and where Keyman's own engine does something else with its rules.
+/// The export of a file, and the lines of its source for which Keyman's own engine behaves differently.
 #[derive(Drop)]
 pub struct Export {
     pub bytes: Seq<u8>,
@@ -77,7 +77,7 @@ impl From<ExportError> for ExportStop {
     }
 }
 
-/// Reads the file of a name, and exports it.
+/// Reads a file by name and exports it.
 pub fn read_export<F: Folder>(
     alloc: Global,
     file: &FileName<'_>,
@@ -93,7 +93,7 @@ pub fn read_export<F: Folder>(
     }
 }
 
-/// Verifies the bytes of a file, and exports it.
+/// Verifies the bytes of a file and exports it.
 #[tactic(auto, using(crate::proofs::Answered::states_answered))]
 fn export_bytes(alloc: Global, bytes: &[u8]) -> Result<Export, ExportStop>
     ensures { States bytes.now result }
@@ -102,7 +102,7 @@ fn export_bytes(alloc: Global, bytes: &[u8]) -> Result<Export, ExportStop>
     export_file(alloc, &file)
 }
 
-/// Exports a file.
+/// Exports a valid file.
 fn export_file(alloc: Global, file: &Verified<'_>) -> Result<Export, ExportStop>
     ensures { Answers file.now result }
 {

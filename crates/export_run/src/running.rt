@@ -7,7 +7,8 @@ use kmn_base::Text;
 use kmn_outside::{Folder, Sink};
 use std::alloc::Global;
 
-/// Exports the file that the first of two words names to the name that the second is. Other words do nothing.
+/// Exports the file that the first of two arguments names to the name in the second one. Other arguments result in
+/// `Status::Words` and no calls.
 pub fn export_run<F: Folder, S: Sink>(
     alloc: Global,
     words: &[Text],
@@ -28,8 +29,8 @@ pub fn export_run<F: Folder, S: Sink>(
     }
 }
 
-/// Exports the file of a name, writes what came under another, and prints its size and where the
-/// other engine does something else.
+/// Exports a file by name, writes the export under another name, and prints its size and the lines of the source for which the
+/// other engine behaves differently.
 fn export_file<F: Folder, S: Sink>(
     alloc: Global,
     file: &FileName<'_>,

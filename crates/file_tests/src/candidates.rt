@@ -1,5 +1,6 @@
-//! The records that can hold for a press and a last item, one after the other, what is looked up of a file, the stores that
-//! have items and the first places there, which stores are alike, and of which a platform has each word.
+//! The indexes of a file: the records that can match a key press and the last item, the contexts of records, options and custom
+//! keys, the stores that contain an item with its first position there, the stores with equal elements, and the stores whose words
+//! are all words of a platform.
 
 use kmn_base::Item::{Char, Mark};
 use kmn_base::limits::{RECORDS, STORE_ELEMENTS, STORES};
@@ -9,11 +10,11 @@ use rule_index::{Holding, IndexedKeyboard, RuleIndex, wanted_classes};
 use std::alloc::Global;
 use std::test::Fail;
 
-/// Three stores and two groups. The stores are `a`, `b`, and the names `K1  k2 K1 k1` of own keys. Both groups have the
-/// same six records, and the second uses no keys. Their keys and contexts are `a`; `a` behind `x`; code 65 with flags
-/// 0x4010 behind the first mark; `A` behind `x` and any of the first store; code 65 with flags 0x4000 behind none of it;
-/// and `a` behind `x`, where the second store equals the second. The second group's match output saves a fourth store,
-/// which isn't there, and the third.
+/// Three stores and two groups. The stores contain `a`, `b`, and the names `K1  k2 K1 k1` of custom keys. Both groups have the
+/// same six records, and the second group uses no keys. The keys and contexts of the records are: `a`; `a` after `x`; code 65 with
+/// flags 0x4010 after the first mark; `A` after `x` and any item of the first store; code 65 with flags 0x4000 after an item that
+/// is not in the first store; and `a` after `x` if the second store equals the first. The match output of the second group saves
+/// a fourth store, which does not exist, and the third.
 const FILE: &[u8; 360] = b"\
     KXTS\0\x0A\0\0\0\0\0\0\0\0\0\0\0\0\0\0\0\0\0\0\x03\0\0\0\x02\0\0\0@\0\0\0d\0\0\0\xFF\xFF\xFF\xFF\0\0\0\0\0\0\0\0\
     \0\0\0\0\0\0\0\0\0\0\0\0\0\0\0\0\0\0\0\0\x0C\x01\0\0\0\0\0\0\0\0\0\0\x10\x01\0\0\x22\0\0\0\0\0\0\0\x14\x01\0\0\0\
@@ -24,7 +25,7 @@ const FILE: &[u8; 360] = b"\
     \xFF\xFF\x01\0\x01\0\0\0\xFF\xFF\x12\0\x01\0\0\0x\0\xFF\xFF\x14\0\x02\0\x02\0\x01\0\0\0\xFF\xFF\x15\0\x04\0\xFF\
     \xFF\x15\0\x03\0\0\0";
 
-/// Whether the group has keys, a press by code and modifiers, the list before the caret, and all candidates.
+/// A row: whether the group uses keys, a press as code and modifiers, the items before the caret, and all candidates.
 type Asked = (bool, u16, u16, &'static [Item], &'static [u32]);
 
 const CANDIDATES: &[Asked] = &[
@@ -44,7 +45,7 @@ const STORES_FILE: &[u8; 190] = b"\
     \0\0\0\0\0\0\0\0\0\0\0\xA8\0\0\0\0\0\0\0\0\0\0\0\xB0\0\0\0a\0b\0a\0\0\0\xFF\xFF\x0A\0\0@A\0\x10\0b\0\0\0\xFF\xFF\
     \x08\0\x01\0a\0\0\0a\0b\0a\0\0\0\xFF\xFF\x0A\0\0@B\0\x10\0b\0\0\0";
 
-/// What the six stores have.
+/// The elements of the six stores.
 const CONTENTS: &[&[Element]] = &[
     &[Element::Char('a'), Element::Char('b'), Element::Char('a')],
     &[],
@@ -66,10 +67,10 @@ const CONTENTS: &[&[Element]] = &[
     ],
 ];
 
-/// What the system options have, which stand behind the stores: the layer is the store 6, the platform the store 7.
+/// The contents of the system options, which come after the stores: the layer is store 6, and the platform is store 7.
 const SYSTEM_CONTENTS: &[(u32, &str)] = &[(6, "default"), (7, "windows desktop hardware native")];
 
-/// Items and the stores that have them, each with the first place there.
+/// Items and the stores that contain them, each with the item's first position there.
 const HOLDERS: &[(Item, &'static [(u16, u16)])] = &[
     (Char('a'), &[(0, 0), (3, 1), (4, 0), (6, 3), (7, 17)]),
     (Char('b'), &[(0, 1), (2, 1), (4, 1), (5, 1)]),
@@ -78,11 +79,11 @@ const HOLDERS: &[(Item, &'static [(u16, u16)])] = &[
     (Mark(2), &[]),
 ];
 
-/// Of each store the first that has the same elements, and of one that isn't there an empty one.
+/// For each store, the first store with the same elements. The last entry is for a store that does not exist, and names an empty one.
 const ALIKE: &[u32] = &[0, 1, 2, 3, 0, 5, 6, 7, 1];
 
-/// Platforms, and the stores all of whose words they have. The store without elements has no word to ask for, and a word with
-/// a mark or a virtual key is none of any text.
+/// Platforms, and the stores whose words are all words of the platform. The store without elements has no words, so each row
+/// lists it. A word that contains a mark or a virtual key is not a word of any text.
 const PLATFORMS: &[(&str, &[u32])] = &[
     ("", &[1]),
     ("abab ba", &[1]),
@@ -92,7 +93,8 @@ const PLATFORMS: &[(&str, &[u32])] = &[
     ("windows desktop hardware", &[1]),
 ];
 
-/// The index of a group's records, where there are not too many.
+/// Returns the index of a group's records. Errors: `Memory` if there is no such group, if it has too many records, or if an
+/// allocation fails.
 fn index_of(alloc: Global, file: &FileTables<'_>, number: u32) -> Result<RuleIndex, Memory> {
     match file.group(number) {
         Some(group) if group.rule_count() as usize <= RECORDS => RuleIndex::new(alloc, &group),
@@ -100,7 +102,7 @@ fn index_of(alloc: Global, file: &FileTables<'_>, number: u32) -> Result<RuleInd
     }
 }
 
-/// Whether the candidates of a row of the table are those that it has.
+/// Returns whether the index of a row's group returns exactly the row's candidates.
 fn answers(with_keys: &RuleIndex, without_keys: &RuleIndex, asked: &Asked) -> bool {
     let (using_keys, code, mods, left, numbers) = *asked;
     let index = if using_keys { with_keys } else { without_keys };
@@ -113,7 +115,8 @@ fn answers(with_keys: &RuleIndex, without_keys: &RuleIndex, asked: &Asked) -> bo
     candidates.next().is_none()
 }
 
-/// A file with what is looked up, where there are not too many stores, elements and records.
+/// Returns a file with its indexes. Errors: `Memory` if the file has too many stores, elements or records, or if an allocation
+/// fails.
 fn keyboard_of<'a>(alloc: Global, file: FileTables<'a>) -> Result<IndexedKeyboard<'a>, Memory> {
     let has_few_stores = file.store_count() as usize <= STORES;
     let has_few_elements = file
@@ -128,7 +131,7 @@ fn keyboard_of<'a>(alloc: Global, file: FileTables<'a>) -> Result<IndexedKeyboar
     Err(Memory)
 }
 
-/// Whether a store has these elements, and none behind them.
+/// Returns whether a store has these elements, and none after them.
 fn has_elements(keyboard: &IndexedKeyboard<'_>, store: u32, elements: &[Element]) -> bool {
     for place in 0..4usize {
         if keyboard.element_at(store, place) != elements.get(place).copied() {
@@ -138,7 +141,7 @@ fn has_elements(keyboard: &IndexedKeyboard<'_>, store: u32, elements: &[Element]
     true
 }
 
-/// Whether each store has its elements, and none behind them.
+/// Returns whether each store has its elements, and none after them.
 fn has_contents(keyboard: &IndexedKeyboard<'_>) -> bool {
     for (store, elements) in (0u32..).zip(CONTENTS) {
         if !has_elements(keyboard, store, elements) {
@@ -148,7 +151,7 @@ fn has_contents(keyboard: &IndexedKeyboard<'_>) -> bool {
     true
 }
 
-/// The elements of a text.
+/// Returns the elements of a text.
 fn elements_of(alloc: Global, text: &str) -> Result<Vec<Element>, Memory> {
     let mut elements = Vec::new(alloc);
     for c in text.chars() {
@@ -157,7 +160,7 @@ fn elements_of(alloc: Global, text: &str) -> Result<Vec<Element>, Memory> {
     Ok(elements)
 }
 
-/// Whether a store has the elements of a text.
+/// Returns whether a store has the elements of a text.
 fn has_text(
     alloc: Global,
     keyboard: &IndexedKeyboard<'_>,
@@ -167,7 +170,7 @@ fn has_text(
     Ok(keyboard.stated(store) == elements_of(alloc, text)?.as_slice())
 }
 
-/// Whether the layer and the platform are the stores behind the six, and none stands behind them.
+/// Returns whether the layer and the platform are the two stores after the six, and there are no more stores.
 fn has_system_options(keyboard: &IndexedKeyboard<'_>) -> bool {
     keyboard.store_count() == 8
         && keyboard.layer() == 6
@@ -176,7 +179,7 @@ fn has_system_options(keyboard: &IndexedKeyboard<'_>) -> bool {
         && keyboard.element_at(7, 31).is_none()
 }
 
-/// Whether just these of eight stores have the truth.
+/// Returns whether exactly these of eight stores have the truth value `true`.
 fn are_true(truths: &[bool], wanted: &[u32]) -> bool {
     for (store, truth) in (0u32..).zip(truths) {
         if *truth != wanted.contains(&store) {
@@ -186,7 +189,7 @@ fn are_true(truths: &[bool], wanted: &[u32]) -> bool {
     truths.len() == 8
 }
 
-/// Whether a platform has each word of just the stores that it should.
+/// Returns whether the stores whose words are all words of a platform are exactly these.
 fn has_truths(
     alloc: Global,
     keyboard: &IndexedKeyboard<'_>,
@@ -199,7 +202,7 @@ fn has_truths(
     Ok(are_true(truths.as_slice(), wanted))
 }
 
-/// Whether a store has the same elements as those that it should, and as no other.
+/// Returns whether a store has the same elements as exactly the stores for which `ALIKE` has `first`.
 fn is_alike(keyboard: &IndexedKeyboard<'_>, store: u32, first: u32) -> bool {
     for (other, first_of_other) in (0u32..).zip(ALIKE) {
         if keyboard.same_elements(store, other) != (*first_of_other == first) {
@@ -209,7 +212,7 @@ fn is_alike(keyboard: &IndexedKeyboard<'_>, store: u32, first: u32) -> bool {
     true
 }
 
-/// Whether of each two stores those have the same elements that should.
+/// Returns whether two stores have the same elements exactly when `ALIKE` has the same store for both.
 fn are_alike(keyboard: &IndexedKeyboard<'_>) -> bool {
     for (store, first) in (0u32..).zip(ALIKE) {
         if !is_alike(keyboard, store, *first) {
@@ -219,7 +222,7 @@ fn are_alike(keyboard: &IndexedKeyboard<'_>) -> bool {
     true
 }
 
-/// Whether rows are of these stores and places.
+/// Returns whether rows have exactly these stores and positions, in order.
 fn are_rows(rows: &[Holding], wanted: &[(u16, u16)]) -> bool {
     for (row, pair) in rows.iter().zip(wanted) {
         if (row.store, row.place) != *pair {
@@ -229,7 +232,7 @@ fn are_rows(rows: &[Holding], wanted: &[(u16, u16)]) -> bool {
     rows.len() == wanted.len()
 }
 
-/// Whether the candidates of each row are those that it has.
+/// Returns whether the indexes return exactly the candidates of each row.
 fn all_answer(with_keys: &RuleIndex, without_keys: &RuleIndex) -> bool {
     for asked in CANDIDATES {
         if !answers(with_keys, without_keys, asked) {
@@ -239,7 +242,7 @@ fn all_answer(with_keys: &RuleIndex, without_keys: &RuleIndex) -> bool {
     true
 }
 
-/// Whether both groups have their candidates.
+/// Returns whether both groups have their candidates.
 fn has_candidates(alloc: Global) -> Result<bool, Memory> {
     let file = FileTables::of(FILE);
     let with_keys = index_of(alloc, &file, 0)?;
@@ -253,7 +256,7 @@ fn candidates_of_a_press(rt: HostRuntime) -> Result<(), Fail> {
     Ok(())
 }
 
-/// Whether the contexts have these counts of items.
+/// Returns whether the contexts have the expected counts of items.
 fn has_counts(index: &RuleIndex) -> bool {
     for (number, count) in (0u32..).zip(&[0, 1, 1, 2, 1, 1, 0]) {
         if index.pattern_count(number) != *count {
@@ -263,7 +266,7 @@ fn has_counts(index: &RuleIndex) -> bool {
     true
 }
 
-/// Whether the contexts of the first group are those that it should have.
+/// Returns whether the contexts of the first group are the expected ones.
 fn has_contexts(alloc: Global) -> Result<bool, Memory> {
     let index = index_of(alloc, &FileTables::of(FILE), 0)?;
     Ok(
@@ -280,7 +283,7 @@ fn contexts_of_records(rt: HostRuntime) -> Result<(), Fail> {
     Ok(())
 }
 
-/// Whether the first file has its options and own keys.
+/// Returns whether the first file has its options and custom keys.
 fn has_own_keys(alloc: Global) -> Result<bool, Memory> {
     let keyboard = keyboard_of(alloc, FileTables::of(FILE))?;
     Ok(
@@ -297,7 +300,7 @@ fn options_and_own_keys_of_a_file(rt: HostRuntime) -> Result<(), Fail> {
     Ok(())
 }
 
-/// Whether each item has its holders.
+/// Returns whether each item is in exactly its stores.
 fn are_held(keyboard: &IndexedKeyboard<'_>) -> bool {
     for (item, rows) in HOLDERS {
         if !are_rows(keyboard.holders(*item), rows) {
@@ -307,7 +310,7 @@ fn are_held(keyboard: &IndexedKeyboard<'_>) -> bool {
     true
 }
 
-/// Whether items have their first places in stores.
+/// Returns whether items have the expected first positions in stores.
 fn has_places(keyboard: &IndexedKeyboard<'_>) -> bool {
     keyboard.place_of(0, Char('a')) == Some(0)
         && keyboard.place_of(3, Char('a')) == Some(1)
@@ -316,7 +319,7 @@ fn has_places(keyboard: &IndexedKeyboard<'_>) -> bool {
         && keyboard.place_of(8, Char('a')).is_none()
 }
 
-/// Whether the six stores have what they should, and which are alike.
+/// Returns whether the six stores have their elements, and exactly the expected stores are equal.
 fn has_stores(alloc: Global) -> Result<bool, Memory> {
     let keyboard = keyboard_of(alloc, FileTables::of(STORES_FILE))?;
     Ok(
@@ -333,7 +336,7 @@ fn stores_of_a_file(rt: HostRuntime) -> Result<(), Fail> {
     Ok(())
 }
 
-/// The first store of a system option, by its text, that has other elements.
+/// Returns the expected text of the first system option that has other elements, if any.
 fn wrong_option(
     alloc: Global,
     keyboard: &IndexedKeyboard<'_>,
@@ -346,7 +349,7 @@ fn wrong_option(
     Ok(None)
 }
 
-/// The first platform that has other words.
+/// Returns the first platform for which the wrong stores are found, if any.
 fn wrong_platform(
     alloc: Global,
     keyboard: &IndexedKeyboard<'_>,
@@ -359,7 +362,7 @@ fn wrong_platform(
     Ok(None)
 }
 
-/// What is wrong with the system options behind the six stores.
+/// Returns what is wrong with the system options after the six stores, if anything.
 fn wrong_of_options(alloc: Global) -> Result<Option<&'static str>, Fail> {
     let keyboard = keyboard_of(alloc, FileTables::of(STORES_FILE))?;
     if !has_system_options(&keyboard) {

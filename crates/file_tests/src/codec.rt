@@ -1,7 +1,7 @@
-//! Bytes and what they give, and each item as its bytes.
+//! Bytes and the items that they decode to, and each item as its bytes.
 
+use item_codec::{BadUnits, UnitItem, items_of, spell};
 use kmn_base::{Memory, Seq};
-use kmx_format::{BadUnits, UnitItem, items_of, spell};
 use source_tests::fixtures::parted;
 use std::alloc::{AllocError, Global};
 use std::fmt::Write;
@@ -14,7 +14,7 @@ ff ff 06 00 ff ff 07 00 ff ff 08 00 09 01 ff ff 0a 00 10 40 41 00 10 00 ff ff 11
 ff ff 13 00 06 00 07 00 ff ff 14 00 06 00 02 00 07 00 ff ff 15 00 fe ff ff ff 16 00 08 00 \
 ff ff 17 00 22 00 02 00 07 00 ff ff 17 00 20 00 01 00 fe ff ff ff 18 00 22 00 07 00";
 
-/// What a walk over them gives.
+/// The items of `EVERY_KIND`, as text.
 const KINDS: &str = "\
 Char('😀') Any(2) Index(3, 4) Context Nul Enter(1) Stop Beep Dead(265) Key(16400, 65) ContextAt(2) NotAny(5) Set(6, 7) \
 Test(6, 2, 7) Save(65534) Reset(8) SystemTest(34, 2, 7) SystemTest(32, 1, 65534) SetSystem(34, 7)";
@@ -42,7 +42,7 @@ const ITEMS: &[UnitItem] = &[
     UnitItem::SetSystem(34, 7),
 ];
 
-/// On each line bytes and, behind ` ⇒ `, what a walk over them gives: items, and the kind, the place and the code of a fault.
+/// Each line has bytes and, after ` ⇒ `, the result of decoding them: items, and the kind, the byte offset and the code of the fault.
 const FAULTS: &str = "\
 ff ff 03 00 61 00 ff ff 14 00 01 00 03 00 02 00 61 00 ⇒ Context Char('a') U5 at 6 code 0
 ff ff 0a 00 00 40 41 00 11 00 ⇒ U4 at 0 code 0
@@ -57,14 +57,14 @@ ff ff 18 00 22 00 ⇒ U3 at 0 code 0
 ff ff 18 00 22 00 01 ⇒ U6 at 0 code 0
 ff ff 19 00 ⇒ U2 at 0 code 25";
 
-/// The byte of a hexadecimal number.
+/// Returns the byte of a hexadecimal number.
 fn byte_of(word: &str) -> Result<u8, &'static str> {
     u8::from_str_radix(word, 16)
         .ok()
         .ok_or("a number that is no byte")
 }
 
-/// The bytes of a text of hexadecimal numbers.
+/// Returns the bytes of a text of hexadecimal numbers.
 fn bytes_of(alloc: Global, text: &str) -> Result<Vec<u8>, Fail> {
     let mut bytes = Vec::new(alloc);
     for word in text.split_whitespace() {
@@ -81,7 +81,7 @@ fn write_result(out: &mut String, given: Result<UnitItem, BadUnits>) -> Result<(
     }
 }
 
-/// Appends what a walk over bytes gives.
+/// Appends the results of decoding the first 256 bytes.
 fn write_walk(out: &mut String, bytes: &[u8]) -> Result<(), AllocError> {
     for result in items_of(&bytes[..bytes.len().min(256)]) {
         write_result(out, result)?;
@@ -89,21 +89,21 @@ fn write_walk(out: &mut String, bytes: &[u8]) -> Result<(), AllocError> {
     Ok(())
 }
 
-/// Whether a walk over bytes gives what is wanted.
+/// Returns whether decoding bytes has the expected results.
 fn is_walked(alloc: Global, bytes: &[u8], wanted: &str) -> Result<bool, AllocError> {
     let mut out = String::new(alloc);
     write_walk(&mut out, bytes)?;
     Ok(out.as_str().strip_prefix(' ') == Some(wanted))
 }
 
-/// Whether a walk over a row's bytes gives what the row wants.
+/// Returns whether decoding a row's bytes has the row's results.
 fn is_row_walked(alloc: Global, row: &str) -> Result<bool, Fail> {
     let (bytes, wanted) = parted(row)?;
     let bytes = bytes_of(alloc, bytes)?;
     Ok(is_walked(alloc, bytes.as_slice(), wanted)?)
 }
 
-/// Spells an item of each kind.
+/// Appends the bytes of an item of each kind.
 fn spell_items(out: &mut Seq<u8>) -> Result<(), Memory> {
     for item in ITEMS {
         spell(out, *item)?;
@@ -111,7 +111,7 @@ fn spell_items(out: &mut Seq<u8>) -> Result<(), Memory> {
     Ok(())
 }
 
-/// Whether bytes give an item of each kind, and these are spelled as the bytes.
+/// Returns whether the bytes decode to an item of each kind, and these items encode to the same bytes.
 fn are_spelled(alloc: Global) -> Result<bool, Fail> {
     let bytes = bytes_of(alloc, EVERY_KIND)?;
     let mut spelled = Seq::new(alloc);

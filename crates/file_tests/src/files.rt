@@ -1,6 +1,6 @@
-//! Files as rows of tables state them, by changes. `two` begins with the file of two keys, `layer` with that of a condition on
-//! the layer, `sets` with that of sets of it, else the file is that of one rule. `<` cuts it to a length, `@` goes to a place,
-//! and hexadecimal digits are the bytes from there on.
+//! Files that table rows describe as changes. `two` starts from the file of two keys, `layer` from the file with a condition on the
+//! layer, `sets` from the file that sets the layer, and any other row from the file of one rule. `<` truncates the file to a
+//! length, `@` moves to a byte offset, and hexadecimal digits are the bytes from there on.
 
 use crate::fixtures::{ON_LAYER, SETS_LAYER, TWO_KEYS};
 use compile_tests::fixtures::ONE_RULE;
@@ -8,7 +8,7 @@ use std::alloc::{AllocError, Global};
 use std::str;
 use std::test::Fail;
 
-/// Puts a byte at a place, behind the last one where the place is past it.
+/// Replaces the byte at an offset, or appends it if the offset is not before the end of the file.
 fn put(file: &mut Vec<u8>, place: usize, byte: u8) -> Result<(), AllocError> {
     match file.get_mut(place) {
         Some(there) => {
@@ -22,7 +22,7 @@ fn put(file: &mut Vec<u8>, place: usize, byte: u8) -> Result<(), AllocError> {
     }
 }
 
-/// The byte of two hexadecimal digits.
+/// Returns the byte of two hexadecimal digits.
 fn byte_of(digits: &[u8]) -> Result<u8, &'static str> {
     let text = str::from_utf8(digits).unwrap_or("");
     u8::from_str_radix(text, 16)
@@ -30,7 +30,7 @@ fn byte_of(digits: &[u8]) -> Result<u8, &'static str> {
         .ok_or("digits that are no byte")
 }
 
-/// Puts the bytes of hexadecimal digits from a place on; answers the place behind them.
+/// Writes the bytes of hexadecimal digits from an offset on, and returns the offset after them.
 fn put_digits(file: &mut Vec<u8>, place: usize, digits: &str) -> Result<usize, Fail> {
     let mut place = place;
     for pair in digits.as_bytes().chunks(2) {
@@ -40,14 +40,14 @@ fn put_digits(file: &mut Vec<u8>, place: usize, digits: &str) -> Result<usize, F
     Ok(place)
 }
 
-/// A number of a row.
+/// Returns a number of a row.
 fn number(text: &str) -> Result<usize, &'static str> {
     text.parse::<usize>()
         .ok()
         .ok_or("a number that is no number")
 }
 
-/// The file that a word begins with.
+/// Returns the file that a word names, if it names one.
 fn named(word: &str) -> Option<&'static [u8]> {
     match word {
         "two" => Some(&TWO_KEYS),
@@ -57,7 +57,7 @@ fn named(word: &str) -> Option<&'static [u8]> {
     }
 }
 
-/// Makes the change of a word at a place; answers the place behind it.
+/// Makes the change of a word at an offset, and returns the offset for the next word.
 fn change(file: &mut Vec<u8>, place: usize, word: &str) -> Result<usize, Fail> {
     if let Some(bytes) = named(word) {
         file.clear();
@@ -74,7 +74,7 @@ fn change(file: &mut Vec<u8>, place: usize, word: &str) -> Result<usize, Fail> {
     }
 }
 
-/// The file that changes state.
+/// Returns the file that changes describe.
 pub fn changed(alloc: Global, changes: &str) -> Result<Vec<u8>, Fail> {
     let mut file = Vec::from_slice(alloc, &ONE_RULE)?;
     let mut place = 0;

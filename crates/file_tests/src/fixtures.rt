@@ -1,4 +1,4 @@
-//! What several tests take: three files, and a rule.
+//! What several tests use: three files, and a rule.
 
 ghost use Rattle.std.specs.Prelude.{◌≡◌, IfOk};
 ghost use Rattle.kmx_format.specs.WorkedFiles.{plain_rule};
@@ -7,7 +7,7 @@ use kmn_base::{Memory, RuleKey, Seq};
 use rule_model::{Out, Rule};
 use std::alloc::Global;
 
-/// The file of a store k of two virtual keys, a store o of x and y, and a record for each key: `two_keys_bytes` of `WorkedFiles` in
+/// The file with a store k of two virtual keys, a store o of x and y, and a record for each key: `two_keys_bytes` of `WorkedFiles` in
 /// `kmx_format`.
 pub const TWO_KEYS: [u8; 206] = [
     0x4B, 0x58, 0x54, 0x53, 0x00, 0x0A, 0x00, 0x00, 0, 0, 0, 0, 0, 0, 0, 0, 0, 0, 0, 0, 0, 0, 0, 0,
@@ -21,7 +21,7 @@ pub const TWO_KEYS: [u8; 206] = [
     0, 0,
 ];
 
-/// The file of a rule that holds on the layer `s`: a store of the value, and a record whose context is that condition.
+/// The file of a rule with a condition on the layer `s`: a store with the value, and a record whose context is this condition.
 pub const ON_LAYER: [u8; 150] = [
     0x4B, 0x58, 0x54, 0x53, 0, 0x0A, 0, 0, 0, 0, 0, 0, 0, 0, 0, 0, 0, 0, 0, 0, 0, 0, 0, 0, 1, 0, 0,
     0, 1, 0, 0, 0, 0x40, 0, 0, 0, 0x4C, 0, 0, 0, 0xFF, 0xFF, 0xFF, 0xFF, 0, 0, 0, 0, 0, 0, 0, 0, 0,
@@ -31,7 +31,7 @@ pub const ON_LAYER: [u8; 150] = [
     0xFF, 0x17, 0, 0x22, 0, 2, 0, 1, 0, 0, 0, 0x62, 0, 0, 0,
 ];
 
-/// A file that sets the layer to `s` in the output of its one record and, by an offset word before that record, behind a match.
+/// A file that sets the layer to `s` in the output of its one record and in the match output, whose offset precedes that record.
 pub const SETS_LAYER: [u8; 154] = [
     0x4B, 0x58, 0x54, 0x53, 0, 0x0A, 0, 0, 0, 0, 0, 0, 0, 0, 0, 0, 0, 0, 0, 0, 0, 0, 0, 0, 1, 0, 0,
     0, 1, 0, 0, 0, 0x40, 0, 0, 0, 0x4C, 0, 0, 0, 0xFF, 0xFF, 0xFF, 0xFF, 0, 0, 0, 0, 0, 0, 0, 0, 0,
@@ -41,7 +41,7 @@ pub const SETS_LAYER: [u8; 154] = [
     0x18, 0, 0x22, 0, 1, 0, 0, 0, 0xFF, 0xFF, 0x18, 0, 0x22, 0, 1, 0, 0, 0,
 ];
 
-/// A rule without context that gives one character.
+/// Returns a rule without context that outputs one character.
 pub fn rule(alloc: Global, line: u32, key: RuleKey, c: char) -> Result<Rule, Memory>
     ensures { IfOk result (λ rule. rule ≡ plain_rule line key c) }
 {

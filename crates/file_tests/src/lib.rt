@@ -1,10 +1,10 @@
-//! The tests of the crates that write and open files and of those below them: `codec` of `kmx_format`, `views` and
-//! `parts` of `kmx_parts`, `candidates` of `rule_index`, `writing` of `kmn_compiler`, `verifying` of `kmx_verifier`, `sources` of
-//! `kmx_decompiler`, which makes its texts by `decompile_text`, and `exporting` of `core_export`.
+//! Tests the crates that write and read files: `codec` tests `item_codec`, `views` tests `kmx_view`, `parts` tests `kmx_parts`,
+//! `candidates` tests `rule_index`, `writing` tests `kmx_writer`, `verifying` tests `kmx_verifier`, `sources` tests `kmx_decompiler`,
+//! which writes its texts with `decompile_text`, and `exporting` tests `core_export`.
 //!
-//! They stand here because a crate with tests is proved twice, once with them and once without: so each of those crates is
-//! proved once, and the tests are proved over them. `files` has the files of rows, and `fixtures`
-//! what several of them take. No layer stands above.
+//! The tests are in a separate crate because a crate with tests is proved twice, once with its tests and once without. So each of
+//! the tested crates is proved once, and the tests are proved after it. `files` builds the files that table rows describe, and
+//! `fixtures` contains what several tests use. No crate depends on this one.
 #![tactic(auto)]
 
 #[cfg(test)]

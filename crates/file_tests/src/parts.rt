@@ -1,4 +1,4 @@
-//! The tables of a file, read where they lie.
+//! The tables of a file, read in place.
 
 use crate::fixtures::{ON_LAYER, SETS_LAYER};
 use compile_tests::fixtures::ONE_RULE;
@@ -8,8 +8,8 @@ use rule_model::{Out, Pat};
 use std::alloc::Global;
 use std::test::Fail;
 
-/// The bytes of one store `v` of the system id 9, whose string has an `a`, a `nul`, the first deadkey, a code that no
-/// item has, and a `b`.
+/// A file with one store `v` of system id 9. The string of the store has an `a`, a `nul`, the first deadkey, a code that no item
+/// has, and a `b`.
 const ONE_STORE: [u8; 100] = [
     0x4B, 0x58, 0x54, 0x53, 0x00, 0x0A, 0x00, 0x00, 0, 0, 0, 0, 0, 0, 0, 0, 0, 0, 0, 0, 0, 0, 0, 0,
     1, 0, 0, 0, 0, 0, 0, 0, 0x40, 0, 0, 0, 0, 0, 0, 0, 0, 0, 0, 0, 0, 0, 0, 0, 0, 0, 0, 0, 0, 0, 0,
@@ -17,7 +17,7 @@ const ONE_STORE: [u8; 100] = [
     0xFF, 0xFF, 4, 0, 0xFF, 0xFF, 8, 0, 1, 0, 0xFF, 0xFF, 9, 0, 0x62, 0, 0, 0,
 ];
 
-/// Whether the file has the numbers and counts of the one rule.
+/// Returns whether the file has the numbers and counts of the file of one rule.
 fn has_numbers(file: &FileTables<'_>) -> bool {
     file.version() == 0x0A00
         && file.start_unicode() == 0
@@ -30,7 +30,7 @@ fn has_numbers(file: &FileTables<'_>) -> bool {
         && file.group(1).is_none()
 }
 
-/// Whether the group has the one rule, and puts nothing else.
+/// Returns whether the group has exactly the one rule, and no match or nomatch output.
 fn has_rule(group: &FileGroup<'_>) -> bool {
     let Some(rule) = group.rules().next() else {
         return false;
@@ -50,7 +50,8 @@ fn has_rule(group: &FileGroup<'_>) -> bool {
         && group.on_nomatch().next().is_none()
 }
 
-/// Whether the store has what may stand in one before the first place at which no item stands.
+/// Returns whether the store has the elements before the code that no item has. The `nul` is not allowed in a store, so it is not
+/// an element.
 fn has_elements(store: &FileStore<'_>) -> bool {
     let mut elements = store.elements();
     store.system() == 9
@@ -60,7 +61,7 @@ fn has_elements(store: &FileStore<'_>) -> bool {
         && elements.next().is_none()
 }
 
-/// Whether the first group is called `main` and has the one rule.
+/// Returns whether the first group is called `main` and has the one rule.
 fn has_group(alloc: Global, file: &FileTables<'_>) -> Result<bool, Memory> {
     let Some(group) = file.groups().next() else {
         return Ok(false);
@@ -69,7 +70,7 @@ fn has_group(alloc: Global, file: &FileTables<'_>) -> Result<bool, Memory> {
     Ok(name.as_slice() == b"main".as_slice() && has_rule(&group))
 }
 
-/// Whether the first store is called `v` and has the elements.
+/// Returns whether the first store is called `v` and has the elements.
 fn has_store(alloc: Global, file: &FileTables<'_>) -> Result<bool, Memory> {
     let Some(store) = file.store(0) else {
         return Ok(false);
@@ -78,7 +79,7 @@ fn has_store(alloc: Global, file: &FileTables<'_>) -> Result<bool, Memory> {
     Ok(name.as_slice() == b"v".as_slice() && has_elements(&store))
 }
 
-/// The first record of a file.
+/// Returns the first record of a file, if any.
 fn first_record<'a>(file: &FileTables<'a>) -> Option<FileRule<'a>> {
     match file.group(0) {
         Some(group) => group.rule(0),
@@ -86,7 +87,7 @@ fn first_record<'a>(file: &FileTables<'a>) -> Option<FileRule<'a>> {
     }
 }
 
-/// Whether the first record of a file holds on the layer of the first store, and looks at nothing else.
+/// Returns whether the context of a file's first record is only the condition that the layer equals the first store.
 fn looks_at_layer(file: &FileTables<'_>) -> bool {
     let Some(rule) = first_record(file) else {
         return false;
@@ -99,7 +100,7 @@ fn looks_at_layer(file: &FileTables<'_>) -> bool {
         && items.next().is_none()
 }
 
-/// Whether the first record of a file sets the layer to the first store, and does nothing else.
+/// Returns whether the first record of a file only sets the layer to the first store.
 fn sets_layer(file: &FileTables<'_>) -> bool {
     let Some(rule) = first_record(file) else {
         return false;

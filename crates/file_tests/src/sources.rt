@@ -1,4 +1,4 @@
-//! The sources of files, and why some have none.
+//! The sources that files decompile to, and why some files are refused.
 
 use crate::files::changed;
 use kmn_base::Seq;
@@ -10,12 +10,12 @@ use std::fmt::Write;
 use std::str;
 use std::test::Fail;
 
-/// On each line a file as `changed` reads it and, behind ` ⇒ `, its source, in which `¶` is a line feed and `@` stands for the
-/// first three lines of each; or why it has none. The files are that of one rule; that with the output of the deadkey 5,001;
-/// one of two records of the key `c`, of which the second has a context, `a`, and the first has none; that of a condition on
-/// the layer; that where it is one on the platform, for unequal; one that sets the layer; that of one rule with a store of
-/// cased keys, which has the key `[K_A]`; two that hold on a layer whose name has both kinds of quote, and a deadkey; and one
-/// that sets the layer to what ends a line.
+/// Each line has a file as `changed` reads it and, after ` ⇒ `, its source, in which `¶` is a line feed and `@` is `HEAD`, or the
+/// refusal. The files, in order: the file of one rule; the same file with the deadkey 5,001 as output; a file with two records
+/// for the key `c`, of which the first has no context and the second has the context `a`; the file with a condition on the layer;
+/// the same file with the condition that the platform does not equal the value; the file that sets the layer; the file of one rule
+/// with a store of cased keys that contains the key `[K_A]`; two files with a condition on the layer, whose value contains both
+/// kinds of quote, or a deadkey; and a file that sets the layer to a line feed.
 const SOURCES: &str = r##" ⇒ @+ U+0061 > U+0062¶
 @118 FFFF080089130000 ⇒ refused X2 at 100
 @64 80 @80 02 @88 63 @100 8A @108 63000000040000 @118 00008E000000920000006D00610069006E000000780000007900000061000000 ⇒ refused X1 group 0 rule 1
@@ -27,10 +27,10 @@ layer @76 7E @112 94 @116 88 @120 2200270000006D00610069006E000000FFFF1700220002
 layer @76 80 @112 96 @116 8A @120 FFFF0800010000006D00610069006E000000FFFF17002200020001 @150 62000000 ⇒ refused X2 at 116
 sets @120 0A ⇒ refused X2 at 84"##;
 
-/// The first lines of a source.
+/// The first lines of each source.
 const HEAD: &str = "store(&version) \"10.0\"\nbegin Unicode > use(main)\ngroup(main) using keys\n";
 
-/// A file with two deadkeys, a store that is left away, and one whose name is kept.
+/// A file with two deadkeys, a store that its source omits, and a store whose name its source keeps.
 const TWO_RECORDS: &str =
     "two @24 03 @36 64 @68 A4 @72 A8 @80 B0 @88 00 @92 BC @96 C2 @100 C8 @104 7C @108 00 @112 00 @116 02 @120 \
     0100000062 @128 07 @132 00 @136 E6 @140 D200000062 @148 06 @152 00 @156 \
@@ -41,7 +41,7 @@ const TWO_TEXT: &str =
     "store(&version) \"10.0\"\nstore(s2) dk(1) dk(2)\nstore(k2) U+0069 U+0062\nbegin Unicode > use(main)\n\
     group(main) using keys\nnotany(k2) dk(1) dk(2) + U+0062 > U+0062 U+0062\n+ U+0062 > U+0062 U+0069\n";
 
-/// Appends a source, or why there is none.
+/// Appends a source, or the error.
 fn put_answer(out: &mut String, answer: Result<Seq<u8>, DecompileError>) -> Result<(), AllocError> {
     match answer {
         Ok(source) => out.push_str(str::from_utf8(source.as_slice()).unwrap_or("?")),
@@ -49,13 +49,13 @@ fn put_answer(out: &mut String, answer: Result<Seq<u8>, DecompileError>) -> Resu
     }
 }
 
-/// Appends the source of a valid file, or why it has none.
+/// Appends the source of a valid file, or the error of decompiling it.
 fn write_source(alloc: Global, out: &mut String, bytes: &[u8]) -> Result<(), Fail> {
     let file = verify(alloc, bytes)?;
     Ok(put_answer(out, decompile(alloc, &file))?)
 }
 
-/// The source of the file that changes state, or why it has none.
+/// Returns the source of the file that changes describe, or the error of decompiling it, as text.
 fn source_of(alloc: Global, changes: &str) -> Result<String, Fail> {
     let bytes = changed(alloc, changes)?;
     let mut out = String::new(alloc);
@@ -63,7 +63,7 @@ fn source_of(alloc: Global, changes: &str) -> Result<String, Fail> {
     Ok(out)
 }
 
-/// What a row wants, with its signs written out.
+/// Returns the expected text of a row, with `¶` and `@` replaced.
 fn wanted_of(alloc: Global, text: &str) -> Result<String, AllocError> {
     let mut out = String::new(alloc);
     for c in text.chars() {
@@ -76,14 +76,14 @@ fn wanted_of(alloc: Global, text: &str) -> Result<String, AllocError> {
     Ok(out)
 }
 
-/// Whether a row's file has the source that the row wants, or has none for its reason.
+/// Returns whether a row's file has the source or the refusal that the row expects.
 fn is_right(alloc: Global, row: &str) -> Result<bool, Fail> {
     let (changes, text) = parted(row)?;
     let wanted = wanted_of(alloc, text)?;
     Ok(source_of(alloc, changes)?.as_str() == wanted.as_str())
 }
 
-/// Whether the file of two records has its source.
+/// Returns whether the file of two records has its source.
 fn has_two_records(alloc: Global) -> Result<bool, Fail> {
     Ok(source_of(alloc, TWO_RECORDS)?.as_str() == TWO_TEXT)
 }

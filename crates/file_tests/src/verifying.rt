@@ -1,4 +1,4 @@
-//! Files and what verifying them gives.
+//! Files and the results of verifying them.
 
 use crate::files::changed;
 use crate::fixtures::TWO_KEYS;
@@ -9,8 +9,8 @@ use source_tests::fixtures::parted;
 use std::alloc::{AllocError, Global};
 use std::test::Fail;
 
-/// On each line a file as `changed` reads it and, behind ` ⇒ `, what verifying it gives. Of a valid file its version and its
-/// counts are given.
+/// Each line has a file as `changed` reads it and, after ` ⇒ `, the result of verifying it. The result of a valid file has its
+/// version and its counts of stores, groups and rules.
 const CHANGES: &str = " ⇒ valid 0A00 0 1 1
 <63 ⇒ V01 at 63 unit 00
 <120 ⇒ V10 at 100 unit 00
@@ -93,7 +93,7 @@ layer @112 96 @150 FFFF 1100 0100 0000 ⇒ V13 at 150 unit 00
 layer @112 A8 @116 96 @150 FFFF 1700 2200 0200 0100 FFFF 0100 0100 0000 FFFF 0200 0100 0200 0000 ⇒ valid 0A00 1 1 1
 layer @112 A8 @116 96 @150 FFFF 1700 2200 0200 0100 FFFF 0100 0100 0000 FFFF 0200 0100 0100 0000 ⇒ V13 at 168 unit 00";
 
-/// What verifying bytes gives, as text.
+/// Returns the result of verifying bytes, as text.
 fn given(alloc: Global, bytes: &[u8]) -> Result<String, AllocError> {
     match verify(alloc, bytes) {
         Ok(file) => format!(in alloc;
@@ -110,14 +110,14 @@ fn given(alloc: Global, bytes: &[u8]) -> Result<String, AllocError> {
     }
 }
 
-/// Whether verifying a changed file gives what its line says.
+/// Returns whether verifying a line's file has the line's result.
 fn is_right(alloc: Global, line: &str) -> Result<bool, Fail> {
     let (changes, wanted) = parted(line)?;
     let file = changed(alloc, changes)?;
     Ok(given(alloc, file.as_slice())?.as_str() == wanted)
 }
 
-/// Whether a record of the file of two keys puts this character, for A with these flags.
+/// Returns whether a record of the file of two keys outputs this character, for the key A with these flags.
 fn is_record(rule: &Rule, flags: u32, put: char) -> bool {
     let code = 0x41;
     rule.line == 5
@@ -125,7 +125,7 @@ fn is_record(rule: &Rule, flags: u32, put: char) -> bool {
         && rule.output.as_slice() == [Out::Char(put)].as_slice()
 }
 
-/// Whether the groups of the file of two keys are one group with its two records.
+/// Returns whether the groups of the file of two keys are one group with its two records.
 fn are_groups(groups: &[Group]) -> bool {
     let [group] = groups else {
         return false;
@@ -136,7 +136,7 @@ fn are_groups(groups: &[Group]) -> bool {
     }
 }
 
-/// Whether the tables of the file of two keys are what it says.
+/// Returns whether the verified file of two keys has its bytes and its tables.
 fn has_tables(alloc: Global) -> Result<bool, Fail> {
     let file = verify(alloc, &TWO_KEYS)?;
     let tables = file.copied_tables(alloc)?;
@@ -149,7 +149,7 @@ fn has_tables(alloc: Global) -> Result<bool, Fail> {
     )
 }
 
-/// Whether errors are printed as they should be.
+/// Returns whether errors print the expected texts.
 fn are_printed(alloc: Global) -> Result<bool, Fail> {
     let fault = Fault {
         code: Code::V10,

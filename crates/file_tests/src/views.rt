@@ -1,7 +1,7 @@
-//! The parts of a file by place.
+//! The parts of a file, read by byte offset and by index.
 
 use compile_tests::fixtures::ONE_RULE;
-use kmx_parts::{GroupRef, KmxView, RuleRef};
+use kmx_view::{GroupRef, KmxView, RuleRef};
 use std::test::Fail;
 
 const GROUP: GroupRef = GroupRef {
@@ -21,7 +21,7 @@ const RULE: RuleRef = RuleRef {
     context: 0,
 };
 
-/// Whether the file has its words and strings, and none behind its end.
+/// Returns whether the file has its words and strings, and none past its end.
 fn has_words(view: KmxView<'_>) -> bool {
     view.word(0) == Some(0x5354_584B)
         && view.word(118) == Some(0x62)
@@ -33,7 +33,7 @@ fn has_words(view: KmxView<'_>) -> bool {
         && view.string(u32::MAX).is_none()
 }
 
-/// Whether the file has its one group and rule, and no other.
+/// Returns whether the file has its one group and rule, and no other group, rule or store.
 fn has_records(view: KmxView<'_>) -> bool {
     view.store(0).is_none()
         && view.group(0) == Some(GROUP)

@@ -1,4 +1,4 @@
-//! The two worked files, each from its tables.
+//! The two worked files, each written from its tables.
 
 ghost use Rattle.std.specs.Prelude.{◌≡◌, ◌∷◌, [], IfOk};
 ghost use Rattle.kmn_base.specs.declared.keys.RuleKey.TheVariants as key;
@@ -7,12 +7,12 @@ ghost use Rattle.kmx_format.specs.WorkedFiles.{one_rule, plain_rule, two_keys};
 use crate::fixtures::{TWO_KEYS, rule};
 use compile_tests::fixtures::{ONE_RULE, tables};
 use kmn_base::{Code, CompileError, Element, Memory, RuleKey, Seq, Text};
-use kmn_compiler::write;
+use kmx_writer::write;
 use rule_model::{Rule, Store, Tables};
 use std::alloc::Global;
 use std::test::Fail;
 
-/// The keys of the second file: A alone, and A with shift.
+/// The keys of the second file: A without modifiers, and A with Shift.
 const KEYS: [Element; 2] = [
     Element::Key {
         flags: 0x4000,
@@ -91,7 +91,7 @@ fn is_file(written: Result<Seq<u8>, CompileError>, wanted: &[u8]) -> bool {
     }
 }
 
-/// Whether the file of one rule has its size with a picture of four bytes, and isn't written with one past the limit.
+/// Returns whether the file of one rule has its size with a bitmap of four bytes, and is refused with a bitmap above the limit.
 fn pictures_are_right(alloc: Global) -> Result<bool, Fail> {
     let file = write_one_rule(alloc, &[0, 1, 2, 3])?;
     let large = vec![in alloc; 0u8; 1_048_577]?;

@@ -11,8 +11,8 @@ use Rattle.kmn_base.specs.declared.items.Item.{Item}
 use Rattle.kmn_base.specs.declared.items.Item.TheVariants as item
 use Rattle.kmn_base.specs.declared.items.Element.{Element}
 use Rattle.kmn_base.specs.declared.items.Element.TheVariants as element
-use Rattle.rule_model.proofs.NamePlaces.{some_place}
-use Rattle.rule_model.proofs.NumberSets.{inserted}
+use Rattle.virtual_keys.proofs.NamePlaces.{some_place}
+use Rattle.virtual_keys.proofs.NumberSets.{inserted}
 use Rattle.rule_model.specs.declared.tables.Store.{Store}
 use Rattle.rule_model.specs.Match.{is_item, item_of, place_of}
 use Rattle.rule_model.specs.Tab.{elements_of}

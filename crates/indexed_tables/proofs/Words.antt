@@ -7,7 +7,7 @@ use Rattle.std.proofs.lemmas.List.Sums.{fails_before_first}
 use Rattle.std.proofs.lemmas.List.Splits.{slice_split_at, slice_split_none}
 use Rattle.std.specs.Prelude.{nat_eq}
 use Rattle.std.specs.List.{All, position, position_or_len, slice_split}
-use Rattle.rule_model.proofs.PositionLemmas.{not_below}
+use Rattle.virtual_keys.proofs.PositionLemmas.{not_below}
 
 -- the first word ends at the first space, and the others are those of the bytes behind it
 pub words_parted : (text : List ℕ) (at : ℕ) → position (nat_eq 32) text ≡ Some at → slice_split (nat_eq 32) text ≡ take at text ∷ slice_split (nat_eq 32) (take (length text - (at + 1)) (drop (at + 1) text))

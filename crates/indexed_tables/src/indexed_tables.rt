@@ -1,5 +1,5 @@
 ghost use Rattle.std.specs.Prelude.{◌≡◌, ◌+◌, ◌-◌, Some, IfOk, if◌then◌else◌, nat_eq, length, option_copied, option_map, slice_get, position};
-ghost use Rattle.rule_model.specs.Dictionary.{name_in};
+ghost use Rattle.virtual_keys.specs.Dictionary.{name_in};
 ghost use Rattle.rule_model.specs.Keyboard.{Numbered};
 ghost use Rattle.rule_model.specs.Content.{option_number, elements_at};
 ghost use Rattle.rule_model.specs.Event.{has_name};
@@ -14,9 +14,10 @@ use crate::own_keys::own_keys;
 use crate::system::{system_elements, system_number};
 use kmn_base::{Element, Memory, Text};
 use rule_model::system::{LAYER, PLATFORM};
-use rule_model::{FIRST_OWN_CODE, Group, Store, Tables, has_name};
+use rule_model::{Group, Store, Tables, has_name};
 use std::alloc::Global;
 use std::marker::Model;
+use virtual_keys::FIRST_OWN_CODE;
 
 /// Tables with what events look up: the option number of each store, and the names of the key dictionary.
 pub struct IndexedTables<'a> {

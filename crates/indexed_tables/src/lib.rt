@@ -1,6 +1,6 @@
-//! The tables of a compiled file with what is looked up in them again and again, and which items their stores have.
+//! The tables of a compiled file with indexes for what is looked up in them often.
 //!
-//! It stands on `kmn_base`, `rule_model` and `indexmap`. The layer above makes `IndexedTables` of `Tables`:
+//! It stands on `kmn_base`, `virtual_keys`, `rule_model` and `indexmap`. The layer above makes `IndexedTables` of `Tables`:
 //! it has once and for all the option number of each store and the names of own keys, and hands out groups and elements as
 //! the tables have them. A layer that asks only which stores some item uses as an option takes a flag for each: `option_flags`
 //! makes them, and `mark_options` sets them where no memory may be taken. A layer that reads a file where it lies counts option

@@ -5,7 +5,7 @@ ghost use Rattle.std.specs.List.{slice_split};
 ghost use Rattle.std.specs.String.{string_bytes};
 ghost use Rattle.kmn_base.specs.Names.{same_name};
 ghost use Rattle.rule_model.specs.Tab.{store_elements, is_dictionary, element_char, words, distinct_onto, tab_dictionary};
-ghost use Rattle.rule_model.specs.Groups.{bytes_behind};
+ghost use Rattle.virtual_keys.specs.Groups.{bytes_behind};
 ghost use Rattle.indexed_tables.specs.OwnNames.{AreFolded};
 ghost use Rattle.indexed_tables.specs.Words.{words_behind};
 

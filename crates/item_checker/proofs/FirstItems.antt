@@ -3,7 +3,7 @@ use Rattle.std.proofs.Common.{◌≡◌, ℕ, ◌+◌, ◌<◌, List, ◌∷◌,
 use Rattle.std.proofs.lemmas.List.{drop_more}
 use Rattle.std.specs.Option.{option_or}
 use Rattle.rule_model.specs.declared.program.SrcItem.{SrcItem}
-use Rattle.kmn_names.proofs.Firsts.{take_next}
+use Rattle.store_table.proofs.Firsts.{take_next}
 use Rattle.item_checker.specs.Items.{context_code, context_item_code}
 
 -- a context with one item more

@@ -11,7 +11,7 @@ use Rattle.std.proofs.lemmas.List.Folds.{list_all-append, list_any-append, list_
 use Rattle.std.specs.List.{prefix_len}
 use Rattle.kmn_base.specs.Names.{same_name}
 use Rattle.kmn_base.specs.declared.items.Element.TheVariants as element
-use Rattle.rule_model.specs.Dictionary.{place_in, code_in}
+use Rattle.virtual_keys.specs.Dictionary.{place_in, code_in}
 use Rattle.rule_model.specs.declared.program.SrcItem.{SrcItem}
 use Rattle.rule_model.specs.declared.program.SrcItem.TheVariants as source
 use Rattle.rule_model.specs.declared.program.KeyName.{KeyName}
@@ -20,8 +20,8 @@ use Rattle.rule_model.specs.declared.program.RuleDef.{RuleDef}
 use Rattle.rule_model.specs.declared.program.Program.{Program}
 use Rattle.rule_model.specs.Tab.{distinct_onto}
 use Rattle.rule_model.specs.Naming.{SourceNames, names_of, rule_items, all_rules, store_items, items_from, source_items, stores_before, stores_after, key_names, key_number}
-use Rattle.rule_model.proofs.NamePlaces.{some_place, same_either_way, same_name-self}
-use Rattle.kmx_format.proofs.Values.{list_all-flat_map}
+use Rattle.virtual_keys.proofs.NamePlaces.{some_place, same_either_way, same_name-self}
+use Rattle.compile_laws.proofs.Values.{list_all-flat_map}
 use Rattle.item_checker.specs.Items.{is_no_plain_key}
 use Rattle.item_checker.specs.Summaries.{are_found_keys, is_found_key, is_other_key}
 

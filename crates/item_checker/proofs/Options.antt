@@ -3,7 +3,7 @@ use Rattle.std.proofs.Common.{◌≡◌, ◌++◌, sym, ap, ◌∙◌}
 use Rattle.std.specs.Prelude.{flat_map, option_to_list}
 use Rattle.std.proofs.lemmas.List.Concat.{flat_map-append}
 use Rattle.rule_model.specs.declared.program.RuleDef.{RuleDef}
-use Rattle.kmn_names.specs.Known.{option_named, rule_options}
+use Rattle.store_table.specs.Known.{option_named, rule_options}
 
 -- those of a rule, of its context, its key and its output
 pub rule_options_are : (rule : RuleDef)

@@ -3,7 +3,7 @@ use Rattle.std.proofs.Common.{◌≡◌, ℕ, List, refl}
 use Rattle.rule_model.specs.declared.program.SrcItem.{SrcItem}
 use Rattle.rule_model.specs.declared.program.SrcItem.TheVariants as source
 use Rattle.rule_model.specs.declared.program.RuleDef.{RuleDef}
-use Rattle.kmn_names.specs.Known.{Known}
+use Rattle.store_table.specs.Known.{Known}
 use Rattle.item_checker.specs.Items.{match_output_code, output_code, rule_output_code}
 
 -- in a rule

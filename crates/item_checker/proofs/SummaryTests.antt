@@ -16,7 +16,7 @@ use Rattle.rule_model.specs.Src.{value_elements}
 use Rattle.kmx_format.specs.Versions.{file_versions}
 use Rattle.item_checker.specs.declared.summaries.Summary.{Summary}
 use Rattle.item_checker.specs.declared.summaries.Summaries.{Summaries}
-use Rattle.kmn_names.specs.Known.{Known, statement_elements}
+use Rattle.store_table.specs.Known.{Known, statement_elements}
 use Rattle.item_checker.specs.Items.{are_unfit_keys, is_key_element, is_layout_text, is_no_character, is_no_plain_key, is_other_text, is_system_text, is_unfit_key, is_unfit_store, is_version_text, puts_key}
 use Rattle.item_checker.specs.Summaries.{AreFacts, are_found_keys, element_characters, found_lacks_characters, found_summary, front_of, has_key, has_other, is_far_element, is_layout_front, is_mark_element, is_nothing, is_system_front, is_unfit_summary, is_version_front, lacks_characters, summary, with_items}
 use Rattle.item_checker.proofs.Summed.{found_is, items_are}

@@ -11,7 +11,7 @@ use Rattle.std.proofs.lemmas.List.Folds.{list_any-append}
 use Rattle.kmn_base.specs.declared.items.Element.{Element}
 use Rattle.kmn_base.specs.declared.items.Element.TheVariants as element
 use Rattle.kmn_base.specs.Names.{same_name}
-use Rattle.rule_model.specs.Dictionary.{place_in}
+use Rattle.virtual_keys.specs.Dictionary.{place_in}
 use Rattle.rule_model.specs.declared.program.SrcItem.{SrcItem}
 use Rattle.rule_model.specs.declared.program.SrcItem.TheVariants as source
 use Rattle.rule_model.specs.declared.program.StoreDef.{StoreDef}
@@ -19,12 +19,12 @@ use Rattle.rule_model.specs.declared.program.Program.{Program}
 use Rattle.rule_model.specs.declared.tables.Store.{Store}
 use Rattle.rule_model.specs.Tab.{store_elements}
 use Rattle.rule_model.specs.Naming.{SourceNames, names_of, stores_of, stores_onto, store_of, is_dropped, item_elements, all_rules, key_number, mark_number}
-use Rattle.rule_model.proofs.NamePlaces.{position_cons, same_either_way}
+use Rattle.virtual_keys.proofs.NamePlaces.{position_cons, same_either_way}
 use Rattle.item_checker.proofs.FoundKeys.{other_key, stores_found}
 use Rattle.item_checker.specs.declared.summaries.Summary.{Summary}
 use Rattle.item_checker.specs.declared.summaries.Summaries.{Summaries}
 use Rattle.item_checker.specs.declared.summaries.TheConstants.{FRONT_CHARACTERS}
-use Rattle.kmn_names.specs.Known.{known, rule_options}
+use Rattle.store_table.specs.Known.{known, rule_options}
 use Rattle.item_checker.specs.Items.{is_key_element, is_no_plain_key}
 use Rattle.item_checker.specs.Summaries.{AreFacts, AreSummaries, are_found_keys, element_characters, found_summary, front_of, is_far_element, is_found_key, is_mark_element, is_other_key, is_nothing, joined, joined_found, no_summaries, summary, summary_at, with_character, with_characters, with_item, with_items, with_store, with_stores}
 

@@ -21,11 +21,11 @@ use Rattle.rule_model.specs.Match.{same_value}
 use Rattle.rule_model.specs.Naming.{elements_named}
 use Rattle.rule_model.specs.Src.{value_elements}
 use Rattle.kmx_format.specs.Versions.{file_versions}
-use Rattle.kmn_names.specs.First.{broken, first_code, at_line, earlier, first_of}
-use Rattle.kmn_names.specs.Known.{Known, known, brought, statement_elements}
-use Rattle.kmn_names.specs.Names.{is_named}
+use Rattle.store_table.specs.First.{broken, first_code, at_line, earlier, first_of}
+use Rattle.store_table.specs.Known.{Known, known, brought, statement_elements}
+use Rattle.store_table.specs.Names.{is_named}
 use Rattle.rule_model.specs.declared.system.TheConstants.{CASED_KEYS, MNEMONIC_LAYOUT, VERSION, BITMAP, LEFT_OUT}
-use Rattle.rule_model.specs.declared.dictionary.TheConstants.{FIRST_OWN_CODE}
+use Rattle.virtual_keys.specs.declared.dictionary.TheConstants.{FIRST_OWN_CODE}
 
 -- some rule uses the store of a name as an option
 abbrev pub is_option : Known → List ℕ → Bool

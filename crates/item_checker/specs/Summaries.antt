@@ -6,7 +6,7 @@ use Rattle.std.specs.Str.{bytes_eq}
 use Rattle.kmn_base.specs.declared.items.Element.{Element}
 use Rattle.kmn_base.specs.declared.items.Element.TheVariants as element
 use Rattle.kmn_base.specs.declared.keys.TheConstants.{VIRTUAL_KEY}
-use Rattle.rule_model.specs.Dictionary.{place_in, code_in}
+use Rattle.virtual_keys.specs.Dictionary.{place_in, code_in}
 use Rattle.rule_model.specs.declared.program.KeyName.{KeyName}
 use Rattle.rule_model.specs.declared.program.SrcItem.{SrcItem}
 use Rattle.rule_model.specs.declared.program.SrcItem.TheVariants as source
@@ -17,10 +17,10 @@ use Rattle.kmx_format.specs.Versions.{file_versions}
 use Rattle.item_checker.specs.declared.summaries.Summary.{Summary}
 use Rattle.item_checker.specs.declared.summaries.Summaries.{Summaries}
 use Rattle.item_checker.specs.declared.summaries.TheConstants.{FRONT_CHARACTERS}
-use Rattle.kmn_names.specs.Known.{Known}
+use Rattle.store_table.specs.Known.{Known}
 use Rattle.item_checker.specs.Items.{is_far, is_key_element, is_no_plain_key}
 use Rattle.rule_model.specs.declared.system.TheConstants.{MNEMONIC_LAYOUT, VERSION}
-use Rattle.rule_model.specs.declared.dictionary.TheConstants.{FIRST_OWN_CODE}
+use Rattle.virtual_keys.specs.declared.dictionary.TheConstants.{FIRST_OWN_CODE}
 
 abbrev pub is_nothing : List Element → Bool
 is_nothing [] = true

@@ -5,17 +5,17 @@ ghost use Rattle.std.specs.List.{flat_map, list_any};
 ghost use Rattle.std.specs.Option.{option_copied};
 ghost use Rattle.rule_model.specs.declared.program.GroupDef.{GroupDef};
 ghost use Rattle.std.specs.Str.{bytes_eq};
-ghost use Rattle.kmn_names.specs.Known.{known, option_named, rule_options};
+ghost use Rattle.store_table.specs.Known.{known, option_named, rule_options};
 ghost use Rattle.item_checker.specs.Summaries.{are_found_keys, found_lacks_characters, has_key, has_other, is_layout_front, is_system_front, is_unfit_summary, is_version_front, lacks_characters};
 
 use crate::summaries::{Summaries, Summary, found_summary, items_summary, stores_summaries};
 use kmn_base::Memory;
-use kmn_names::NameTable;
 use kmx_format::file_versions;
 use rule_model::system::{MNEMONIC_LAYOUT, VERSION};
 use rule_model::{GroupDef, Program, RuleDef, SrcItem, StoreDef};
 use std::alloc::Global;
 use std::marker::Model;
+use store_table::NameTable;
 
 /// The stores of a program, each with a summary of its elements, and the names of its options. Contracts see what the
 /// program's items are looked at with.
@@ -27,7 +27,7 @@ pub struct Facts<'a> {
 }
 
 impl<'a> Model for Facts<'a> {
-    ghost use Rattle.kmn_names.specs.Known.{Known, known};
+    ghost use Rattle.store_table.specs.Known.{Known, known};
     ghost use Rattle.item_checker.specs.Summaries.{AreFacts};
 
     ghost Value = { Known };
@@ -43,7 +43,7 @@ impl<'a> Facts<'a> {
     ghost use Rattle.item_checker.specs.Items.{is_no_character, is_no_plain_key, is_option, is_other_text, is_unfit_store, puts_key};
 
     /// What the items of a program are looked at with.
-    #[tactic(auto, unfolding(kmn_names::specs::Known::known))]
+    #[tactic(auto, unfolding(store_table::specs::Known::known))]
     pub fn of(alloc: Global, program: &'a Program) -> Result<Facts<'a>, Memory>
         ensures { IfOk result (λ facts. facts ≡ known program.now) }
     {

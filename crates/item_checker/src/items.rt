@@ -7,9 +7,9 @@ use crate::facts::Facts;
 use crate::rules::groups_refusal;
 use crate::stores::stores_refusal;
 use kmn_base::{Memory, Refusal};
-use kmn_names::earlier;
 use rule_model::Program;
 use std::alloc::Global;
+use store_table::earlier;
 
 /// The first refusal for items that there is.
 #[tactic(auto, unfolding(crate::specs::Items::items_refusal))]

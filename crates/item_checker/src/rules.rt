@@ -2,14 +2,14 @@
 
 ghost use Rattle.std.specs.Prelude.{◌≡◌, [], ◌∷◌, if◌then◌else◌};
 ghost use Rattle.kmn_base.specs.declared.codes.Code.TheVariants.{C10, C12, C13};
-ghost use Rattle.kmn_names.specs.First.{broken, first_code, first_of};
+ghost use Rattle.store_table.specs.First.{broken, first_code, first_of};
 ghost use Rattle.item_checker.specs.Items.{index_code, is_any_key, is_far, is_key_place, is_option, is_unfit_store, key_code, key_index_code, match_output_code, output_code, plain_code, puts_key, rule_code, rule_output_code, rule_refusal, rules_refusal};
 
 use crate::facts::Facts;
 use crate::offsets::{context_at_code, context_code, index_code, is_any_item, offset_code};
 use kmn_base::{Code, Refusal};
-use kmn_names::{at_line, earlier};
 use rule_model::{GroupDef, RuleDef, RuleKind, SrcItem};
+use store_table::{at_line, earlier};
 
 /// What a key that is a character breaks.
 fn character_key_code(character: char) -> Option<Code>
@@ -188,7 +188,7 @@ fn rule_code(facts: &Facts<'_>, rule: &RuleDef) -> Option<Code>
 }
 
 /// The first refusal of the statements of a group.
-#[tactic(auto, using(kmn_names::proofs::Firsts::first_kept))]
+#[tactic(auto, using(store_table::proofs::Firsts::first_kept))]
 fn rules_refusal(facts: &Facts<'_>, rules: &[RuleDef]) -> Option<Refusal>
     ensures { result ≡ first_of (rule_refusal facts.now) [] rules.now }
 {
@@ -200,7 +200,7 @@ fn rules_refusal(facts: &Facts<'_>, rules: &[RuleDef]) -> Option<Refusal>
 }
 
 /// The first refusal of the statements of all groups.
-#[tactic(auto, using(kmn_names::proofs::Firsts::first_kept))]
+#[tactic(auto, using(store_table::proofs::Firsts::first_kept))]
 pub fn groups_refusal(facts: &Facts<'_>, groups: &[GroupDef]) -> Option<Refusal>
     ensures { result ≡ first_of (rules_refusal facts.now) [] groups.now }
 {

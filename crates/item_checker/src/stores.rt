@@ -2,7 +2,7 @@
 
 ghost use Rattle.std.specs.Prelude.{◌≡◌, true, [], IfOk};
 ghost use Rattle.std.specs.List.{list_all};
-ghost use Rattle.kmn_names.specs.First.{first_code, first_of};
+ghost use Rattle.store_table.specs.First.{first_code, first_of};
 ghost use Rattle.rule_model.specs.declared.program.StoreDef.{StoreDef};
 ghost use Rattle.item_checker.specs.Items.{brings_no_character, brings_no_plain_key, puts_option, store_code, store_head_code, store_item_code, store_refusal, wants_characters, wants_plain_keys};
 ghost use Rattle.item_checker.specs.Summaries.{are_found_keys, is_found_key};
@@ -10,10 +10,10 @@ ghost use Rattle.item_checker.specs.Summaries.{are_found_keys, is_found_key};
 use crate::facts::Facts;
 use crate::summaries::is_other_key;
 use kmn_base::{Code, Memory, Refusal};
-use kmn_names::{at_line, earlier};
 use rule_model::system::{BITMAP, CASED_KEYS, LEFT_OUT, MNEMONIC_LAYOUT, VERSION};
 use rule_model::{SrcItem, StoreDef};
 use std::alloc::Global;
+use store_table::{at_line, earlier};
 
 /// What a store statement breaks by what it is, or by the whole of its text.
 fn store_head_code(
@@ -138,7 +138,7 @@ fn store_code(alloc: Global, facts: &Facts<'_>, store: &StoreDef) -> Result<Opti
 }
 
 /// The first refusal of store statements.
-#[tactic(auto, using(kmn_names::proofs::Firsts::first_kept, crate::proofs::FoundKeys::found_store))]
+#[tactic(auto, using(store_table::proofs::Firsts::first_kept, crate::proofs::FoundKeys::found_store))]
 pub fn stores_refusal(
     alloc: Global,
     facts: &Facts<'_>,

@@ -7,10 +7,11 @@ ghost use Rattle.item_checker.specs.Summaries.{found_summary, is_other_key, join
 
 use kmn_base::keys::VIRTUAL_KEY;
 use kmn_base::{Memory, Seq};
-use kmn_names::NameTable;
 use rule_model::system::DROPPED;
-use rule_model::{FIRST_OWN_CODE, KeyName, SrcItem, StoreDef};
+use rule_model::{KeyName, SrcItem, StoreDef};
 use std::alloc::Global;
+use store_table::NameTable;
+use virtual_keys::FIRST_OWN_CODE;
 
 /// How many characters are kept of elements: one more than the longest text that a store is compared with.
 pub const FRONT_CHARACTERS: usize = 5;

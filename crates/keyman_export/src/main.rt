@@ -1,8 +1,8 @@
-//! The program of the exporter: it makes of a compiled file one that Keyman's own engine plays.
+//! The program of the exporter: converts a compiled keyboard to a file that Keyman's own engine plays.
 //!
-//! It stands on `keyman_words` for the words of the call and for the exit status, which is its `status_number`, and on `export_run`,
-//! whose `export_run` reads, exports and writes over a folder and a sink. `main` is one call of `run_words`, over the real files and
-//! standard output with the words of the call.
+//! Depends on `keyman_words` (the command-line arguments, and the exit status as `status_number`) and on `export_run` (its
+//! function `export_run` reads, exports and writes on a folder and a sink). `main` is one call of `run_words`, on the real files
+//! and standard output, with the arguments of the process.
 #![tactic(auto)]
 
 ghost use Rattle.std.specs.Prelude.{◌≡◌, IfErr, IfOk};
@@ -17,8 +17,8 @@ use kmn_outside::{DiskFolder, Folder, Sink, StreamSink};
 use std::alloc::Global;
 use std::process::ExitCode;
 
-/// Does what the words ask for, and answers the exit status of the process. Without memory for the words nothing is asked for and
-/// nothing printed.
+/// Does what the arguments request and returns the exit status of the process. If an allocation for the arguments failed, the
+/// folder and the sink are unchanged.
 fn run_words<F: Folder, S: Sink>(
     alloc: Global,
     words: Result<Seq<Text>, Memory>,

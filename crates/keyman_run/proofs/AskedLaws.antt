@@ -5,7 +5,7 @@ use Rattle.kmn_outside.specs.declared.traits.Call.{Call}
 use Rattle.keyman_run.specs.Asked.{Ask, answered, failed, AsksAll, AsksFirst, AsksUntil}
 
 module _ (wanted more : List Ask) (before middle after : List Call) where
-  -- the first calls are the first of more calls
+  -- if a first part of some accesses was made, it is a first part of these and more accesses
   pub first_front : AsksFirst wanted before after → AsksFirst (wanted ++ more) before after
   first_front h = record { front = h.front; rest = h.rest ++ more; parts = ap (λ asks. asks ++ more) h.parts ∙ append_assoc h.front h.rest more; made = h.made }
 
@@ -25,7 +25,7 @@ module _ (wanted more : List Ask) (before middle after : List Call) where
       ∙ ap (λ calls. before ++ calls) (sym (append_assoc (map answered wanted) (map answered front) made))
       ∙ ap (λ calls. before ++ (calls ++ made)) (sym (map-append answered wanted front))
 
-  -- some calls, all of them, and then the first of more calls
+  -- if some accesses were all made and then a first part of more accesses, a first part of both lists was made
   pub first_behind : AsksAll wanted before middle → AsksFirst more middle after → AsksFirst (wanted ++ more) before after
   first_behind all h = record {
     front = wanted ++ h.front;
@@ -49,10 +49,10 @@ module _ (wanted more : List Ask) (before middle after : List Call) where
       all_more ∙ ap (λ calls. calls ++ map answered more) all ∙ append_assoc before (map answered wanted) (map answered more)
       ∙ ap (λ calls. before ++ calls) (sym (map-append answered wanted more))
 
--- no call is the first part of any
+-- if no call was made, the empty first part of any accesses was made
 pub first_none : (wanted : List Ask) (before after : List Call) → after ≡ before → AsksFirst wanted before after
 first_none wanted before after is = record { front = []; rest = wanted; parts = refl; made = is ∙ sym (append-nil before) }
 
--- all calls are the first part of themselves
+-- if all accesses were made, a first part of them was made
 pub first_all : (wanted : List Ask) (before after : List Call) → AsksAll wanted before after → AsksFirst wanted before after
 first_all wanted before after all = record { front = wanted; rest = []; parts = sym (append-nil wanted); made = all }

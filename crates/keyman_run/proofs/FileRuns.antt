@@ -1,4 +1,4 @@
--- Runs on a compiled file that anyone made.
+-- Runs on an untrusted compiled keyboard.
 use Rattle.std.proofs.Common.{◌≡◌, inl, List, ℕ, Option, Some, None, Result, Ok, Err, refl, sym, subst, ◌∙◌, append-nil}
 use Rattle.rule_model.specs.Keyboard.{Keyboard}
 use Rattle.rule_model.specs.Tab.{tab}
@@ -33,7 +33,7 @@ use Rattle.keyman_run.proofs.AskedLaws.{first_none}
 use Rattle.play_transcript.proofs.PrintingLaws.{none_begun}
 use Rattle.keyman_run.proofs.RunLaws.{does_told}
 
--- what is told of the tables of a file, or of its fault, is what their work comes to
+-- if a run prints the line of a file's tables or of its fault, it does the work of verifying the file
 does_tables : {F S : Type 0} (read : Result Tables Reason) (folders : FolderView F) (folder : F) (sinks : SinkView S) (out out_after : S) (how : Status)
     → TellsFile read sinks out out_after how → Does (and_then (given read) (λ tables. Give (verify_ending tables))) folders folder folder sinks out out_after how
 does_tables (Ok tables) folders folder sinks out out_after how tells =
@@ -49,12 +49,13 @@ does_file slice bytes folders folder sinks out out_after how same tells =
     subst (λ (b : List ℕ). Does (and_then (given (tables_of_file b)) (λ tables. Give (verify_ending tables))) folders folder folder sinks out out_after how) same
     (does_tables (tables_of_file slice) folders folder sinks out out_after how tells)
 
--- for want of memory nothing is printed
+-- if an allocation fails and no output is printed, the run satisfies `TellsFile`
 tells_nothing : {S : Type 0} (read : Result Tables Reason) (sinks : SinkView S) (out : S) → TellsFile read sinks out out status.Memory
 tells_nothing (Ok tables) sinks out = record { counts = refl; told = refl; prints = λ told. none_begun (sinks.written out) _ }
 tells_nothing (Err why) sinks out = record { counts = refl; told = refl; prints = λ told. none_begun (sinks.written out) _ }
 
--- what is printed of a valid file, and of one with a fault
+-- if a file is valid, a run that prints the line of its tables satisfies `TellsFile`; if it has a fault, a run that prints the
+-- fault does
 pub tells_valid : {S : Type 0} (bytes file : List ℕ) (sinks : SinkView S) (out out_after : S) (how : Status) → fault_of bytes ≡ None → file ≡ bytes
     → Tells status.Done (valid_line (tables_of file)) sinks out out_after how → TellsFile (tables_of_file bytes) sinks out out_after how
 tells_valid bytes file sinks out out_after how none same tells =
@@ -66,11 +67,11 @@ tells_faulty : {S : Type 0} (bytes : List ℕ) (fault : Fault) (sinks : SinkView
 tells_faulty bytes fault sinks out out_after how is tells =
     subst (λ (found : Option Fault). TellsFile (unless_faulty (tables_of bytes) found) sinks out out_after how) (sym is) tells
 
--- the same stop as another value
+-- if two stops are equal, a run that satisfies `TellsStop` for one satisfies it for the other
 pub as_stop : {S : Type 0} (s other : Stop) (sinks : SinkView S) (out out_after : S) (how : Status) → s ≡ other → TellsStop s sinks out out_after how → TellsStop other sinks out out_after how
 as_stop s other sinks out out_after how same tells = subst (λ (t : Stop). TellsStop t sinks out out_after how) same tells
 
--- what stops the opening of bytes is told
+-- if the opening of bytes stops and the run satisfies `TellsStop` for this stop, it satisfies `TellsFile`
 pub tells_unread : {S : Type 0} (bytes : List ℕ) (error : VerifyError) (sinks : SinkView S) (out out_after : S) (how : Status) → IsRefusal error (λ fault. fault_of bytes ≡ Some fault)
     → TellsStop (verify_stop error) sinks out out_after how → TellsFile (tables_of_file bytes) sinks out out_after how
 tells_unread bytes (verify.Refused fault) sinks out out_after how is tells = tells_faulty bytes fault sinks out out_after how is tells
@@ -78,14 +79,14 @@ tells_unread {S} bytes verify.Memory sinks out out_after how is tells =
     subst (λ (o : S). TellsFile (tables_of_file bytes) sinks out o how) (sym tells.1)
     (subst (λ (s : Status). TellsFile (tables_of_file bytes) sinks out out s) (sym tells.0) (tells_nothing (tables_of_file bytes) sinks out))
 
--- the file of tables that a file can have is not refused
+-- if bytes are a file of writable tables, they have no fault
 pub never_refused : (bytes : List ℕ) (fault : Fault) → IsFile bytes → fault_of bytes ≡ Some fault → ⊥
 never_refused bytes fault file is =
     let valid : fault_of bytes ≡ None = file_valid bytes file in
     let both : None ≡ Some fault = sym valid ∙ is in
     absurd (cc)
 
--- so what stops its opening is want of memory, for which nothing is printed
+-- so if the opening of such bytes stops, an allocation failed and no output is printed, which satisfies every `Tells`
 pub tells_unopened : {S : Type 0} (bytes : List ℕ) (error : VerifyError) (good : Status) (printed : List ℕ) (sinks : SinkView S) (out out_after : S) (how : Status) → IsFile bytes
     → IsRefusal error (λ fault. fault_of bytes ≡ Some fault) → TellsStop (verify_stop error) sinks out out_after how → Tells good printed sinks out out_after how
 tells_unopened bytes (verify.Refused fault) good printed sinks out out_after how file is tells = absurd (never_refused bytes fault file is)
@@ -94,7 +95,7 @@ tells_unopened {S} bytes verify.Memory good printed sinks out out_after how file
     (subst (λ (s : Status). Tells good printed sinks out out s) (sym tells.0)
     (record { counts = refl; told = refl; prints = λ told. none_begun (sinks.written out) printed }))
 
--- work that wants memory before it reads or prints anything
+-- if an allocation fails before a run reads or prints, the run satisfies `Does` for any work
 pub does_no_memory : {F S : Type 0} (work : Work Ending) (folders : FolderView F) (folder : F) (sinks : SinkView S) (out : S) → Does work folders folder folder sinks out out status.Memory
 does_no_memory work folders folder sinks out = record {
   form = λ is. cc;
@@ -103,11 +104,12 @@ does_no_memory work folders folder sinks out = record {
   leaves = λ told. inl (record { asked = first_none (reads (folders.files folder) work) (folders.calls folder) (folders.calls folder) refl; files = λ name. refl }, λ told_sink. refl);
 }
 
--- the work on bytes, by the work on the tables of their file
+-- the work on bytes, from the work on the tables of their file
 abbrev on_bytes : (Tables → Work Ending) → List ℕ → Work Ending
 on_bytes on bytes = and_then (given (tables_of_file bytes)) on
 
--- work on the bytes of a valid file, and of one with a fault
+-- if bytes are a valid file, a run that does the work on its tables does the work on the bytes; if they have a fault, a run that
+-- prints the fault does
 pub does_valid : {F S : Type 0} (on : Tables → Work Ending) (bytes file : List ℕ) (folders : FolderView F) (folder after : F) (sinks : SinkView S) (out out_after : S) (how : Status) → fault_of bytes ≡ None → file ≡ bytes
     → Does (on (tables_of file)) folders folder after sinks out out_after how → Does (on_bytes on bytes) folders folder after sinks out out_after how
 does_valid on bytes file folders folder after sinks out out_after how none same does =
@@ -121,7 +123,7 @@ does_faulty on bytes fault folders folder sinks out out_after how is tells =
     (does_told (Refuse (reason.File fault)) (refused_ending (reason.File fault)) folders folder folder sinks out out_after how refl refl
     (λ told. (refl, record { asked = sym (append-nil (folders.calls folder)); files = λ name. refl })) tells)
 
--- and on bytes whose opening stopped
+-- if the opening of bytes stops, a run that satisfies `TellsStop` for this stop does the work on the bytes
 pub does_unread : {F S : Type 0} (on : Tables → Work Ending) (bytes : List ℕ) (error : VerifyError) (folders : FolderView F) (folder : F) (sinks : SinkView S) (out out_after : S) (how : Status)
     → IsRefusal error (λ fault. fault_of bytes ≡ Some fault) → TellsStop (verify_stop error) sinks out out_after how → Does (on_bytes on bytes) folders folder folder sinks out out_after how
 does_unread on bytes (verify.Refused fault) folders folder sinks out out_after how is tells = does_faulty on bytes fault folders folder sinks out out_after how is tells
@@ -129,7 +131,8 @@ does_unread {F} {S} on bytes verify.Memory folders folder sinks out out_after ho
     subst (λ (o : S). Does (on_bytes on bytes) folders folder folder sinks out o how) (sym tells.1)
     (subst (λ (s : Status). Does (on_bytes on bytes) folders folder folder sinks out out s) (sym tells.0) (does_no_memory (on_bytes on bytes) folders folder sinks out))
 
--- playing on the bytes of a valid file, and on bytes whose opening stopped
+-- if bytes are a valid file, a run that plays on its tables plays on the bytes; if their opening stops, a run that satisfies
+-- `TellsStop` for this stop does
 pub plays_valid : {F S : Type 0} (bytes file keys : List ℕ) (folders : FolderView F) (folder after : F) (sinks : SinkView S) (out out_after : S) (how : Status) → fault_of bytes ≡ None → file ≡ bytes
     → Does (tables_play_work (tables_of file) keys) folders folder after sinks out out_after how → Does (bytes_play_work bytes keys) folders folder after sinks out out_after how
 plays_valid bytes file keys folders folder after sinks out out_after how none same does =
@@ -140,7 +143,7 @@ pub plays_unread : {F S : Type 0} (bytes keys : List ℕ) (error : VerifyError) 
 plays_unread bytes keys error folders folder sinks out out_after how is tells =
     does_unread (λ tables. tables_play_work tables keys) bytes error folders folder sinks out out_after how is tells
 
--- playing the entries of a script
+-- if a run prints the transcript of entries, it does the work of playing them
 pub plays_entries : {F S : Type 0} (kb : Keyboard) (slice entries : List Entry) (folders : FolderView F) (folder : F) (sinks : SinkView S) (out out_after : S) (how : Status) → slice ≡ entries
     → Tells (play_status (trace kb (events_of slice)) slice) (transcript kb slice) sinks out out_after how → Does (Give (play_ending kb entries)) folders folder folder sinks out out_after how
 plays_entries kb slice entries folders folder sinks out out_after how same tells =
@@ -148,7 +151,7 @@ plays_entries kb slice entries folders folder sinks out out_after how same tells
     (does_told (Give (play_ending kb slice)) (play_ending kb slice) folders folder folder sinks out out_after how refl refl
     (λ told. (refl, record { asked = sym (append-nil (folders.calls folder)); files = λ name. refl })) tells)
 
--- playing on the file that was written, whose keyboard is that of its tables
+-- if a file has the keyboard of tables, a run that prints what the file does with a script prints what the tables do
 pub plays_written : {S : Type 0} (bytes file : List ℕ) (tables : Tables) (slice entries : List Entry) (sinks : SinkView S) (out out_after : S) (how : Status)
     → tab (tables_of bytes) ≡ tab tables → file ≡ bytes → slice ≡ entries
     → Tells (play_status (trace (tab (tables_of file)) (events_of slice)) slice) (transcript (tab (tables_of file)) slice) sinks out out_after how

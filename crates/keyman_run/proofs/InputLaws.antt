@@ -1,4 +1,4 @@
--- What the inputs that were read state.
+-- The results of reading the inputs.
 use Rattle.std.proofs.Common.{◌≡◌, ◌+◌, ℕ, IsTrue, List, [], ◌∷◌, ◌++◌, map, Option, Some, Result, Ok, Err, refl, sym, ap, ◌∙◌, subst}
 use Rattle.std.specs.Result.{IsErrAnd, MatchResult}
 use Rattle.kmn_base.specs.Answers.{Answers}
@@ -34,7 +34,7 @@ use Rattle.keyman_run.proofs.AskedLaws.{first_none, first_all}
 use Rattle.keyman_run.proofs.RunLaws.{gives_value, gives_refused, gives_no_memory}
 use Rattle.keyman_run.proofs.WorkLaws.{reading_within, reading_over, reads_found, comes_found, comes_given, and_then_assoc}
 
--- work that goes on by a reading to what this states, and reads no more
+-- work that continues after a reading to the specified result and reads no more files
 pub record Concludes {B : Type 0} (next : Reading → Work B) (stated : Reading → Result B Reason) : Type 0 where
   pub reads_none : (files : Files) (reading : Reading) → reads files (next reading) ≡ []
   pub comes : (files : Files) (reading : Reading) → comes_to files (next reading) ≡ Some (stated reading)
@@ -52,7 +52,7 @@ states_counts seen stated before after (Err (stop.Refused why)) same states = sa
 states_counts seen stated before after (Err stop.ReadFault) same states = absurd states
 states_counts seen stated before after (Err stop.Memory) same states = same
 
--- a file that was read whole
+-- if a file was read whole and a result is the specified one for its bytes, it is the result of the work
 gives_answered : {F A B : Type 0} (seen : A → B) (name : List ℕ) (limit : ℕ) (next : Reading → Work B) (stated : Reading → Result B Reason) (folders : FolderView F) (folder after : F) (bytes : List ℕ) (result : Result A Stop)
     → Concludes next stated → folders.faults after ≡ folders.faults folder → folders.told after ≡ folders.told folder
     → (IsTrue (folders.told folder) → Reads (folders.files folder) (folders.files after) (folders.calls folder) (folders.calls after) name limit (Ok bytes))
@@ -72,11 +72,11 @@ gives_answered seen name limit next stated folders folder after bytes result con
       (record { asked = h.1.2 ∙ ap (λ asks. folders.calls folder ++ map answered asks) (sym asked); files = h.0 }) states;
 }
 
--- what is answered of a reading whose error is why a run stops
+-- the result of a read as the result of a step: the bytes, or why the run stops
 abbrev pub IsStopped : Reason → Result (List ℕ) ReadError → Result (List ℕ) Stop → Type 0
 IsStopped long answer stopped = MatchResult answer (λ bytes. stopped ≡ Ok bytes) (λ error. IsErrAnd stopped (λ given. given ≡ read_stop long error))
 
--- a file that wasn't
+-- if a file was not read whole, the work of reading it stops for the error of the read
 gives_unread : {F A B : Type 0} (seen : A → B) (name : List ℕ) (limit : ℕ) (next : Reading → Work B) (stated : Reading → Result B Reason) (long : Reason) (folders : FolderView F) (folder after : F) (error : ReadError)
     → Concludes next stated → stated (Over (limit + 1)) ≡ Err long
     → ReadCounts (folders.faults folder) (folders.faults after) (Err error) → folders.told after ≡ folders.told folder
@@ -107,7 +107,7 @@ gives_unread seen name limit next stated long folders folder after read.Memory c
   gives = λ told_folder. let h = answers told_folder in record { asked = first_none (reads (folders.files folder) (Read name limit next)) (folders.calls folder) (folders.calls after) h.1; files = h.0 };
 }
 
--- the same by what reading was answered: a file that was read whole, and one that wasn't
+-- the same two laws by the result of the read: the file was read whole, or it was not
 pub gives_whole : {F A B : Type 0} (seen : A → B) (name : List ℕ) (limit : ℕ) (next : Reading → Work B) (stated : Reading → Result B Reason) (folders : FolderView F) (folder after : F) (answer : Result (List ℕ) ReadError) (bytes : List ℕ) (result : Result A Stop)
     → answer ≡ Ok bytes → Concludes next stated → ReadCounts (folders.faults folder) (folders.faults after) answer → folders.told after ≡ folders.told folder
     → (IsTrue (folders.told folder) → Reads (folders.files folder) (folders.files after) (folders.calls folder) (folders.calls after) name limit answer)
@@ -128,7 +128,7 @@ gives_stop {F} {A} {B} seen name limit next stated long folders folder after (Er
     subst (λ (t : Stop). Gives {A = A} seen (Read name limit next) folders folder after (Err t)) (sym (handed ∙ is))
     (gives_unread seen name limit next stated long folders folder after error concludes over counts told answers)
 
--- a file whose bytes are what its work comes to
+-- if the value of the work of reading a file is its bytes, the result of the read is the result of the work
 pub gives_bytes : {F : Type 0} (name : List ℕ) (limit : ℕ) (next : Reading → Work (List ℕ)) (stated : Reading → Result (List ℕ) Reason) (long : Reason) (folders : FolderView F) (folder after : F) (answer : Result (List ℕ) ReadError) (result : Result (List ℕ) Stop)
     → Concludes next stated → ((bytes : List ℕ) → stated (Bytes bytes) ≡ Ok bytes) → stated (Over (limit + 1)) ≡ Err long → IsStopped long answer result
     → ReadCounts (folders.faults folder) (folders.faults after) answer → folders.told after ≡ folders.told folder
@@ -146,11 +146,11 @@ none_read : {B : Type 0} (files : Files) (read : Result B Reason) → reads file
 none_read files (Ok value) = refl
 none_read files (Err why) = refl
 
--- work that states something of a reading, and reads no more
+-- work that has a specified result for a reading reads no more files
 pub given_concludes : {B : Type 0} (stated : Reading → Result B Reason) → Concludes (λ reading. given (stated reading)) stated
 given_concludes stated = record { reads_none = λ files reading. none_read files (stated reading); comes = λ files reading. comes_given files (stated reading) }
 
--- what lines state that were read
+-- if an input is read line by line, its value or its refusal is the specified result
 pub value_stated : {A : Type 0} (read : Result A Refusal) (value : A) → read ≡ Ok value → States itself (by_line read) (Ok value)
 value_stated read value is = ap by_line is
 
@@ -159,20 +159,20 @@ error_stated read (compile.Refused refusal) h = ap by_line h
 error_stated read (compile.TooLarge code size) h = absurd h
 error_stated read compile.Memory h = tt
 
--- what a script states that breaks a rule
+-- if a script breaks a rule, its refusal is the specified result
 pub broken_stated : {A : Type 0} (read : Result A Refusal) (error : ScriptError) → ScriptAnswers read (Err error) → States {A = A} itself (by_line read) (Err (script_stop error))
 broken_stated read (script.Refused refusal) h = ap by_line h
 broken_stated read script.Memory h = tt
 
--- the work behind a program and its picture
+-- the work that follows a program and its picture
 abbrev pub compile_behind : Program → List ℕ → Work Compiled
 compile_behind program picture = and_then (given (pictured_within program picture)) (λ pictured. Give (file_from pictured))
 
--- compiling a source's program in steps
+-- compiling a source's program reads the picture, and then compiles the program with it
 pub file_in_steps : (source : List ℕ) (program : Program) → file_work source program ≡ and_then (picture_work source (picture_name program)) (compile_behind program)
 file_in_steps source program = and_then_assoc (picture_work source (picture_name program)) (λ picture. given (pictured_within program picture)) (λ pictured. Give (file_from pictured))
 
--- what a compilation states
+-- if a program is compiled with a picture, its file or its refusal is the result of the work
 pub compiled_gives : {F : Type 0} (program : Program) (picture : List ℕ) (folders : FolderView F) (folder : F) (compiled : Compiled) → CompilesTo (Ok program) picture (Ok compiled)
     → Gives itself (compile_behind program picture) folders folder folder (Ok compiled)
 compiled_gives {F} program picture folders folder compiled h =

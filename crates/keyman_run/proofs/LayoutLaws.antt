@@ -1,4 +1,4 @@
--- What a layout states that was read, and the run that checks one.
+-- The result of reading a layout, and the run that checks one.
 use Rattle.std.proofs.Common.{◌≡◌, List, ℕ, None, Some, Ok, Err, refl, sym, ap, ◌∙◌, subst, append-nil}
 use Rattle.kmn_compiler.specs.declared.compiling.Compiled.{Compiled}
 use Rattle.rule_model.specs.declared.tables.Tables.{Tables}
@@ -22,14 +22,14 @@ use Rattle.keyman_run.specs.Work.Work.{Give}
 use Rattle.keyman_run.proofs.MeaningLaws.{file_behind}
 use Rattle.keyman_run.proofs.RunLaws.{does_told}
 
--- a layout that keeps all rules states the count of its keys
+-- if a layout keeps all rules, its result is the number of its keys
 pub sound_stated : (slice layout : List ℕ) (tables : Tables) (count : ℕ) → slice ≡ layout → (layout_fault slice tables ≡ None) × (count ≡ key_count slice)
     → States itself (keys_of tables (Bytes layout)) (Ok count)
 sound_stated slice layout tables count same h =
     subst (λ (bytes : List ℕ). States itself (keys_of tables (Bytes bytes)) (Ok count)) same
     (ap (unless_broken (key_count slice)) h.0 ∙ ap Ok (sym h.1))
 
--- another one states the first rule that it breaks
+-- if a layout breaks a rule, its result is the first rule that it breaks
 pub broken_layout : (slice layout : List ℕ) (tables : Tables) (error : LayoutError) → slice ≡ layout
     → ((fault : LayoutFault) → error ≡ layout_error.Refused fault → layout_fault slice tables ≡ Some fault)
     → States {A = ℕ} itself (keys_of tables (Bytes layout)) (Err (layout_stop error))
@@ -38,7 +38,7 @@ broken_layout slice layout tables (layout_error.Refused fault) same broken =
     (ap (unless_broken (key_count slice)) (broken fault refl))
 broken_layout slice layout tables layout_error.Memory same broken = tt
 
--- the work behind the tables, and behind the count of the keys
+-- the work that follows the number of keys, and the work that follows the tables
 abbrev pub count_behind : ℕ → Work Ending
 count_behind count = Give (layout_ending count)
 
@@ -48,7 +48,7 @@ check_behind layout compiled = tables_layout_work compiled.tables layout
 pub layout_in_steps : (source layout : List ℕ) → and_then (compiled_work source) (check_behind layout) ≡ layout_work source layout
 layout_in_steps source layout = file_behind source (check_behind layout)
 
--- the count is printed
+-- if a run prints the number of keys, it does the work that follows this number
 pub does_sound : {F S : Type 0} (count : ℕ) (folders : FolderView F) (folder : F) (sinks : SinkView S) (out out_after : S) (how : Status)
     → Tells status.Done (sound_line count) sinks out out_after how → Does (count_behind count) folders folder folder sinks out out_after how
 does_sound count folders folder sinks out out_after how tells =

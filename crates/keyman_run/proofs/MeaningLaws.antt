@@ -1,4 +1,4 @@
--- A run ends as the meaning of its source wants it, and the file that it writes means the source.
+-- A run ends as the meaning of its source determines, and the file that it writes means the source.
 use Rattle.std.proofs.Common.{◌≡◌, ◌⊎◌, inl, inr, ℕ, Bool, true, false, ◌||◌, IsTrue, List, [], ◌∷◌, ◌++◌, map, Option, Some, None, Result, Ok, Err, refl, ap, sym, ◌∙◌, subst, append_assoc, append-nil}
 use Rattle.std.specs.Prelude.{option_map, IsSomeAnd}
 use Rattle.std.specs.List.{list_any}
@@ -12,11 +12,11 @@ use Rattle.kmn_outside.specs.Outside.{Files, Rose, Writes}
 use Rattle.kmn_outside.specs.declared.traits.Call.{Call}
 use Rattle.kmn_outside.specs.declared.traits.WriteError.{WriteError}
 use Rattle.kmn_outside.specs.declared.traits.WriteError.TheVariants as write
-use Rattle.kmn_compiler.specs.Excess.{excess}
+use Rattle.kmx_writer.specs.Excess.{excess}
 use Rattle.rule_model.specs.declared.program.Program.{Program}
 use Rattle.rule_model.specs.declared.script.Entry.{Entry}
-use Rattle.kmx_format.specs.Means.{Means}
-use Rattle.kmx_format.specs.Ordered.{compiled_tables}
+use Rattle.compile_laws.specs.Means.{Means}
+use Rattle.compile_laws.specs.Ordered.{compiled_tables}
 use Rattle.rule_model.specs.Src.{src}
 use Rattle.rule_model.specs.Tab.{tab}
 use Rattle.rule_model.specs.Transcript.{events_of}
@@ -42,13 +42,13 @@ use Rattle.keyman_run.specs.Work.Work.{Give, Refuse, Read}
 use Rattle.keyman_run.proofs.AskedLaws.{first_front, until_front, first_all}
 use Rattle.keyman_run.proofs.WorkLaws.{AllGive, all_given, all_behind_all, same_behind_all, comes_to_all, comes_behind, comes_and_then, and_then_assoc}
 
--- a program that a source is accepted with, and a picture with which its file keeps the limits
+-- the program of an accepted source, and a picture with which its file keeps the limits
 pub record IsCompilable (pictured : Pictured) : Type 0 where
   pub source : List ℕ
   pub is : checked source ≡ Ok pictured.program
   pub within : excess (compiled_tables pictured.program) pictured.picture ≡ None
 
--- a program that a source is accepted with
+-- a program of an accepted source
 abbrev pub IsChecked : Program → Type 0
 IsChecked program = (source : List ℕ) × (checked source ≡ Ok program)
 
@@ -65,7 +65,7 @@ reading_checked (Over size) program is = absurd (cc)
 pub all_checked : (source : List ℕ) → AllGive IsChecked (source_work source)
 all_checked source = λ reading. all_given IsChecked (program_of reading) (reading_checked reading)
 
--- of a picture nothing is known
+-- the condition on a picture, which every byte list satisfies
 abbrev IsPicture : List ℕ → Type 0
 IsPicture picture = Unit {0}
 
@@ -73,7 +73,7 @@ all_pictures : (source : List ℕ) (name : Option (List ℕ)) → AllGive IsPict
 all_pictures source None = tt
 all_pictures source (Some name) = λ reading. all_given IsPicture (picture_of reading) (λ picture is. tt)
 
--- of an accepted program, a picture with which its file keeps the limits
+-- this program, and a picture with which its file keeps the limits
 pub record IsOf (program : Program) (pictured : Pictured) : Type 0 where
   pub same : pictured.program ≡ program
   pub compilable : IsCompilable pictured
@@ -95,17 +95,17 @@ all_compilable_of source program h =
     all_behind_all IsPicture IsCompilable (picture_work source (picture_name program)) (λ picture. given (pictured_within program picture)) (all_pictures source (picture_name program))
     (λ picture any. all_given IsCompilable (pictured_within program picture) (λ pictured is. (within_of program picture (excess (compiled_tables program) picture) pictured h refl is).compilable))
 
--- what a source is compiled as can be compiled
+-- if the work on a source produces a program with a picture, these can be compiled
 pub all_compilable : (source : List ℕ) → AllGive IsCompilable (program_work source)
 all_compilable source = all_behind_all IsChecked IsCompilable (source_work source) (pictured_work source) (all_checked source) (all_compilable_of source)
 
--- the file of the program of a source means it
+-- if a source has a program with a picture, the file that it compiles to means the program
 pub program_means : (files : Files) (source : List ℕ) (pictured : Pictured) → comes_to files (program_work source) ≡ Some (Ok pictured) → Means (file_from pictured).bytes pictured.program
 program_means files source pictured is =
     let h : IsCompilable pictured = comes_to_all IsCompilable files (program_work source) pictured (all_compilable source) is in
     checked_means h.source pictured.program h.is pictured.picture h.within
 
--- what the tables of an accepted program print is what the program means
+-- if a program can be compiled, playing on its tables has the same ending as playing the program
 same_played : (name bytes : List ℕ) (pictured : Pictured) (entries : List Entry) → IsCompilable pictured
     → test_ending name bytes (tab (compiled_tables pictured.program)) entries ≡ test_ending name bytes (src pictured.program) entries
 same_played name bytes pictured entries h = λ i.
@@ -115,7 +115,7 @@ same_played name bytes pictured entries h = λ i.
       printed = sym (checked_prints h.source pictured.program h.is entries) i;
     }
 
--- work behind the file of a source is work behind its program
+-- work that follows the file of a source is equal to work that follows its program with the picture
 pub file_behind : {A : Type 0} (source : List ℕ) (more : Compiled → Work A) → and_then (compiled_work source) more ≡ and_then (program_work source) (λ pictured. more (file_from pictured))
 file_behind source more =
     and_then_assoc (source_work source) (file_work source) more
@@ -125,7 +125,7 @@ file_behind source more =
 abbrev pub play_job : List ℕ → Job → Work Ending
 play_job file job = Give (test_ending file job.compiled.bytes (tab job.compiled.tables) job.entries)
 
--- the work of a job behind the program of its source, and what the meaning wants behind the same
+-- the work of a job that follows the program of its source, and the work that follows the program by its meaning
 abbrev pub job_behind : (source keys : List ℕ) → Program → Work Job
 job_behind source keys program =
     and_then (file_work source program) (λ compiled.
@@ -145,7 +145,7 @@ played_behind source file keys program h =
     (λ pictured. and_then (script_work (src program).dictionary keys) (λ entries. play_job file (record { compiled = file_from pictured; entries = entries }))) (test_behind file keys) (all_of source program h)
     (λ pictured of i. and_then (script_work (src (sym of.same i)).dictionary keys) (λ entries. Give (same_played file (file_from pictured).bytes pictured entries of.compilable i)))
 
--- what is played by the tables is what the meaning wants
+-- if a job is played by its tables, the work is equal to the work of `test`, which plays the program
 pub as_meant : (source file keys : List ℕ) → and_then (job_work source keys) (play_job file) ≡ test_work source file keys
 as_meant source file keys =
     and_then_assoc (source_work source) (job_behind source keys) (play_job file)
@@ -168,7 +168,7 @@ reads_none files (Give value) = refl
 reads_none files (Refuse why) = refl
 reads_none files (Read name limit next) = found_none files limit next (files name) (λ reading. reads_none files (next reading))
 
--- where no call that was made is a write that was answered
+-- if none of the calls that were made is a write that did not fail, `HasWritten` is false
 never_written : {R : Type 0} (before after made : List Call) → after ≡ before ++ made → list_any has_written made ≡ false → HasWritten before after → R
 never_written before after made is none written =
     let same : made ≡ written.made = append_cancel_left before made written.made (sym is ∙ written.added) in
@@ -189,7 +189,7 @@ reads_begun : (wanted front rest : List Ask) → list_any has_written (map answe
 reads_begun wanted front rest none parts = none_in_front (map answered front) (map answered rest)
     (ap (list_any has_written) (sym (map-append answered front rest)) ∙ ap (λ asks. list_any has_written (map answered asks)) (sym parts) ∙ none)
 
--- work that was stopped wrote nothing
+-- if work stopped, none of its writes succeeded
 pub stopped_unwritten : {A B R : Type 0} (seen : A → B) (work : Work B) (before after : FolderState) (s : Stop) → GivesBy seen (reads before.files work) (comes_to before.files work) before after (Err s)
     → HasWritten before.calls after.calls → R
 stopped_unwritten seen work before after (stop.Refused why) g written =
@@ -202,7 +202,7 @@ stopped_unwritten seen work before after stop.Memory g written =
     let h = g.asked in
     never_written before.calls after.calls (map answered h.front) h.made (reads_begun (reads before.files work) h.front h.rest (reads_none before.files work) h.parts) written
 
--- nor did work whose write failed
+-- if the write of work failed, none of its writes succeeded
 pub failed_unwritten : {B R : Type 0} (work : Work B) (before middle : FolderState) (files_after : Files) (after : List Call) (name bytes : List ℕ) (error : WriteError) → HasRead (reads before.files work) before middle
     → Writes middle.files files_after middle.calls after name bytes (Err error) → HasWritten before.calls after → R
 failed_unwritten work before middle files_after after name bytes write.Failed h w written =
@@ -213,7 +213,7 @@ failed_unwritten work before middle files_after after name bytes write.Failed h 
 failed_unwritten work before middle files_after after name bytes write.Memory h w written =
     never_written before.calls after (map answered (reads before.files work)) (w.1 ∙ h.asked) (reads_none before.files work) written
 
--- the ending whose file was written, and the file
+-- an ending with a file that is stored under its name
 pub record WrittenEnding (end : Option Ending) (after : Files) : Type 0 where
   pub ending : Ending
   pub is : end ≡ Some ending
@@ -250,7 +250,7 @@ module _ (wanted : List Ask) (none : list_any has_written (map answered wanted) 
   written_ending sink sink_after status.Words l = by_work l.ending l.is l.worked
   written_ending sink sink_after status.ExpectFailed l = by_work l.ending l.is l.worked
 
--- the value behind which work came to an ending with a file
+-- the value from which work reached an ending with a file
 pub record CameFrom {A : Type 0} (files : Files) (part : Work A) (more : A → Work Ending) (ending : Ending) : Type 0 where
   pub value : A
   pub is : comes_to files part ≡ Some (Ok value)
@@ -268,7 +268,7 @@ came_from {A} files part more ending file is at = by_end (comes_to files part) r
         absurd (cc)
     by_end (Some (Ok value)) come behind = record { value = value; is = come; ends = behind }
 
--- the ending of a command whose file is that of a program
+-- if the ending of a command has the file of a source's program, and the file is stored under its name, it means the source
 source_means : (before after : Files) (source file : List ℕ) (pictured : Pictured) (ending : Ending) (name bytes : List ℕ) → comes_to before (program_work source) ≡ Some (Ok pictured)
     → ending.file ≡ Some (file, (file_from pictured).bytes) → ending.file ≡ Some (name, bytes) → after name ≡ Some bytes → SourceMeans before after source file
 source_means before after source file pictured ending name bytes is of at stands =
@@ -319,7 +319,7 @@ spoilt_until wanted end before after ending is spoilt =
 some_ending : (end : Option Ending) (ending : Ending) (how : Status) → end ≡ Some ending → how ≡ ending.status → IsSomeAnd end (λ e. how ≡ e.status)
 some_ending end ending how is same = subst (λ (o : Option Ending). IsSomeAnd o (λ e. how ≡ e.status)) (sym is) same
 
--- what was asked, by the status
+-- if a run has the effects of its status, it made the calls of this status
 pub asks_by : (wanted : List Ask) (end : Option Ending) (before after : FolderState) (sink sink_after : SinkState) (how : Status) → LeavesBy wanted end before after sink sink_after how
     → AsksBy (Rose sink.faults sink_after.faults) (wanted ++ writes end) before.calls after.calls how
 asks_by wanted end before after sink sink_after status.ReadFault l = until_front wanted (writes end) before.calls before.calls after.calls false l.1.asked
@@ -332,7 +332,7 @@ asks_by wanted end before after sink sink_after status.Refused l = worked_all wa
 asks_by wanted end before after sink sink_after status.Words l = worked_all wanted end before after l.ending l.is l.worked
 asks_by wanted end before after sink sink_after status.ExpectFailed l = worked_all wanted end before after l.ending l.is l.worked
 
--- where no count of faults rose, a run ends as it is to end, or for want of memory
+-- if no fault count rose, a run ends with the status of its ending, or because an allocation failed
 pub ends_as_wanted : (wanted : List Ask) (end : Option Ending) (before after : FolderState) (sink sink_after : SinkState) (how : Status) → LeavesBy wanted end before after sink sink_after how
     → ¬ Rose before.faults after.faults → ¬ Rose sink.faults sink_after.faults → (how ≡ status.Memory) ⊎ IsSomeAnd end (λ ending. how ≡ ending.status)
 ends_as_wanted wanted end before after sink sink_after status.ReadFault l no_folder no_sink = absurd (no_folder l.0)

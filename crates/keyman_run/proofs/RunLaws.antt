@@ -1,4 +1,4 @@
--- A run in steps: what holds of a step, and of the steps behind it, holds of both.
+-- A run in steps: if a step and the work after it meet their contracts, both together do.
 use Rattle.std.proofs.Common.{◌≡◌, ◌≢◌, inl, inr, ℕ, false, IsTrue, List, [], ◌∷◌, ◌++◌, map, Option, Some, Result, Ok, Err, refl, sym, ◌∙◌, ap, subst, append_assoc, append-nil}
 use Rattle.std.specs.Prelude.{option_map}
 use Rattle.std.specs.Result.{IsErrAnd}
@@ -35,7 +35,7 @@ module _ (wanted more : List Ask) (before middle after : FolderState) (h : HasRe
     files = subst (λ (files : Files). Written ending.file files after.files) same_files worked.files;
   }
 
-  -- what work leaves behind some that was done
+  -- if all reads of a first part of work were made, the effects of more work after it are the effects of the whole work
   pub gives_by_behind : {A B : Type 0} (seen : A → B) (end : Option (Result B Reason)) (result : Result A Stop) → GivesBy seen more end middle after result → GivesBy seen (wanted ++ more) end before after result
   gives_by_behind seen end (Ok value) g = (g.0, record { asked = all_behind wanted more before.calls middle.calls after.calls h.asked g.1.asked; files = same_behind g.1.files })
   gives_by_behind seen end (Err (stop.Refused why)) g = (g.0, record { asked = all_behind wanted more before.calls middle.calls after.calls h.asked g.1.asked; files = same_behind g.1.files })
@@ -79,7 +79,7 @@ module _ (wanted more : List Ask) (before middle after : FolderState) (h : HasRe
     leaves_by_behind status.Words l = ended_behind status.Words l
     leaves_by_behind status.ExpectFailed l = ended_behind status.ExpectFailed l
 
--- where the output is printed behind the work, or a first part of it
+-- if work is done and its output or a first part of it is printed, the run has the effects of its status
 module _ (wanted : List Ask) (end : Option Ending) (ending : Ending) (is : end ≡ Some ending) (before after : FolderState) (sink sink_after : SinkState) where
   pub leaves_told : (how : Status) → HasWorked wanted ending before after → SinkCounts ending.status sink.faults sink_after.faults how
       → (IsTrue sink.told → PrintsBy ending.printed sink.written sink_after.written how) → LeavesBy wanted end before after sink sink_after how
@@ -109,7 +109,7 @@ form_told good status.Memory sink sink_after counts = λ is. cc
 form_told good status.Words sink sink_after counts = absurd counts
 form_told good status.ReadFault sink sink_after counts = absurd counts
 
--- what work that stopped leaves is what it leaves with more work behind it
+-- if work stops, its effects are the effects of this work followed by more work
 stopped_by : {A B C D : Type 0} (seen : A → B) (seen_more : C → D) (part : Work B) (more : B → Work D) (before after : FolderState) (s : Stop)
     → GivesBy seen (reads before.files part) (comes_to before.files part) before after (Err s)
     → GivesBy seen_more (reads before.files (and_then part more)) (comes_to before.files (and_then part more)) before after (Err s)
@@ -137,13 +137,13 @@ gives_stopped {F} {A} {B} {C} {D} seen seen_more part more folders folder after 
     by_stop A B x y (stop.Refused why) counts = counts
     by_stop A B x y stop.Memory counts = counts
 
--- what stops a step is handed on
+-- if a result is a stop, and this stop is the result of the work, the result is the result of the work
 pub gives_handed : {F A B : Type 0} (seen : A → B) (work : Work B) (folders : FolderView F) (folder after : F) (s : Stop) (result : Result A Stop) → IsErrAnd result (λ given. given ≡ s)
     → Gives {A = A} seen work folders folder after (Err s) → Gives seen work folders folder after result
 gives_handed seen work folders folder after s (Ok value) is g = absurd is
 gives_handed {F} {A} {B} seen work folders folder after s (Err given) is g = subst (λ (t : Stop). Gives {A = A} seen work folders folder after (Err t)) (sym is) g
 
--- work that has its value
+-- if work has its value, a run of it returns the value and makes no call
 pub gives_value : {F A B : Type 0} (seen : A → B) (folders : FolderView F) (folder : F) (value : A) → Gives seen (Give (seen value)) folders folder folder (Ok value)
 gives_value seen folders folder value = record {
   counts = refl;
@@ -151,7 +151,7 @@ gives_value seen folders folder value = record {
   gives = λ told. (refl, record { asked = sym (append-nil (folders.calls folder)); files = λ name. refl });
 }
 
--- work that is refused
+-- if work is refused, a run of it stops for the reason and makes no call
 pub gives_refused : {F A B : Type 0} (seen : A → B) (folders : FolderView F) (folder : F) (why : Reason) → Gives seen (Refuse why) folders folder folder (Err (stop.Refused why))
 gives_refused seen folders folder why = record {
   counts = refl;
@@ -159,7 +159,7 @@ gives_refused seen folders folder why = record {
   gives = λ told. (refl, record { asked = sym (append-nil (folders.calls folder)); files = λ name. refl });
 }
 
--- work that wants memory before it reads anything
+-- if an allocation fails before the first read, this is a result of any work that only reads
 pub gives_no_memory : {F A B : Type 0} (seen : A → B) (work : Work B) (folders : FolderView F) (folder : F) → Gives {A = A} seen work folders folder folder (Err stop.Memory)
 gives_no_memory seen work folders folder = record {
   counts = refl;
@@ -167,12 +167,12 @@ gives_no_memory seen work folders folder = record {
   gives = λ told. record { asked = first_none (reads (folders.files folder) work) (folders.calls folder) (folders.calls folder) refl; files = λ name. refl };
 }
 
--- the same work in another form
+-- if two works are equal, a result of one is a result of the other
 pub gives_as : {F A B : Type 0} (seen : A → B) (work other : Work B) (folders : FolderView F) (folder after : F) (result : Result A Stop)
     → work ≡ other → Gives seen work folders folder after result → Gives seen other folders folder after result
 gives_as {F} {A} {B} seen work other folders folder after result same gives = subst (λ (w : Work B). Gives seen w folders folder after result) same gives
 
--- work that only reads, behind some that came to a value
+-- if work that only reads has a value and more work on this value has a result, both together have this result
 pub gives_behind : {F A B C D : Type 0} (seen : A → B) (seen_more : C → D) (part : Work B) (more : B → Work D) (folders : FolderView F) (folder middle after : F) (value : A) (result : Result C Stop)
     → Gives seen part folders folder middle (Ok value) → Gives seen_more (more (seen value)) folders middle after result → Gives seen_more (and_then part more) folders folder after result
 gives_behind {F} {A} {B} {C} {D} seen seen_more part more folders folder middle after value result first second = record {
@@ -191,7 +191,7 @@ gives_behind {F} {A} {B} {C} {D} seen seen_more part more folders folder middle 
       (gives_by_behind (reads files part) (reads files (more (seen value))) (seen_folder folders folder) (seen_folder folders middle) (seen_folder folders after) h.1 seen_more (comes_to files (more (seen value))) result moved));
 }
 
--- a run of work, behind some that came to a value
+-- if work that only reads has a value and a run does more work on this value, the run does both
 pub does_behind : {F S A B : Type 0} (seen : A → B) (part : Work B) (more : B → Work Ending) (folders : FolderView F) (folder middle after : F) (value : A) (sinks : SinkView S) (out out_after : S) (how : Status)
     → Gives seen part folders folder middle (Ok value) → Does (more (seen value)) folders middle after sinks out out_after how → Does (and_then part more) folders folder after sinks out out_after how
 does_behind {F} {S} {A} {B} seen part more folders folder middle after value sinks out out_after how first second = record {
@@ -213,7 +213,7 @@ does_behind {F} {S} {A} {B} seen part more folders folder middle after value sin
       (seen_sink sinks out) (seen_sink sinks out_after) first.counts how moved));
 }
 
--- a run whose work is done, and whose output is printed
+-- if work is done and its output is printed, the run does the work
 pub does_told : {F S : Type 0} (work : Work Ending) (ending : Ending) (folders : FolderView F) (folder after : F) (sinks : SinkView S) (out out_after : S) (how : Status)
     → folders.faults after ≡ folders.faults folder → folders.told after ≡ folders.told folder
     → (IsTrue (folders.told folder) → (ends (folders.files folder) work ≡ Some ending) × HasWorked (reads (folders.files folder) work) ending (seen_folder folders folder) (seen_folder folders after))
@@ -227,7 +227,7 @@ does_told work ending folders folder after sinks out out_after how faults told w
       (worked told_folder).1 tells.counts tells.prints;
 }
 
--- a write that was answered
+-- if a write does not fail and the output is printed, the run does the work of writing the file
 pub does_written : {F S : Type 0} (good : Status) (printed name bytes written : List ℕ) (folders : FolderView F) (folder after : F) (sinks : SinkView S) (out out_after : S) (how : Status) (x : Unit {0})
     → written ≡ bytes → folders.faults after ≡ folders.faults folder → folders.told after ≡ folders.told folder
     → (IsTrue (folders.told folder) → Writes (folders.files folder) (folders.files after) (folders.calls folder) (folders.calls after) name written (Ok x))
@@ -237,7 +237,7 @@ does_written good printed name bytes written folders folder after sinks out out_
     does_told (Give ending) ending folders folder after sinks out out_after how faults told
     (λ told_folder. let w = writes told_folder in (refl, record { asked = w.2; files = (w.0, w.1 ∙ ap Some same) })) tells
 
--- a write that wasn't
+-- if a write returns an error and no output is printed, the run does the work with the status of this error
 pub does_unwritten : {F S : Type 0} (good : Status) (printed name bytes written : List ℕ) (folders : FolderView F) (folder after : F) (sinks : SinkView S) (out : S) (error : WriteError)
     → WriteCounts {X = Unit {0}} (folders.faults folder) (folders.faults after) (Err error) → folders.told after ≡ folders.told folder
     → (IsTrue (folders.told folder) → Writes (folders.files folder) (folders.files after) (folders.calls folder) (folders.calls after) name written (Err error))
@@ -267,7 +267,7 @@ does_unwritten good printed name bytes written folders folder after sinks out wr
       inl (record { asked = record { front = []; rest = []; parts = refl; made = w.1 ∙ sym (append-nil (folders.calls folder)) }; files = w.0 }, λ told_sink. refl);
 }
 
--- a run that stops before it writes
+-- if work stops before it writes and the run satisfies `TellsStop` for this stop, the run does the work followed by any more work
 pub does_stopped : {F S A B : Type 0} (seen : A → B) (part : Work B) (more : B → Work Ending) (folders : FolderView F) (folder after : F) (s : Stop) (sinks : SinkView S) (out out_after : S) (how : Status)
     → Gives seen part folders folder after (Err s) → TellsStop s sinks out out_after how → Does (and_then part more) folders folder after sinks out out_after how
 does_stopped seen part more folders folder after (stop.Refused why) sinks out out_after how g tells =

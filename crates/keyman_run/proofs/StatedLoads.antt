@@ -1,4 +1,4 @@
--- The line of a load is told by its number alone.
+-- The line of a load is determined by its number.
 use Rattle.std.proofs.Common.{◌≡◌, ℕ, suc, ◌+◌, ◌*◌, ◌≤◌, nat_lt, Bool, true, false, if◌then◌else◌, List, [], length, Option, Some, None, Result, Ok, Err, refl, ap, ◌∙◌, arith}
 use Rattle.std.proofs.lemmas.Bool.Decides.{nat_tests}
 use Rattle.kmn_base.specs.Answers.{and_then}
@@ -8,9 +8,9 @@ use Rattle.kmn_base.specs.declared.events.Event.{Event}
 use Rattle.kmn_base.specs.declared.limits.TheConstants.{FILE_BYTES}
 use Rattle.kmn_base.specs.declared.refusals.Refusal.{Refusal}
 use Rattle.kmn_compiler.specs.declared.compiling.Compiled.{Compiled}
-use Rattle.kmx_format.specs.Ordered.{compiled_tables}
+use Rattle.compile_laws.specs.Ordered.{compiled_tables}
 use Rattle.kmx_format.specs.File.{all_rules}
-use Rattle.kmn_compiler.specs.Excess.{excess}
+use Rattle.kmx_writer.specs.Excess.{excess}
 use Rattle.rule_model.specs.Src.{src}
 use Rattle.rule_model.specs.Tab.{tab}
 use Rattle.rule_model.specs.Trace.{Trace, trace}
@@ -33,7 +33,7 @@ use Rattle.keyman_run.specs.Endings.{Job}
 use Rattle.keyman_run.specs.Inputs.{Pictured, by_line, file_from, unless_large}
 use Rattle.keyman_run.specs.Loads.{job_of, load_line, load_text, played_load, program_job, script_job, sums_of, unless_stopped}
 
--- a play that puts an item for each event
+-- if a play outputs an item for each event and leaves two characters, these are its sums
 sums_stated : (count : ℕ) (traced : Trace) → Plays count traced → sums_of traced ≡ Ok (record { events = count; put = count; text = 2 })
 sums_stated count traced h = λ i. unless_stopped (record { events = h.steps i; put = h.put i; text = h.text i }) (h.refused i)
 
@@ -47,7 +47,7 @@ module _ (n : ℕ) (within : n ≤ 2000) where
   abbrev job : Job
   job = record { compiled = file_from pictured; entries = press_entries 1 (suc n) }
 
-  -- the file keeps its limit
+  -- the file is not over the size limit
   abbrev passed_by : Bool → ℕ → Option (Code × ℕ)
   passed_by over size = if over then Some (C23, size) else None
 
@@ -83,7 +83,7 @@ module _ (n : ℕ) (within : n ≤ 2000) where
       let sizes = files_have_sizes n within in
       λ i. and_then (play_stated i) (line (sizes.rules i) (sizes.bytes i))
 
--- the line that a job comes to
+-- the line of a job, or the reason for which it has none
 abbrev line_of : ℕ → Job → Result (List ℕ) Reason
 line_of n job =
     and_then (sums_of (trace (tab job.compiled.tables) (events_of job.entries))) (λ sums.

@@ -1,4 +1,4 @@
--- What a step states that reads nothing, as work; the text of a file, and what it means.
+-- The results of steps that read no file, as work; the source that a file decompiles to, and its meaning.
 use Rattle.std.proofs.Common.{◌≡◌, ℕ, ◌+◌, Bool, true, false, nat_lt, if◌then◌else◌, List, length, Option, Some, None, Result, Ok, Err, refl, sym, ap, ◌∙◌, subst}
 use Rattle.std.specs.Prelude.{IfOk, IsSomeAnd, option_and_then}
 use Rattle.kmn_base.proofs.SmallBytes.{AreBytes}
@@ -26,7 +26,7 @@ use Rattle.keyman_run.specs.Work.{given, reading_of, comes_to}
 use Rattle.keyman_run.specs.Work.Reading.{Bytes, Over}
 use Rattle.keyman_run.proofs.RunLaws.{gives_value, gives_refused, gives_no_memory}
 
--- what a step states that reads nothing is what its work gives
+-- if a result is the specified one for a step that reads no file, it is the result of the step's work
 pub gives_stated : {F A B : Type 0} (seen : A → B) (stated : Result B Reason) (folders : FolderView F) (folder : F) (result : Result A Stop)
     → States seen stated result → Gives seen (given stated) folders folder folder result
 gives_stated {F} {A} {B} seen stated folders folder (Ok value) is =
@@ -36,19 +36,19 @@ gives_stated {F} {A} {B} seen stated folders folder (Err (stop.Refused why)) is 
 gives_stated seen stated folders folder (Err stop.ReadFault) is = absurd is
 gives_stated seen stated folders folder (Err stop.Memory) is = gives_no_memory seen (given stated) folders folder
 
--- what the opening of bytes states that stopped
+-- if the opening of bytes stops, its reason is the specified result
 pub unread_states : {A : Type 0} (seen : A → Tables) (bytes : List ℕ) (error : VerifyError) → IsRefusal error (λ fault. fault_of bytes ≡ Some fault) → States {A = A} seen (tables_of_file bytes) (Err (verify_stop error))
 unread_states seen bytes (verify.Refused fault) is = ap (unless_faulty (tables_of bytes)) is
 unread_states seen bytes verify.Memory is = tt
 
--- what a decompiler gives of a valid file is its text
+-- if bytes are a valid file, the text that the decompiler returns is their text
 pub text_has : (bytes file text : List ℕ) → AreBytes bytes → fault_of bytes ≡ None → file ≡ bytes → unspelled file ≡ None → text ≡ program_text (back (tables_of file)) → IsTextOf bytes text
 text_has bytes file text small valid same spelled is = record {
   has = record { small = small; playable = valid_playable bytes small valid; spelled = ap unspelled (sym same) ∙ spelled };
   is = is ∙ ap (λ (b : List ℕ). program_text (back (tables_of b))) same;
 }
 
--- the bytes that were read are those of the file
+-- the bytes that were read are the bytes of the file
 bytes_found : (files : Files) (name bytes : List ℕ) → comes_to files (bytes_work name) ≡ Some (Ok bytes) → files name ≡ Some bytes
 bytes_found files name bytes come = by_found (files name) come
   where
@@ -60,7 +60,7 @@ bytes_found files name bytes come = by_found (files name) come
     by_found None come = absurd (cc)
     by_found (Some found) come = by_test found (nat_lt FILE_BYTES (length found)) come
 
--- so the text of the bytes is that of the file
+-- so the text of the bytes that were read is the text of the file
 pub text_found : (files : Files) (name slice bytes : List ℕ) (result : Result (List ℕ) Stop) → comes_to files (bytes_work name) ≡ Some (Ok bytes) → slice ≡ bytes
     → IfOk result (λ text. IsTextOf slice text) → IfOk result (λ text. IsSomeAnd (files name) (λ found. IsTextOf found text))
 text_found files name slice bytes (Ok text) come same is =
@@ -68,7 +68,7 @@ text_found files name slice bytes (Ok text) come same is =
     rw found (subst (λ (b : List ℕ). IsTextOf b text) same is)
 text_found files name slice bytes (Err s) come same is = tt
 
--- and means it where it was written
+-- if the text of a file is written as a source, it means the file
 pub text_means : (before after : Files) (file source text slice : List ℕ) → IsSomeAnd (before file) (λ bytes. IsTextOf bytes text) → slice ≡ text → after source ≡ Some slice → TextMeans before after file source
 text_means before after file source text slice has same stands = by_found (before file) refl has
   where

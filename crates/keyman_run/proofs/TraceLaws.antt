@@ -1,4 +1,4 @@
--- What is traced by the tables of a source is what the source means.
+-- A trace on the tables of a source prints what the source means.
 use Rattle.std.proofs.Common.{◌≡◌, ℕ, IsTrue, List, ◌++◌, None, Ok, Err, refl, sym, ◌∙◌, subst, append-nil}
 use Rattle.kmn_base.specs.declared.events.Event.{Event}
 use Rattle.kmn_outside.specs.Outside.{WriteCounts}
@@ -14,12 +14,12 @@ use Rattle.rule_model.specs.Src.{src}
 use Rattle.rule_model.specs.Tab.{tab}
 use Rattle.rule_model.specs.Trace.{trace}
 use Rattle.rule_model.specs.Transcript.{events_of}
-use Rattle.kmx_format.specs.Ordered.{compiled_tables}
-use Rattle.kmx_format.proofs.Ordered.{program_compiles}
+use Rattle.compile_laws.specs.Ordered.{compiled_tables}
+use Rattle.compile_laws.proofs.Ordered.{program_compiles}
 use Rattle.rule_checker.specs.Refused.{checked}
-use Rattle.plain_event.specs.declared.coverage.Hit.{Hit}
-use Rattle.plain_event.specs.Coverage.{lines_of_tables, AreLinesOf}
-use Rattle.plain_event.proofs.Lines.{choice_kept}
+use Rattle.rule_trace.specs.declared.coverage.Hit.{Hit}
+use Rattle.rule_trace.specs.Coverage.{lines_of_tables, AreLinesOf}
+use Rattle.rule_trace.proofs.Lines.{choice_kept}
 use Rattle.play_transcript.proofs.KeyboardLines.{same_lines_of_tables}
 use Rattle.play_transcript.proofs.TraceLaws.{same_text}
 use Rattle.play_transcript.specs.TraceEnds.{trace_end}
@@ -42,11 +42,11 @@ use Rattle.keyman_run.proofs.MeaningLaws.{IsChecked, IsCompilable, IsOf, all_che
 use Rattle.keyman_run.proofs.RunLaws.{does_told}
 use Rattle.keyman_run.proofs.WorkLaws.{and_then_assoc, same_behind_all}
 
--- an accepted program chooses the lines that its tables choose
+-- an accepted program chooses the same lines as its tables
 checked_choice : (source : List ℕ) (program : Program) → checked source ≡ Ok program → (state : State) (event : Event) → chosen (src program) state event ≡ chosen (tab (compiled_tables program)) state event
 checked_choice source program is = choice_kept program (compiled_tables program) (checked_accepted source program is).named (program_compiles program)
 
--- so what its tables print of a script that is traced is what the program means
+-- so a trace on the tables of an accepted program prints what a trace on the program prints
 checked_text : (source : List ℕ) (program : Program) → checked source ≡ Ok program → (lines : List ℕ) (entries : List Entry) → trace_text (tab (compiled_tables program)) lines entries ≡ trace_text (src program) lines entries
 checked_text source program is =
     same_text (tab (compiled_tables program)) (src program) (λ events. sym (checked_steps source program is events)) (λ state event. sym (checked_choice source program is state event))
@@ -60,7 +60,7 @@ same_traced pictured lines entries h = λ i.
       printed = checked_text h.source pictured.program h.is lines entries i;
     }
 
--- the work behind a job, and what the meaning wants behind the program of its source
+-- the work that follows a job, and the work that follows the program of its source by its meaning
 abbrev pub trace_job : Job → Work Ending
 trace_job job = Give (trace_ending (tab job.compiled.tables) (lines_of_tables job.compiled.tables) job.entries)
 
@@ -77,7 +77,7 @@ traced_behind source keys program h =
     (λ pictured. and_then (script_work (src program).dictionary keys) (λ entries. trace_job (record { compiled = file_from pictured; entries = entries }))) (trace_behind keys) (all_of source program h)
     (λ pictured of i. and_then (script_work (src (sym of.same i)).dictionary keys) (λ entries. Give (same_traced pictured (lines_of_tables (compiled_tables pictured.program)) entries of.compilable i)))
 
--- what is traced by the tables is what the meaning wants
+-- if a job is traced by its tables, the work is equal to the work of `trace`, which traces the program
 pub traced_as_meant : (source keys : List ℕ) → and_then (job_work source keys) trace_job ≡ trace_work source keys
 traced_as_meant source keys =
     and_then_assoc (source_work source) (job_behind source keys) trace_job
@@ -85,7 +85,7 @@ traced_as_meant source keys =
     (traced_behind source keys)
     ∙ sym (and_then_assoc (source_work source) (pictured_work source) (trace_behind keys))
 
--- tracing on the file of tables, whose keyboard is theirs
+-- if a file has the keyboard of tables, a run that prints the trace on the file prints the trace on the tables
 pub traces_written : {S : Type 0} (bytes file : List ℕ) (tables : Tables) (slice entries : List Entry) (sinks : SinkView S) (out out_after : S) (how : Status)
     → tab (tables_of bytes) ≡ tab tables → file ≡ bytes → slice ≡ entries
     → Tells (trace_status (trace (tab (tables_of file)) (events_of slice))) (trace_text (tab (tables_of file)) (lines_of_tables (tables_of file)) slice) sinks out out_after how
@@ -96,18 +96,18 @@ traces_written bytes file tables slice entries sinks out out_after how keyboard 
     (subst (λ (b : List ℕ). Tells (trace_status (trace (tab (tables_of b)) (events_of entries))) (trace_text (tab (tables_of b)) (lines_of_tables (tables_of b)) entries) sinks out out_after how) same
     (subst (λ (es : List Entry). Tells (trace_status (trace (tab (tables_of file)) (events_of es))) (trace_text (tab (tables_of file)) (lines_of_tables (tables_of file)) es) sinks out out_after how) same_entries tells)))
 
--- the coverage of tables is one of their file
+-- if a coverage is one of tables, it is one of their file
 pub lines_of_file : (bytes file : List ℕ) (tables : Tables) (hits : List Hit) → tab (tables_of bytes) ≡ tab tables → file ≡ bytes → AreLinesOf tables hits → AreLinesOf (tables_of file) hits
 lines_of_file bytes file tables hits keyboard same are = subst (λ (b : List ℕ). AreLinesOf (tables_of b) hits) (sym same) (are ∙ sym (same_lines_of_tables tables (tables_of bytes) keyboard))
 
--- and what a trace of a script leaves is what its ending wants
+-- if a run prints a trace, it does the work of the trace
 pub does_traced : {F S : Type 0} (kb : Keyboard) (lines : List ℕ) (entries : List Entry) (folders : FolderView F) (folder : F) (sinks : SinkView S) (out out_after : S) (how : Status)
     → Tells (trace_status (trace kb (events_of entries))) (trace_text kb lines entries) sinks out out_after how → Does (Give (trace_ending kb lines entries)) folders folder folder sinks out out_after how
 does_traced kb lines entries folders folder sinks out out_after how tells =
     does_told (Give (trace_ending kb lines entries)) (trace_ending kb lines entries) folders folder folder sinks out out_after how refl refl
     (λ told. (refl, record { asked = sym (append-nil (folders.calls folder)); files = λ name. refl })) tells
 
--- a trace that was printed whole
+-- if a trace is printed whole, the run ends with the status of the trace
 told_end : {S : Type 0} (end : TraceEnd) (text : List ℕ) (sinks : SinkView S) (out out_after : S) → sinks.faults out_after ≡ sinks.faults out → sinks.told out_after ≡ sinks.told out
     → (IsTrue (sinks.told out) → sinks.written out_after ≡ sinks.written out ++ text) → Tells (end_of_trace end) text sinks out out_after (end_of_trace end)
 told_end followed.Done text sinks out out_after faults told prints = record { counts = (refl, faults); told = told; prints = prints }
@@ -123,7 +123,7 @@ traces_ended session tables entries end sinks out out_after how same how_is is f
     (subst (λ (s : Status). Tells (end_of_trace end) (trace_text (tab session) (lines_of_tables session) entries) sinks out out_after s) (sym how_is)
     (told_end end (trace_text (tab session) (lines_of_tables session) entries) sinks out out_after faults told prints)))
 
--- and one whose printing broke off
+-- if the printing of a trace breaks off, the run ends with the status of the error
 told_broken : {S : Type 0} (good : Status) (text : List ℕ) (error : WriteError) (sinks : SinkView S) (out out_after : S) → WriteCounts {X = TraceEnd} (sinks.faults out) (sinks.faults out_after) (Err error)
     → sinks.told out_after ≡ sinks.told out → (IsTrue (sinks.told out) → Prints {A = TraceEnd} {E = WriteError} (sinks.written out) (sinks.written out_after) text (Err error))
     → Tells good text sinks out out_after (write_status error)

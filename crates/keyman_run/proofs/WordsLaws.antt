@@ -1,4 +1,4 @@
--- A run of words, from what the command does that they ask for.
+-- A run of arguments, from the run of the command that they request.
 use Rattle.std.proofs.Common.{◌≡◌, ℕ, IsTrue, List, Option, Some, None, refl, sym, ap, subst, append-nil}
 use Rattle.std.specs.Prelude.{is_some}
 use Rattle.keyman_words.specs.declared.status.Status.{Status}
@@ -14,7 +14,7 @@ use Rattle.keyman_run.proofs.LoadLaws.{is_asked}
 use Rattle.keyman_run.proofs.MeaningLaws.{asks_by, ends_as_wanted}
 use Rattle.keyman_run.proofs.ShadowLaws.{fields_are_alone, lines_are_dead}
 
--- words that ask for a command run as it does
+-- if arguments request a command and a run does it, the run satisfies `Runs`
 pub runs_asked : {F S : Type 0} (said : List (List ℕ)) (request : Request) (folders : FolderView F) (folder after : F) (sinks : SinkView S) (out out_after : S) (how : Status)
     → Some request ≡ request_of said → Does (work_of (Some request)) folders folder after sinks out out_after how
     → (IsTrue (folders.told folder) → FileMeans (seen_folder folders folder) (seen_folder folders after) (Some request)) → Runs said folders folder after sinks out out_after how
@@ -36,7 +36,7 @@ runs_asked said request folders folder after sinks out out_after how is does mea
       hosts = λ told. fields_are_alone (folders.files folder) (request_of said);
     }
 
--- other words ask for nothing: the run ends at once
+-- if arguments make no request, a run that ends immediately satisfies `Runs`
 pub runs_nothing : {F S : Type 0} (said : List (List ℕ)) (folders : FolderView F) (folder : F) (sinks : SinkView S) (out : S) → None ≡ request_of said
     → Runs said folders folder folder sinks out out status.Words
 runs_nothing said folders folder sinks out is =

@@ -1,4 +1,4 @@
--- Work in steps: what is asked and what comes of it where more work stands behind some.
+-- Work in steps: the reads and the result of work that is followed by more work.
 use Rattle.std.proofs.Common.{◌≡◌, ℕ, ◌+◌, ◌<◌, ◌≤◌, nat_lt, Bool, true, false, if◌then◌else◌, length, List, [], ◌∷◌, ◌++◌, Option, Some, None, Result, Ok, Err, refl, ◌∙◌, ap, subst, append-nil, arith}
 use Rattle.std.specs.Prelude.{option_and_then}
 use Rattle.std.specs.Option.{option_map_or}
@@ -10,7 +10,7 @@ use Rattle.keyman_run.specs.Work.{Reading, Work, given, and_then, reading_of, re
 use Rattle.keyman_run.specs.Work.Reading.{Bytes, Over}
 use Rattle.keyman_run.specs.Work.Work.{Give, Refuse, Read}
 
--- what is read by the work behind some, and what it comes to
+-- the reads of the work that follows a result, and the result of that work
 abbrev pub reads_behind : {A B : Type 0} → Files → (A → Work B) → Option (Result A Reason) → List Ask
 reads_behind files more None = []
 reads_behind files more (Some (Err why)) = []
@@ -47,7 +47,7 @@ module _ {A B : Type 0} (files : Files) (more : A → Work B) where
   comes_and_then (Refuse why) = refl
   comes_and_then (Read name limit next) = found_comes limit next (files name) (λ reading. comes_and_then (next reading))
 
-  -- where the part came to a value, the work goes on by it; where it was refused, so is the whole
+  -- if the first part has a value, the work continues with it; if the first part is refused, the whole work is refused
   pub reads_on : (part : Work A) (value : A) → comes_to files part ≡ Some (Ok value) → reads files (and_then part more) ≡ reads files part ++ reads files (more value)
   reads_on part value is = reads_and_then part ∙ ap (λ end. reads files part ++ reads_behind files more end) is
 
@@ -60,19 +60,19 @@ module _ {A B : Type 0} (files : Files) (more : A → Work B) where
   pub comes_refused : (part : Work A) (why : Reason) → comes_to files part ≡ Some (Err why) → comes_to files (and_then part more) ≡ Some (Err why)
   comes_refused part why is = comes_and_then part ∙ ap (comes_behind files more) is
 
--- work behind work behind work
+-- `and_then` is associative
 pub and_then_assoc : {A B C : Type 0} (part : Work A) (more : A → Work B) (last : B → Work C)
     → and_then (and_then part more) last ≡ and_then part (λ value. and_then (more value) last)
 and_then_assoc (Give value) more last = refl
 and_then_assoc (Refuse why) more last = refl
 and_then_assoc (Read name limit next) more last = λ i. Read name limit (λ reading. and_then_assoc (next reading) more last i)
 
--- what comes of a value or a reason
+-- the result of the work of a value or a reason is this value or reason
 pub comes_given : {A : Type 0} (files : Files) (read : Result A Reason) → comes_to files (given read) ≡ Some read
 comes_given files (Ok value) = refl
 comes_given files (Err why) = refl
 
--- what holds of every value that work can come to
+-- a condition holds for every value that work can produce
 abbrev pub AllGive : {A : Type 0} → (A → Type 0) → Work A → Type 0
 AllGive holds (Give value) = holds value
 AllGive holds (Refuse why) = Unit {0}
@@ -88,7 +88,7 @@ all_behind_all holds holds_more (Give value) more all then_all = then_all value 
 all_behind_all holds holds_more (Refuse why) more all then_all = tt
 all_behind_all holds holds_more (Read name limit next) more all then_all = λ reading. all_behind_all holds holds_more (next reading) more (all reading) then_all
 
--- work behind some is the same where it is for each value that this can come to
+-- if two kinds of further work are equal for each value that work can produce, the work followed by either is equal
 pub same_behind_all : {A B : Type 0} (holds : A → Type 0) (part : Work A) (more other : A → Work B) → AllGive holds part → ((value : A) → holds value → more value ≡ other value)
     → and_then part more ≡ and_then part other
 same_behind_all holds (Give value) more other all same = same value all
@@ -101,7 +101,7 @@ found_holds : {A : Type 0} (holds : A → Type 0) (files : Files) (limit : ℕ) 
 found_holds holds files limit next None value all is = absurd (cc)
 found_holds holds files limit next (Some bytes) value all is = all (reading_of limit bytes) is
 
--- the value that work comes to is one of them
+-- if a condition holds for every value that work can produce, it holds for the value of its result
 pub comes_to_all : {A : Type 0} (holds : A → Type 0) (files : Files) (work : Work A) (value : A) → AllGive holds work → comes_to files work ≡ Some (Ok value) → holds value
 comes_to_all holds files (Give found) value all is =
     let e : found ≡ value = cc in
@@ -110,7 +110,7 @@ comes_to_all holds files (Refuse why) value all is = absurd (cc)
 comes_to_all holds files (Read name limit next) value all is =
     found_holds holds files limit next (files name) value (λ reading come. comes_to_all holds files (next reading) value (all reading) come) is
 
--- a file is read whole where it keeps the limit
+-- if a file keeps the limit, it is read whole; if it is longer, the result is `Over`
 pub reading_within : (limit : ℕ) (bytes : List ℕ) → length bytes ≤ limit → reading_of limit bytes ≡ Bytes bytes
 reading_within limit bytes within = by_test (nat_lt limit (length bytes)) (grind (arith, nat_tests))
   where
@@ -126,7 +126,7 @@ reading_over limit bytes over = by_test (nat_lt limit (length bytes)) (grind (ar
     by_test false is = absurd (cc)
 
 module _ {A : Type 0} (files : Files) (name : List ℕ) (limit : ℕ) (next : Reading → Work A) (bytes : List ℕ) (is : files name ≡ Some bytes) where
-  -- what is asked and what comes of it behind a file that was found
+  -- if a file is found, work that reads it makes this read, and then continues with what was read
   pub reads_found : (reading : Reading) → reading_of limit bytes ≡ reading → reads files (Read name limit next) ≡ read_of name ∷ reads files (next reading)
   reads_found reading at =
       ap (λ (found : Option (List ℕ)). read_of name ∷ option_map_or (λ b. reads files (next (reading_of limit b))) found []) is

@@ -1,4 +1,4 @@
--- The calls of a folder that a run makes.
+-- The calls that a run makes to a folder.
 use Rattle.std.specs.Prelude.{◌≡◌, ◌⊎◌, ℕ, Bool, true, false, not, ◌&&◌, IsTrue, List, [], ◌∷◌, ◌++◌, map}
 use Rattle.std.specs.List.{list_any}
 use Rattle.kmn_outside.specs.Outside.{call_of}
@@ -6,7 +6,7 @@ use Rattle.kmn_outside.specs.declared.traits.Call.{Call}
 use Rattle.keyman_words.specs.declared.status.Status.{Status}
 use Rattle.keyman_words.specs.declared.status.Status.TheVariants as status
 
--- a name that is asked for, and whether its file is to be written
+-- an access to a file: its name, and whether the file is to be written
 abbrev pub Ask : Type 0
 Ask = List ℕ × Bool
 
@@ -16,25 +16,25 @@ read_of name = (name, false)
 abbrev pub write_of : List ℕ → Ask
 write_of name = (name, true)
 
--- the call that answers what is asked, and the one that fails
+-- the call of an access that does not fail, and the call of an access that fails
 abbrev pub answered : Ask → Call
 answered ask = call_of ask.0 ask.1 false
 
 abbrev pub failed : Ask → Call
 failed ask = call_of ask.0 ask.1 true
 
--- all of these calls were made in this order and answered
+-- all of these accesses were made in this order, and none failed
 abbrev pub AsksAll : List Ask → List Call → List Call → Type 0
 AsksAll wanted before after = after ≡ before ++ map answered wanted
 
--- a first part of these calls was made and answered, maybe none or all of them
+-- a first part of these accesses was made, maybe none or all of them, and none failed
 pub record AsksFirst (wanted : List Ask) (before after : List Call) : Type 0 where
   pub front : List Ask
   pub rest : List Ask
   pub parts : wanted ≡ front ++ rest
   pub made : after ≡ before ++ map answered front
 
--- a first part of these calls was made; the last of them failed, which is a write or a read, and those before were answered
+-- a first part of these accesses was made; the last of them, a write or a read, failed, and those before it did not fail
 pub record AsksUntil (is_write : Bool) (wanted : List Ask) (before after : List Call) : Type 0 where
   pub front : List Ask
   pub name : List ℕ
@@ -42,20 +42,20 @@ pub record AsksUntil (is_write : Bool) (wanted : List Ask) (before after : List 
   pub parts : wanted ≡ front ++ (name, is_write) ∷ rest
   pub made : after ≡ before ++ (map answered front ++ failed (name, is_write) ∷ [])
 
--- the calls of a run by its status, and the fact that the sink's count of faults rose: a run ends with a fault of reading
--- exactly where its last call is a read that failed, and with a fault of writing exactly where its last call is a write that
--- failed or the sink failed; all is asked and answered where the run doesn't end early
+-- the calls of a run by its status, where `sink_rose` states that the sink's fault count rose: a run ends with a read fault
+-- exactly where its last call is a read that failed, and with a write fault exactly where its last call is a write that failed or
+-- the sink failed; a run that doesn't end early makes all accesses, and none fails
 abbrev pub AsksBy : Type 0 → List Ask → List Call → List Call → Status → Type 0
 AsksBy sink_rose wanted before after status.ReadFault = AsksUntil false wanted before after
 AsksBy sink_rose wanted before after status.WriteFault = AsksUntil true wanted before after ⊎ (sink_rose × AsksAll wanted before after)
 AsksBy sink_rose wanted before after status.Memory = AsksFirst wanted before after
 AsksBy sink_rose wanted before after _ = AsksAll wanted before after
 
--- a write that was answered
+-- whether a call is a write that did not fail
 abbrev pub has_written : Call → Bool
 has_written call = call.is_write && not call.failed
 
--- among the calls that were made is a write that was answered
+-- the calls that were made between two states include a write that did not fail
 pub record HasWritten (before after : List Call) : Type 0 where
   pub made : List Call
   pub added : after ≡ before ++ made

@@ -1,4 +1,4 @@
--- How work on files ends: with which status, which file it writes, and what it prints.
+-- How work on files ends: its status, the file that it writes, and what it prints.
 use Rattle.std.specs.Prelude.{ℕ, List, [], ◌∷◌, ◌++◌, Option, Some, None, option_map, Result, Ok, Err}
 use Rattle.kmn_outside.specs.Outside.{Files}
 use Rattle.rule_model.specs.Keyboard.{Keyboard}
@@ -21,21 +21,21 @@ use Rattle.play_transcript.specs.TraceText.{trace_text}
 use Rattle.play_transcript.specs.declared.following.TraceEnd.{TraceEnd}
 use Rattle.play_transcript.specs.declared.following.TraceEnd.TheVariants as followed
 use Rattle.shadow_text.specs.DeadLines.{dead_text}
-use Rattle.play_script.specs.declared.entries.HostEntry.{HostEntry}
+use Rattle.text_host.specs.declared.entries.HostEntry.{HostEntry}
 use Rattle.play_transcript.specs.HostText.{host_end, host_text}
 use Rattle.keyman_run.specs.Work.{Work, reads, comes_to}
 
--- how work ends where nothing fails: its status, the file that it writes by name and bytes, and all that it prints
+-- how work ends if no call fails: its status, the file that it writes by name and bytes, and all that it prints
 pub record Ending : Type 0 where
   pub status : Status
   pub file : Option (List ℕ × List ℕ)
   pub printed : List ℕ
 
--- an end with the line of a reason: nothing is written
+-- the ending of refused work prints the line of the reason and writes no file
 abbrev pub refused_ending : Reason → Ending
 refused_ending why = record { status = status.Refused; file = None; printed = reason_line why }
 
--- words that are no command end so at once
+-- the ending for arguments that are not a command, which do no work
 abbrev pub words_ending : Ending
 words_ending = record { status = status.Words; file = None; printed = [] }
 
@@ -72,7 +72,7 @@ play_status traced entries = end_status (play_end traced entries)
 abbrev pub play_ending : Keyboard → List Entry → Ending
 play_ending kb entries = record { status = play_status (trace kb (events_of entries)) entries; file = None; printed = transcript kb entries }
 
--- a compiled file and the script to play on it
+-- a compiled keyboard and the script to play on it
 pub record Job : Type 0 where
   pub compiled : Compiled
   pub entries : List Entry
@@ -94,7 +94,7 @@ end_of_trace followed.Refused = status.Refused
 abbrev pub trace_status : Trace → Status
 trace_status traced = end_of_trace (trace_end traced)
 
--- a trace prints which lines fire where a keyboard does the script, and which of these never do, and writes no file
+-- a trace prints which lines fire when a keyboard runs the script, and which of these lines never fire, and writes no file
 abbrev pub trace_ending : Keyboard → List ℕ → List Entry → Ending
 trace_ending kb lines entries = record { status = trace_status (trace kb (events_of entries)); file = None; printed = trace_text kb lines entries }
 
@@ -102,20 +102,20 @@ trace_ending kb lines entries = record { status = trace_status (trace kb (events
 abbrev pub shadow_ending : Tables → Ending
 shadow_ending tables = record { status = status.Done; file = None; printed = dead_text tables }
 
--- a host prints what its fields over tables do with a script, and writes no file
+-- a host prints what its fields on a keyboard's tables do with a script, and writes no file
 abbrev pub host_ending : Tables → List HostEntry → Ending
 host_ending tables entries = record { status = end_status (host_end tables entries); file = None; printed = host_text tables entries }
 
--- work that is refused ends with the reason's line
+-- the ending of work by its result: refused work ends with the line of the reason
 abbrev pub conclusion : Result Ending Reason → Ending
 conclusion (Ok ending) = ending
 conclusion (Err why) = refused_ending why
 
--- how work ends; None where a file is missing
+-- how work ends, or `None` if a file is missing
 abbrev pub ends : Files → Work Ending → Option Ending
 ends files work = option_map conclusion (comes_to files work)
 
--- the name that is written
+-- the write access to the file of an ending, if it writes one
 abbrev pub file_asks : Option (List ℕ × List ℕ) → List Ask
 file_asks None = []
 file_asks (Some file) = write_of file.0 ∷ []
@@ -124,6 +124,6 @@ abbrev pub writes : Option Ending → List Ask
 writes None = []
 writes (Some ending) = file_asks ending.file
 
--- all names that are asked for, in order: those that are read, and where the work comes to its end the one that is written
+-- all accesses of work in order: its reads, and the write of its ending unless a file is missing
 abbrev pub asked : Files → Work Ending → List Ask
 asked files work = reads files work ++ writes (ends files work)

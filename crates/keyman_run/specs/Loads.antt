@@ -1,4 +1,4 @@
--- What a load comes to: a large keyboard of a number that is made, compiled and played.
+-- The results of a load: a large keyboard of a given size that is generated, compiled and played.
 use Rattle.std.specs.Prelude.{◌≡◌, ℕ, ◌+◌, ◌*◌, List, [], ◌∷◌, ◌++◌, length, codes, if◌then◌else◌, Option, Some, None, Result, Ok, Err}
 use Rattle.std.specs.List.{concat}
 use Rattle.std.specs.Fmt.{decimal}
@@ -27,29 +27,29 @@ use Rattle.keyman_run.specs.Inputs.{file_from, pictured_within, program_of, scri
 use Rattle.play_transcript.specs.Playing.{steps_left}
 use Rattle.keyman_run.specs.Work.Reading.{Bytes}
 
--- the file of a program without a picture, unless it passes a limit
+-- the file of a program without a picture, unless it is over a limit
 abbrev pub compiled_within : Program → Result Compiled Reason
 compiled_within program = and_then (pictured_within program []) (λ pictured. Ok (file_from pictured))
 
--- a script that is read for a compiled keyboard with this dictionary of keys
+-- the job of a compiled keyboard and a script that is read with this dictionary of keys
 abbrev pub script_job : Compiled → (dictionary : List (List ℕ)) → (script : List ℕ) → Result Job Reason
 script_job compiled dictionary script =
     and_then (script_of dictionary (Bytes script)) (λ entries. Ok (record { compiled = compiled; entries = entries }))
 
--- a program that is compiled without a picture, and a script that is read for it
+-- the job of a program that is compiled without a picture, and a script that is read for it
 abbrev pub program_job : Program → (script : List ℕ) → Result Job Reason
 program_job program script =
     and_then (compiled_within program) (λ compiled. script_job compiled (src program).dictionary script)
 
--- the same of a source
+-- the job of a source that is compiled without a picture, and a script that is read for it
 abbrev pub job_of : (source script : List ℕ) → Result Job Reason
 job_of source script = and_then (program_of (Bytes source)) (λ program. program_job program script)
 
--- the load of a number, compiled and read
+-- the job of the load of a number: its source is compiled and its script is read
 abbrev pub load_job : ℕ → Result Job Reason
 load_job number = if is_in_range number then job_of (load_source number) (load_script number) else Err reason.Number
 
--- the sums of a play's steps from a state on
+-- the sums of the steps of a play that starts in a state
 abbrev pub sums_from : State → List Step → Sums
 sums_from state steps = record { events = length steps; put = items_put steps; text = length (whole_text (last_state state steps)) }
 
@@ -61,11 +61,11 @@ unless_stopped sums (Some refused) = Err (reason.Event refused.0 refused.1)
 abbrev pub sums_of : Trace → Result Sums Reason
 sums_of traced = unless_stopped (sums_from traced.first traced.done) traced.refused
 
--- what is printed of a load: its number, the rules and the bytes of its file
+-- the first part of a load's line: its number, and the numbers of rules and bytes of its file
 unfoldable pub file_part : (number rules bytes : ℕ) → List ℕ
 file_part number rules bytes = concat (codes "load n=" ∷ decimal number ∷ codes " rules=" ∷ decimal rules ∷ codes " bytes=" ∷ decimal bytes ∷ [])
 
--- and the sums of its play
+-- the second part of a load's line: the sums of its play
 unfoldable pub play_part : Sums → List ℕ
 play_part sums =
     concat (codes " events=" ∷ decimal sums.events ∷ codes " put=" ∷ decimal sums.put ∷ codes " text=" ∷ decimal sums.text ∷ codes "\n" ∷ [])
@@ -73,34 +73,34 @@ play_part sums =
 abbrev pub load_line : (number rules bytes : ℕ) → Sums → List ℕ
 load_line number rules bytes sums = file_part number rules bytes ++ play_part sums
 
--- the line of the load of a number, made, compiled and played
+-- the line of the load of a number that is generated, compiled and played
 abbrev pub played_load : ℕ → Result (List ℕ) Reason
 played_load number =
     and_then (load_job number) (λ job.
     and_then (sums_of (trace (tab job.compiled.tables) (events_of job.entries))) (λ sums.
     Ok (load_line number (length (all_rules job.compiled.tables)) (length job.compiled.bytes) sums)))
 
--- the same by the number alone: a rule for each press of K_A, 28 bytes for each rule behind the first one, an item for each
--- press, and two characters in the end
+-- the same line computed from only the number: a rule for each press of K_A, 28 bytes for each rule after the first one, an item
+-- for each press, and two characters at the end
 abbrev pub load_text : ℕ → Result (List ℕ) Reason
 load_text number =
     if is_in_range number then Ok (load_line number (number + 1) (122 + 28 * number) (record { events = number + 2; put = number + 2; text = 2 }))
     else Err reason.Number
 
--- before the first entry
+-- the progress before the first entry
 abbrev pub no_progress : Progress
 no_progress = record { number = 0; events = 0; put = 0 }
 
--- sums behind what was counted before
+-- the sums of a play that starts after this progress
 abbrev pub sums_behind : Progress → Sums → Sums
 sums_behind progress sums = record { events = progress.events + sums.events; put = progress.put + sums.put; text = sums.text }
 
--- what a play comes to from a session and its counts on
+-- the sums of the whole play, from the progress and the entries that are left in a session, unless an event is refused
 abbrev pub sums_left : SessionState → Progress → List Entry → Result Sums Reason
 sums_left session progress entries =
     unless_stopped (sums_behind progress (sums_from session.state (steps_left session entries).done)) (steps_left session entries).refused
 
--- what a play comes to is what it comes to behind an entry, or is the reason that the entry stops it for
+-- the result of a play is its result after an entry, or the reason for which the entry stops the play
 abbrev pub LeadsTo : Result Sums Reason → (Progress → Result Sums Reason) → Result Progress Stop → Type 0
 LeadsTo whole rest (Ok next) = whole ≡ rest next
 LeadsTo whole rest (Err (stop.Refused why)) = whole ≡ Err why

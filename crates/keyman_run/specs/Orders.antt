@@ -6,14 +6,14 @@ use Rattle.rule_model.specs.Tab.{tab}
 use Rattle.rule_model.specs.declared.program.Program.{Program}
 use Rattle.rule_model.specs.declared.script.Entry.{Entry}
 use Rattle.rule_model.specs.declared.tables.Tables.{Tables}
-use Rattle.kmx_format.specs.Ordered.{compiled_tables}
+use Rattle.compile_laws.specs.Ordered.{compiled_tables}
 use Rattle.kmn_compiler.specs.Picture.{picture_name}
 use Rattle.kmn_compiler.specs.declared.compiling.Compiled.{Compiled}
-use Rattle.plain_event.specs.Coverage.{lines_of_tables}
+use Rattle.rule_trace.specs.Coverage.{lines_of_tables}
 use Rattle.keyman_words.specs.Beside.{beside}
 use Rattle.keyman_words.specs.Command.{Request}
 use Rattle.keyman_words.specs.Command.Request.{Compile, Decompile, Host, Layout, Load, Play, Shadow, Test, Trace, Verify}
-use Rattle.play_script.specs.declared.entries.HostEntry.{HostEntry}
+use Rattle.text_host.specs.declared.entries.HostEntry.{HostEntry}
 use Rattle.keyman_run.specs.Endings.{Ending, Job, compile_ending, decompile_ending, host_ending, layout_ending, load_ending, play_ending, shadow_ending, test_ending, trace_ending, verify_ending, words_ending}
 use Rattle.keyman_run.specs.Inputs.{Pictured, few_records, file_from, host_script_of, keys_of, picture_of, pictured_within, program_of, script_of, bytes_of, tables_of_file, text_of_file}
 use Rattle.keyman_run.specs.Loads.{load_text}
@@ -24,16 +24,16 @@ use Rattle.keyman_run.specs.Work.Work.{Give, Read}
 abbrev pub source_work : (source : List ℕ) → Work Program
 source_work source = Read source TEXT_BYTES (λ reading. given (program_of reading))
 
--- read the picture of this name, which stands beside the source; where there is no name nothing is read
+-- read the picture of this name in the folder of the source; without a name, read no file
 abbrev pub picture_work : (source : List ℕ) → Option (List ℕ) → Work (List ℕ)
 picture_work source None = Give []
 picture_work source (Some name) = Read (beside source name) PICTURE_BYTES (λ reading. given (picture_of reading))
 
--- read the picture of a source's program, and see that the file keeps the limits
+-- read the picture of a source's program, and check that the file keeps the limits
 abbrev pub pictured_work : (source : List ℕ) → Program → Work Pictured
 pictured_work source program = and_then (picture_work source (picture_name program)) (λ picture. given (pictured_within program picture))
 
--- read a source, check it, read its picture, and see that the file keeps the limits
+-- read a source, check it, read its picture, and check that the file keeps the limits
 abbrev pub program_work : (source : List ℕ) → Work Pictured
 program_work source = and_then (source_work source) (pictured_work source)
 
@@ -69,11 +69,11 @@ test_work source file keys =
     and_then (script_work (src pictured.program).dictionary keys) (λ entries.
     Give (test_ending file (file_from pictured).bytes (src pictured.program) entries)))
 
--- read a compiled file
+-- read a compiled keyboard
 abbrev pub bytes_work : (file : List ℕ) → Work (List ℕ)
 bytes_work file = Read file FILE_BYTES (λ reading. given (bytes_of reading))
 
--- read a compiled file, and see that it is valid
+-- read a compiled keyboard, and check that it is valid
 abbrev pub tables_work : (file : List ℕ) → Work Tables
 tables_work file = and_then (bytes_work file) (λ bytes. given (tables_of_file bytes))
 
@@ -84,11 +84,11 @@ verify_work file =
     and_then (given (tables_of_file bytes)) (λ tables.
     Give (verify_ending tables)))
 
--- read a compiled file, and see which text it has
+-- read a compiled keyboard, and decompile it
 abbrev pub text_work : (file : List ℕ) → Work (List ℕ)
 text_work file = and_then (bytes_work file) (λ bytes. given (text_of_file bytes))
 
--- `decompile FILE SOURCE`: read the file, write the source that is its text, print the text's size
+-- `decompile FILE SOURCE`: read the file, write the source that it decompiles to, print the size of the source
 abbrev pub decompile_work : (file source : List ℕ) → Work Ending
 decompile_work file source = and_then (text_work file) (λ text. Give (decompile_ending source text))
 
@@ -98,7 +98,7 @@ tables_play_work tables keys =
     and_then (script_work (tab tables).dictionary keys) (λ entries.
     Give (play_ending (tab tables) entries))
 
--- see that bytes are a valid file, and play a script on it
+-- check that bytes are a valid file, and play a script on it
 abbrev pub bytes_play_work : (bytes keys : List ℕ) → Work Ending
 bytes_play_work bytes keys = and_then (given (tables_of_file bytes)) (λ tables. tables_play_work tables keys)
 
@@ -106,7 +106,7 @@ bytes_play_work bytes keys = and_then (given (tables_of_file bytes)) (λ tables.
 abbrev pub play_work : (file keys : List ℕ) → Work Ending
 play_work file keys = and_then (bytes_work file) (λ bytes. bytes_play_work bytes keys)
 
--- read a touch layout, and count its keys where it keeps all rules for the keyboard of tables
+-- read a touch layout, and count its keys if it keeps all rules for the keyboard of tables
 abbrev pub keys_work : Tables → (layout : List ℕ) → Work ℕ
 keys_work tables layout = Read layout TEXT_BYTES (λ reading. given (keys_of tables reading))
 
@@ -118,7 +118,7 @@ tables_layout_work tables layout = and_then (keys_work tables layout) (λ count.
 abbrev pub layout_work : (source layout : List ℕ) → Work Ending
 layout_work source layout = and_then (program_work source) (λ pictured. tables_layout_work (compiled_tables pictured.program) layout)
 
--- `load NUMBER`: make, compile and play the load of the number, print its line; nothing is read
+-- `load NUMBER`: generate, compile and play the load of the number, print its line; no file is read
 abbrev pub load_work : ℕ → Work Ending
 load_work number = and_then (given (load_text number)) (λ line. Give (load_ending line))
 
@@ -130,8 +130,8 @@ trace_work source keys =
     and_then (script_work (src pictured.program).dictionary keys) (λ entries.
     Give (trace_ending (src pictured.program) (lines_of_tables (compiled_tables pictured.program)) entries)))
 
--- `shadow SOURCE`: read and compile the source with its picture, see that it has few enough records, print which lines of the
--- source never fire
+-- `shadow SOURCE`: read and compile the source with its picture, check that it has few enough records, print lines of the source
+-- that never fire
 abbrev pub shadow_work : (source : List ℕ) → Work Ending
 shadow_work source =
     and_then (program_work source) (λ pictured.
@@ -146,15 +146,15 @@ host_script_work dictionary keys = Read keys TEXT_BYTES (λ reading. given (host
 abbrev pub tables_host_work : Tables → (keys : List ℕ) → Work Ending
 tables_host_work tables keys = and_then (host_script_work (tab tables).dictionary keys) (λ entries. Give (host_ending tables entries))
 
--- see that bytes are a valid file, and play a host's script in fields over it
+-- check that bytes are a valid file, and play a host's script in fields on it
 abbrev pub bytes_host_work : (bytes keys : List ℕ) → Work Ending
 bytes_host_work bytes keys = and_then (given (tables_of_file bytes)) (λ tables. tables_host_work tables keys)
 
--- `host FILE KEYS`: read the file, read the script, print what the fields of a host over the file do with the script
+-- `host FILE KEYS`: read the file, read the script, print what the fields of a host on the file do with the script
 abbrev pub host_work : (file keys : List ℕ) → Work Ending
 host_work file keys = and_then (bytes_work file) (λ bytes. bytes_host_work bytes keys)
 
--- the work that words ask for
+-- the work of a request, and the work of arguments that are not a command
 abbrev pub work_of : Option Request → Work Ending
 work_of None = Give words_ending
 work_of (Some (Compile source file)) = compile_work source file

@@ -1,4 +1,4 @@
--- What a run of words does to a folder and a sink: the contract of `run`, clause by clause.
+-- The effects of a run of command-line arguments on a folder and a sink: the contract of `run`, clause by clause.
 use Rattle.std.specs.Prelude.{◌≡◌, ◌⊎◌, ◌↔◌, ℕ, false, IsTrue, List, IsSomeAnd}
 use Rattle.kmn_outside.specs.Outside.{Rose}
 use Rattle.keyman_words.specs.declared.status.Status.{Status}
@@ -10,10 +10,10 @@ use Rattle.keyman_run.specs.Orders.{work_of}
 use Rattle.keyman_run.specs.Run.{FaultCounts, FieldsAreAlone, FileMeans, Leaves, LinesAreDead}
 use Rattle.keyman_words.specs.Seen.{FolderView, SinkView, seen_folder, seen_sink}
 
--- a run of words from one state of a folder and a sink to another, with this status; the order of its work is `work_of` of
--- what they ask for. Where no count of faults rose, the run ends as its words and files want it (`complete`). The file that
--- was written means its source, whatever events come and however the run ended (`means`). No line that a search tells ever fires
--- (`shadows`), and no field of a host knows of another (`hosts`)
+-- a run of arguments from one state of a folder and a sink to another, with this status; its work is `work_of` of the request
+-- that the arguments make. If no fault count rose, the run ends as its arguments and files determine, unless an allocation fails
+-- (`complete`). A written file means its source, whatever the events are and however the run ended (`means`). No line that a
+-- search prints ever fires (`shadows`), and no field of a host affects another field (`hosts`)
 pub record Runs {F S : Type 0} (said : List (List ℕ)) (folders : FolderView F) (folder folder_after : F) (sinks : SinkView S) (out out_after : S) (how : Status) : Type 0 where
   pub words : (how ≡ status.Words) ↔ (is_form said ≡ false)
   pub counts : FaultCounts (folders.faults folder) (folders.faults folder_after) (sinks.faults out) (sinks.faults out_after) how

@@ -1,4 +1,4 @@
-//! The command `host`: a script is played in the fields of a host over a compiled file, whoever made it.
+//! The command `host`: plays a script in the fields of a host on an untrusted compiled keyboard.
 
 ghost use Rattle.kmx_format.specs.TablesOf.{tables_of};
 ghost use Rattle.rule_model.specs.Tab.{tab};
@@ -16,13 +16,13 @@ use kmn_base::limits::TEXT_BYTES;
 use kmn_base::{Code, Seq};
 use kmn_outside::{Folder, Sink};
 use kmx_verifier::{Verified, verify};
-use play_script::{HostEntry, read_host};
-use play_session::{Host, Session};
+use play_session::Session;
 use play_transcript::play_host;
-use rule_model::KeyDictionary;
 use std::alloc::Global;
+use text_host::{Host, HostEntry, read_host};
+use virtual_keys::KeyDictionary;
 
-/// Plays a script in the fields of a host over a compiled file.
+/// Plays a script in the fields of a host on an untrusted compiled keyboard.
 pub fn host_on_file<F: Folder, S: Sink>(
     alloc: Global,
     file: &FileName<'_>,
@@ -38,7 +38,7 @@ pub fn host_on_file<F: Folder, S: Sink>(
     }
 }
 
-/// Plays a script in a host over the bytes of a file, or prints the file's first fault.
+/// Plays a script in a host on the bytes of a file, or prints the first fault of the file.
 #[tactic(auto, using(crate::proofs::HostRuns::hosts_valid))]
 fn host_on_bytes<F: Folder, S: Sink>(
     alloc: Global,
@@ -55,7 +55,7 @@ fn host_on_bytes<F: Folder, S: Sink>(
     }
 }
 
-/// Reads a script for the keyboard of a valid file, and plays it in a host over the file.
+/// Reads a script for the keyboard of a valid file and plays it in a host on the file.
 fn host_on_valid<'a, F: Folder, S: Sink>(
     alloc: Global,
     file: &'a Verified<'a>,
@@ -71,7 +71,7 @@ fn host_on_valid<'a, F: Folder, S: Sink>(
     }
 }
 
-/// Reads a host's script for the keyboard of a valid file, for whose names of keys a session is started.
+/// Reads a host script for the keyboard of a valid file. It starts a session to get the key names of the keyboard.
 fn read_for_file<'a, F: Folder>(
     alloc: Global,
     file: &'a Verified<'a>,
@@ -84,7 +84,7 @@ fn read_for_file<'a, F: Folder>(
     read_host_entries(alloc, keys, own_names(&session), folder)
 }
 
-/// Reads a host's script for a keyboard with these names of keys.
+/// Reads a host script for a keyboard with these key names.
 fn read_host_entries<F: Folder>(
     alloc: Global,
     keys: &FileName<'_>,
@@ -100,7 +100,7 @@ fn read_host_entries<F: Folder>(
     Ok(read_host(alloc, script.as_slice(), names)?)
 }
 
-/// Prints what the fields of a host over a valid file do with a script.
+/// Prints what the fields of a host on a valid file do with a script.
 #[tactic(auto, using(play_transcript::proofs::PrintingLaws::none_begun))]
 fn tell_hosted<'a, S: Sink>(
     alloc: Global,

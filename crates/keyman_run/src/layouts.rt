@@ -1,4 +1,4 @@
-//! Touch layouts: reading one and checking it.
+//! Reads and checks touch layouts.
 
 ghost use Rattle.std.specs.Prelude.{◌≡◌};
 ghost use Rattle.keyman_run.specs.Orders.{keys_work};
@@ -13,7 +13,7 @@ use rule_model::Tables;
 use std::alloc::Global;
 use touch_layout::{LayoutError, LayoutFault, LayoutPlace, check_layout};
 
-/// Why a layout that passes its limit is refused: no place of it is meant.
+/// The reason for refusing a layout over the size limit. Its place is the whole layout.
 const LONG_LAYOUT: Reason = Reason::Layout(LayoutFault {
     code: Code::T7,
     place: LayoutPlace {
@@ -24,13 +24,13 @@ const LONG_LAYOUT: Reason = Reason::Layout(LayoutFault {
     },
 });
 
-/// Reads the touch layout of a name, checks it against the keyboard of the tables, and counts its keys.
+/// Reads a touch layout by name, checks it against the keyboard of the tables, and returns the number of its keys.
 pub fn read_keys<F: Folder>(
     alloc: Global,
     name: &FileName<'_>,
     tables: &Tables,
     folder: &mut F,
-) -> Result<usize, Stop>
+) -> Result<u32, Stop>
     ensures { Gives itself (keys_work tables.now name.now) F.Folder folder.old folder.new result }
 {
     let layout = read(alloc, name, TEXT_BYTES, folder).map_err(|error| read_stop(

@@ -1,4 +1,4 @@
-//! The command `load`: a large keyboard is made, compiled, verified and played in memory.
+//! The command `load`: generates a large keyboard, compiles it, verifies it and plays a script on it in memory.
 
 ghost use Rattle.std.specs.Prelude.{◌≡◌, ◌≤◌, ◌<◌, ◌+◌, ◌-◌, ◌*◌, ◌^◌, ◌∷◌, ℕ, List, length, IfOk};
 ghost use Rattle.std.specs.String.{string_bytes};
@@ -25,10 +25,11 @@ use play_script::read_script;
 use play_session::Session;
 use play_transcript::refused_with;
 use rule_checker::Checked;
-use rule_model::{Entry, KeyDictionary};
+use rule_model::Entry;
 use std::alloc::{AllocError, Global};
+use virtual_keys::KeyDictionary;
 
-/// What a play comes to: the events that were done, the items that they put, and the length of the text in the end.
+/// The sums of a play: the number of events, the number of items that they output, and the length of the final text.
 #[derive(Clone, Copy)]
 pub struct Sums {
     pub events: usize,
@@ -37,17 +38,17 @@ pub struct Sums {
     pub text: usize,
 }
 
-/// What was counted of a play so far: the number of its last step, the events that were done, and the items that they put.
+/// The counts of a play so far: the number of its last step, the number of events, and the number of items that they output.
 #[derive(Clone, Copy)]
 pub struct Progress {
-    /// Stays at the end of its type.
+    /// Saturates at the maximum of its type.
     pub number: u32,
     pub events: usize,
-    /// No event puts more than fit in 32 bits, so that the sum always has room.
+    /// The number of items of each event fits in 32 bits, so the sum never overflows.
     pub put: u128,
 }
 
-/// The line of the load of a number, which is made, compiled, verified and played.
+/// Generates, compiles, verifies and plays the load of a number, and returns its line.
 pub fn played_load(alloc: Global, number: u32) -> Result<Text, Stop>
     ensures { States itself (played_load number) result }
 {
@@ -56,7 +57,7 @@ pub fn played_load(alloc: Global, number: u32) -> Result<Text, Stop>
     Ok(load_line(alloc, number, &prepared.compiled, sums)?)
 }
 
-/// Makes and compiles the load of a number, and reads its script.
+/// Generates and compiles the load of a number, and reads its script.
 fn prepare_load(alloc: Global, number: u32) -> Result<Prepared, Stop>
     ensures compiled { IfOk result (λ prepared. IsCompiled prepared.compiled) }
     ensures states { States prepared_job (load_job number) result }
@@ -65,7 +66,7 @@ fn prepare_load(alloc: Global, number: u32) -> Result<Prepared, Stop>
     prepare_texts(alloc, load.source.as_slice(), load.script.as_slice())
 }
 
-/// Compiles a source without a picture, and reads a script for it.
+/// Compiles a source without a bitmap and reads a script for it.
 fn prepare_texts(alloc: Global, source: &[u8], script: &[u8]) -> Result<Prepared, Stop>
     ensures compiled { IfOk result (λ prepared. IsCompiled prepared.compiled) }
     ensures states { States prepared_job (job_of source.now script.now) result }
@@ -74,7 +75,7 @@ fn prepare_texts(alloc: Global, source: &[u8], script: &[u8]) -> Result<Prepared
     prepare_checked(alloc, &checked, script)
 }
 
-/// Compiles a checked program without a picture, and reads a script for it.
+/// Compiles a checked program without a bitmap and reads a script for it.
 fn prepare_checked(alloc: Global, checked: &Checked, script: &[u8]) -> Result<Prepared, Stop>
     ensures compiled { IfOk result (λ prepared. IsCompiled prepared.compiled) }
     ensures states { States prepared_job (program_job checked.now script.now) result }
@@ -83,7 +84,7 @@ fn prepare_checked(alloc: Global, checked: &Checked, script: &[u8]) -> Result<Pr
     with_script(alloc, compiled, script, key_names(checked))
 }
 
-/// Reads a script for a compiled keyboard with these names of keys.
+/// Reads a script for a compiled keyboard with these key names.
 fn with_script(
     alloc: Global,
     compiled: Compiled,
@@ -98,7 +99,7 @@ fn with_script(
     Ok(Prepared { compiled, entries })
 }
 
-/// Verifies a compiled keyboard, plays the script on it, and counts.
+/// Verifies a compiled keyboard, plays the script on it, and returns the sums of the play.
 fn play_load(alloc: Global, prepared: &Prepared) -> Result<Sums, Stop>
     requires { IsCompiled prepared.now.compiled }
     ensures { States itself (sums_of (trace (tab prepared.now.compiled.tables) (events_of prepared.now.entries))) result }
@@ -107,7 +108,7 @@ fn play_load(alloc: Global, prepared: &Prepared) -> Result<Sums, Stop>
     count_play(alloc, &file, prepared.entries.as_slice())
 }
 
-/// Plays a script on a file, and counts. Its expected texts are passed over.
+/// Plays a script on a valid file and returns the sums of the play. Expected texts are ignored.
 #[tactic(auto, using(crate::proofs::LoadLaws::all_counted))]
 fn count_play<'a>(alloc: Global, file: &'a Verified<'a>, entries: &[Entry]) -> Result<Sums, Stop>
     ensures { States itself (sums_of (trace (tab (tables_of file.now)) (events_of entries.now))) result }
@@ -124,14 +125,14 @@ fn count_play<'a>(alloc: Global, file: &'a Verified<'a>, entries: &[Entry]) -> R
     })
 }
 
-/// The length of a session's text, in characters.
+/// Returns the length of a session's text in characters.
 fn text_length(session: &Session) -> usize
     ensures { result ≡ length (whole_text session.now.state) }
 {
     session.editor().len()
 }
 
-/// Nothing is counted.
+/// Returns the counts before the first event.
 fn no_progress() -> Progress
     ensures { result ≡ no_progress }
 {
@@ -142,7 +143,7 @@ fn no_progress() -> Progress
     }
 }
 
-/// Does the event of an entry, and counts it.
+/// Performs and counts the event of an entry, if it has one.
 fn count_entry(
     alloc: Global,
     session: &mut Session,
@@ -162,7 +163,7 @@ fn count_entry(
     }
 }
 
-/// Does an event, and counts it.
+/// Performs and counts an event.
 #[tactic(auto, using(crate::proofs::LoadLaws::event_counted, crate::proofs::LoadLaws::event_stops))]
 fn count_event(
     alloc: Global,
@@ -190,7 +191,7 @@ fn count_event(
     }
 }
 
-/// Why a play stops whose next event is refused.
+/// Returns why a play stops if its next event is refused.
 fn event_stop(last: u32, code: Code) -> Stop
     ensures { result ≡ Stop.Refused (Reason.Event (one_more last) code) }
 {
@@ -200,7 +201,7 @@ fn event_stop(last: u32, code: Code) -> Stop
     })
 }
 
-/// The line of a load.
+/// Returns the line of a load.
 fn load_line(alloc: Global, number: u32, compiled: &Compiled, sums: Sums) -> Result<Text, Memory>
     requires { length (all_rules compiled.now.tables) < 2 ^ 64 }
     ensures { IfOk result (λ line. line ≡ load_line number (length (all_rules compiled.now.tables)) (length compiled.now.bytes) sums) }
@@ -213,7 +214,7 @@ fn load_line(alloc: Global, number: u32, compiled: &Compiled, sums: Sums) -> Res
     Ok(line)
 }
 
-/// What the line of a load says of its file.
+/// Returns the part of a load's line that describes its file.
 #[tactic(auto, unfolding(crate::specs::Loads::file_part))]
 fn file_part(alloc: Global, number: u32, rules: u64, bytes: usize) -> Result<String, AllocError>
     ensures { IfOk result (λ text. string_bytes text ≡ file_part number rules bytes) }
@@ -221,7 +222,7 @@ fn file_part(alloc: Global, number: u32, rules: u64, bytes: usize) -> Result<Str
     format!(in alloc; "load n={number} rules={rules} bytes={bytes}")
 }
 
-/// What it says of its play.
+/// Returns the part of a load's line that describes its play.
 #[tactic(auto, unfolding(crate::specs::Loads::play_part))]
 fn play_part(alloc: Global, sums: Sums) -> Result<String, AllocError>
     ensures { IfOk result (λ text. string_bytes text ≡ play_part sums) }

@@ -15,8 +15,9 @@ use load_maker::LoadError;
 use play_script::{ScriptError, read_script};
 use play_session::Session;
 use rule_checker::Checked;
-use rule_model::{Entry, KeyDictionary};
+use rule_model::Entry;
 use std::alloc::Global;
+use virtual_keys::KeyDictionary;
 
 /// Why a run stops before it writes.
 #[derive(Clone, Copy)]
@@ -89,20 +90,20 @@ impl From<LoadError> for Stop {
     }
 }
 
-/// A compiled keyboard, and the script to play on it.
+/// A compiled keyboard and the script to play on it.
 #[derive(Drop)]
 pub struct Prepared {
     pub compiled: Compiled,
     pub entries: Seq<Entry>,
 }
 
-/// Why a picture that passes its limit is refused: of its size no more is known.
+/// The reason for refusing a bitmap over the size limit. It reports the limit plus 1, since the size itself is not known.
 const LONG_PICTURE: Reason = Reason::Size {
     code: Code::C24,
     size: PICTURE_BYTES as u64 + 1,
 };
 
-/// Reads and compiles the source with its picture, then reads the script.
+/// Reads and compiles the source with its bitmap, then reads the script.
 pub fn prepare<F: Folder>(
     alloc: Global,
     source: &FileName<'_>,
@@ -118,7 +119,7 @@ pub fn prepare<F: Folder>(
     Ok(Prepared { compiled, entries })
 }
 
-/// Reads and compiles the source of a name, with the picture that it names.
+/// Reads a source by name and compiles it with the bitmap that it names.
 pub fn read_and_compile<F: Folder>(
     alloc: Global,
     name: &FileName<'_>,
@@ -131,7 +132,7 @@ pub fn read_and_compile<F: Folder>(
     compile_beside(alloc, name, &checked, folder)
 }
 
-/// Reads and checks the source of a name.
+/// Reads a source by name and checks it.
 fn read_source<F: Folder>(
     alloc: Global,
     name: &FileName<'_>,
@@ -146,7 +147,7 @@ fn read_source<F: Folder>(
     Ok(front(alloc, source.as_slice())?)
 }
 
-/// Reads the picture of the program of a source, and compiles both.
+/// Reads the bitmap that a source's program names and compiles the program with it.
 fn compile_beside<F: Folder>(
     alloc: Global,
     source: &FileName<'_>,
@@ -160,7 +161,7 @@ fn compile_beside<F: Folder>(
     Ok(back(alloc, checked, picture.as_slice())?)
 }
 
-/// Reads the picture that a program names, which stands beside its source; no bytes where it names none.
+/// Reads the bitmap that a program names, in the folder of its source. Returns no bytes if the program names none.
 fn read_picture<F: Folder>(
     alloc: Global,
     source: &FileName<'_>,
@@ -175,7 +176,7 @@ fn read_picture<F: Folder>(
     }
 }
 
-/// Reads the picture of this name, which stands beside a source.
+/// Reads the bitmap with this name in the folder of a source.
 fn read_named_picture<F: Folder>(
     alloc: Global,
     source: &FileName<'_>,
@@ -191,17 +192,17 @@ fn read_named_picture<F: Folder>(
     ))
 }
 
-/// The names of a program's own keys.
+/// Returns the names of a program's custom keys.
 #[tactic(auto, using(rule_checker::proofs::Within::keys_are_coded))]
 pub fn key_names(checked: &Checked) -> &KeyDictionary
     ensures { result.now ≡ (src checked.now).dictionary }
 {
-    // What this call says, that the program was read and isn't refused, is what the lemma needs.
+    // The lemma needs the contract of this call: the program was read and is not refused.
     let _program = checked.program();
     checked.names().keys()
 }
 
-/// Reads the script of a name for a keyboard with these names of keys.
+/// Reads a script by name for a keyboard with these key names.
 fn read_entries<F: Folder>(
     alloc: Global,
     keys: &FileName<'_>,
@@ -217,7 +218,7 @@ fn read_entries<F: Folder>(
     Ok(read_script(alloc, script.as_slice(), names)?)
 }
 
-/// Reads the compiled file of a name.
+/// Reads a compiled keyboard by name.
 pub fn read_file<F: Folder>(
     alloc: Global,
     name: &FileName<'_>,
@@ -228,14 +229,14 @@ pub fn read_file<F: Folder>(
     read(alloc, name, FILE_BYTES, folder).map_err(|error| read_stop(error, Reason::File(LONG_FILE)))
 }
 
-/// The names of the own keys of a session's file.
+/// Returns the names of the custom keys of a session's keyboard.
 pub fn own_names<'s>(session: &'s Session<'_>) -> &'s KeyDictionary
     ensures { result.now ≡ (tab session.now.tables).dictionary }
 {
     session.engine().names()
 }
 
-/// Reads the script of a name for the keyboard of a session.
+/// Reads a script by name for the keyboard of a session.
 pub fn read_own_entries<F: Folder>(
     alloc: Global,
     session: &Session<'_>,
@@ -247,14 +248,14 @@ pub fn read_own_entries<F: Folder>(
     read_entries(alloc, keys, own_names(session), folder)
 }
 
-/// A refusal at line 1.
+/// Returns a refusal at line 1.
 pub fn at_line_one(code: Code) -> Reason
     ensures { result ≡ at_line_one code }
 {
     Reason::Line(Refusal { line: 1, code })
 }
 
-/// Why a run stops where an input was not read. A longer one than its limit is refused for this reason.
+/// Returns why a run stops if an input was not read. An input over its limit is refused for the reason `long`.
 pub fn read_stop(error: ReadError, long: Reason) -> Stop
     ensures { result ≡ read_stop long error }
 {

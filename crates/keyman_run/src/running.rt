@@ -33,7 +33,7 @@ use play_transcript::{PlayEnd, play};
 use rule_model::{Entry, Tables};
 use std::alloc::Global;
 
-/// The names of the files of a test: its source, the file that it is compiled to, and the script.
+/// The file names of a test: the source, the file that it compiles to, and the script.
 #[derive(Drop)]
 struct TestNames<'a> {
     source: FileName<'a>,
@@ -41,7 +41,7 @@ struct TestNames<'a> {
     keys: FileName<'a>,
 }
 
-/// Runs the command that the words are, over a folder and a sink. Its clauses are the fields of `Runs`.
+/// Runs the command that the arguments name on a folder and a sink. The fields of `Runs` are its clauses.
 pub fn run<F: Folder, S: Sink>(alloc: Global, words: &[Text], folder: &mut F, out: &mut S) -> Status
     ensures { Runs words.now F.Folder folder.old folder.new S.Sink out.old out.new result }
 {
@@ -84,7 +84,7 @@ fn compile<F: Folder, S: Sink>(
     }
 }
 
-/// Compiles a source, writes the file, and plays a script on it: what is printed is what the source means.
+/// Compiles a source, writes the file and plays a script on it. The transcript is what the source means.
 fn test<F: Folder, S: Sink>(
     alloc: Global,
     names: &TestNames<'_>,
@@ -107,7 +107,7 @@ fn test<F: Folder, S: Sink>(
     }
 }
 
-/// Verifies a file, and prints its version and counts or its first fault.
+/// Verifies a file and prints its version and counts, or its first fault.
 fn verify_file<F: Folder, S: Sink>(
     alloc: Global,
     file: &FileName<'_>,
@@ -132,7 +132,7 @@ fn tell_file<S: Sink>(alloc: Global, bytes: &[u8], out: &mut S) -> Status
     }
 }
 
-/// Decompiles a file, writes its text and prints the text's size.
+/// Decompiles a file, writes its source and prints the size of the source.
 fn decompile<F: Folder, S: Sink>(
     alloc: Global,
     file: &FileName<'_>,
@@ -153,7 +153,7 @@ fn decompile<F: Folder, S: Sink>(
     }
 }
 
-/// Plays a script on a compiled file, whoever made it.
+/// Plays a script on an untrusted compiled keyboard.
 fn play_on_file<F: Folder, S: Sink>(
     alloc: Global,
     file: &FileName<'_>,
@@ -169,7 +169,7 @@ fn play_on_file<F: Folder, S: Sink>(
     }
 }
 
-/// Plays a script on the bytes of a file, or prints the file's first fault.
+/// Plays a script on the bytes of a file, or prints the first fault of the file.
 #[tactic(auto, using(crate::proofs::FileRuns::plays_valid))]
 fn play_on_bytes<F: Folder, S: Sink>(
     alloc: Global,
@@ -186,7 +186,7 @@ fn play_on_bytes<F: Folder, S: Sink>(
     }
 }
 
-/// Reads a script for the keyboard of a valid file, and plays it.
+/// Reads a script for the keyboard of a valid file and plays it.
 #[tactic(auto, using(crate::proofs::FileRuns::does_no_memory))]
 fn play_on_valid<'a, F: Folder, S: Sink>(
     alloc: Global,
@@ -203,7 +203,7 @@ fn play_on_valid<'a, F: Folder, S: Sink>(
     }
 }
 
-/// Reads a script for the keyboard of a session before its first event, and plays it there.
+/// Reads a script for the keyboard of a session before its first event and plays it in the session.
 fn play_in_session<'a, F: Folder, S: Sink>(
     alloc: Global,
     session: Session<'a>,
@@ -220,7 +220,7 @@ fn play_in_session<'a, F: Folder, S: Sink>(
     }
 }
 
-/// Compiles a source, checks a touch layout against its tables, and prints the count of the layout's keys.
+/// Compiles a source, checks a touch layout against its tables, and prints the number of keys of the layout.
 fn check_layout<F: Folder, S: Sink>(
     alloc: Global,
     source: &FileName<'_>,
@@ -236,7 +236,7 @@ fn check_layout<F: Folder, S: Sink>(
     }
 }
 
-/// Reads a touch layout and checks it against tables, and prints the count of its keys.
+/// Reads a touch layout, checks it against tables, and prints the number of its keys.
 fn check_beside<F: Folder, S: Sink>(
     alloc: Global,
     tables: &Tables,
@@ -252,7 +252,7 @@ fn check_beside<F: Folder, S: Sink>(
     }
 }
 
-/// Makes, compiles and plays a load, and prints its line.
+/// Generates, compiles and plays a load, and prints its line.
 fn load<S: Sink>(alloc: Global, number: u32, out: &mut S) -> Status
     ensures { TellsLoad (load_text number) S.Sink out.old out.new result }
 {
@@ -279,7 +279,7 @@ fn tell_played<'a, S: Sink>(
     }
 }
 
-/// Prints what is done in a session before its first event.
+/// Prints what a session before its first event does with a script.
 #[tactic(auto, using(play_transcript::proofs::PrintingLaws::none_begun))]
 fn tell_session<'a, S: Sink>(
     alloc: Global,
@@ -297,7 +297,7 @@ fn tell_session<'a, S: Sink>(
     }
 }
 
-/// Ends a run that stops before it writes: prints the line of a reason, and nothing after a fault.
+/// Ends a run that stops before it writes. Only a refusal prints a line.
 #[tactic(auto, using(keyman_words::proofs::Printed::tells_made))]
 pub fn tell_stop<S: Sink>(alloc: Global, stop: Stop, out: &mut S) -> Status
     ensures { TellsStop stop S.Sink out.old out.new result }
@@ -309,7 +309,7 @@ pub fn tell_stop<S: Sink>(alloc: Global, stop: Stop, out: &mut S) -> Status
     }
 }
 
-/// Plays the script on the file that was written.
+/// Plays the script on the written file.
 #[tactic(auto, using(crate::proofs::FileRuns::plays_written))]
 fn play_file<S: Sink>(alloc: Global, prepared: &Prepared, out: &mut S) -> Status
     requires { IsCompiled prepared.now.compiled }
@@ -322,7 +322,7 @@ fn play_file<S: Sink>(alloc: Global, prepared: &Prepared, out: &mut S) -> Status
     }
 }
 
-/// The status of a run that ends with a play.
+/// Returns the status of a run that ends with a play.
 pub fn end_status(end: PlayEnd) -> Status
     ensures { result ≡ end_status end }
 {

@@ -1,4 +1,4 @@
-//! The command `shadow`: a source is compiled, and what is printed is which of its lines never fire.
+//! The command `shadow`: compiles a source and prints lines of it that never fire.
 
 ghost use Rattle.keyman_run.specs.Inputs.{few_records};
 ghost use Rattle.keyman_run.specs.Orders.{shadow_work};
@@ -8,13 +8,14 @@ ghost use Rattle.keyman_run.specs.Steps.{IsCompiled, TellsDead};
 use crate::preparing::{Stop, read_and_compile};
 use crate::running::tell_stop;
 use keyman_words::{FileName, Reason, Status, tell_made};
+use kmn_base::limits::SHADOW_RECORDS;
 use kmn_compiler::Compiled;
 use kmn_outside::{Folder, Sink};
 use kmx_format::rule_count;
-use shadow_text::{SHADOW_RECORDS, dead_text};
+use shadow_text::dead_text;
 use std::alloc::Global;
 
-/// Compiles a source, and prints which of its lines never fire.
+/// Compiles a source and prints lines of it that never fire.
 pub fn shadow_rules<F: Folder, S: Sink>(
     alloc: Global,
     source: &FileName<'_>,
@@ -29,7 +30,7 @@ pub fn shadow_rules<F: Folder, S: Sink>(
     }
 }
 
-/// Prints which lines of a compiled source never fire, unless there are too many records to be searched.
+/// Prints lines of a compiled source that never fire, or refuses a source with too many records to search.
 #[tactic(auto, using(keyman_words::proofs::Printed::tells_made))]
 fn tell_dead<S: Sink>(alloc: Global, compiled: &Compiled, out: &mut S) -> Status
     requires { IsCompiled compiled.now }

@@ -1,4 +1,4 @@
-//! The texts that compiled files are decompiled to.
+//! The texts that compiled keyboards decompile to.
 
 ghost use Rattle.std.specs.Prelude.{◌≡◌, IfOk, IsSomeAnd, IsTrue};
 ghost use Rattle.keyman_run.specs.Inputs.{IsTextOf, text_of_file};
@@ -13,7 +13,7 @@ use kmx_decompiler::{DecompileError, decompile};
 use kmx_verifier::verify;
 use std::alloc::Global;
 
-/// Reads the compiled file of a name, and gives the text that it goes back to.
+/// Reads a compiled keyboard by name and returns the source that it decompiles to.
 pub fn read_text<F: Folder>(
     alloc: Global,
     name: &FileName<'_>,
@@ -26,7 +26,7 @@ pub fn read_text<F: Folder>(
     decompiled(alloc, bytes.as_slice())
 }
 
-/// The text that the bytes of a file go back to.
+/// Returns the source that the bytes of a file decompile to.
 fn decompiled(alloc: Global, bytes: &[u8]) -> Result<Text, Stop>
     ensures states { States itself (text_of_file bytes.now) result }
     ensures text { IfOk result (λ text. IsTextOf bytes.now text) }

@@ -1,12 +1,12 @@
-//! The command `trace`: a script is played on a compiled source, and what is printed is which lines of the source fired.
+//! The command `trace`: compiles a source, plays a script on it, and prints which lines of the source fired.
 
 ghost use Rattle.std.specs.Prelude.{◌≡◌, All};
 ghost use Rattle.kmx_format.specs.TablesOf.{tables_of};
 ghost use Rattle.rule_model.specs.Tab.{tab};
 ghost use Rattle.rule_model.specs.Trace.{trace};
 ghost use Rattle.rule_model.specs.Transcript.{events_of};
-ghost use Rattle.plain_event.specs.declared.coverage.Hit.{Hit};
-ghost use Rattle.plain_event.specs.Coverage.{lines_of_tables, AreLinesOf};
+ghost use Rattle.rule_trace.specs.declared.coverage.Hit.{Hit};
+ghost use Rattle.rule_trace.specs.Coverage.{lines_of_tables, AreLinesOf};
 ghost use Rattle.play_transcript.specs.TraceText.{trace_text};
 ghost use Rattle.keyman_run.specs.Endings.{end_of_trace, trace_status};
 ghost use Rattle.keyman_run.specs.Orders.{trace_work};
@@ -19,13 +19,13 @@ use crate::running::tell_stop;
 use keyman_words::{FileName, Status, write_status};
 use kmn_outside::{Folder, Sink};
 use kmx_verifier::{Verified, verify};
-use plain_event::Coverage;
 use play_session::Session;
 use play_transcript::{TraceEnd, trace_play};
 use rule_model::Entry;
+use rule_trace::Coverage;
 use std::alloc::Global;
 
-/// Compiles a source, plays a script on it, and prints which of its lines fired.
+/// Compiles a source, plays a script on it, and prints which lines of the source fired.
 pub fn trace_rules<F: Folder, S: Sink>(
     alloc: Global,
     source: &FileName<'_>,
@@ -41,7 +41,7 @@ pub fn trace_rules<F: Folder, S: Sink>(
     }
 }
 
-/// Plays the script on the compiled file, and prints which lines of its source fired.
+/// Plays the script on the compiled keyboard and prints which lines of its source fired.
 fn trace_file<S: Sink>(alloc: Global, prepared: &Prepared, out: &mut S) -> Status
     requires { IsCompiled prepared.now.compiled }
     ensures { Tells (trace_status (trace (tab prepared.now.compiled.tables) (events_of prepared.now.entries)))
@@ -56,7 +56,7 @@ fn trace_file<S: Sink>(alloc: Global, prepared: &Prepared, out: &mut S) -> Statu
     }
 }
 
-/// Prints which lines fire where the keyboard of a valid file does a script, given a coverage of nothing yet.
+/// Prints which lines fire when the keyboard of a valid file runs a script. All counts of the coverage must be 0.
 #[tactic(auto, using(play_transcript::proofs::PrintingLaws::none_begun))]
 fn tell_traced<'a, S: Sink>(
     alloc: Global,
@@ -79,7 +79,7 @@ fn tell_traced<'a, S: Sink>(
     }
 }
 
-/// The status of a run that ends with a trace.
+/// Returns the status of a run that ends with a trace.
 fn end_of_trace(end: TraceEnd) -> Status
     ensures { result ≡ end_of_trace end }
 {

@@ -1,11 +1,11 @@
--- The folder of a name, looked for from the name's end.
+-- The folder of a name, searched from the end of the name.
 use Rattle.std.proofs.Common.{◌≡◌, ℕ, zero, suc, ◌-◌, ◌<◌, ◌≤◌, Bool, ◌||◌, true, false, List, [], ◌∷◌, ◌++◌, length, take, get_or, refl, ap, sym, ◌∙◌, if◌then◌else◌, arith}
 use Rattle.std.proofs.Math.Seq.{take-suc}
 use Rattle.std.specs.List.{list_any}
 use Rattle.std.proofs.lemmas.List.Folds.{list_any-append}
 use Rattle.keyman_words.specs.Beside.{is_slash, folder_part}
 
--- a byte behind a name, other than a slash, is no part of its folder
+-- if a byte other than a slash is appended to a name, the folder is unchanged
 pub without_last : (name : List ℕ) (byte : ℕ) → is_slash byte ≡ false → folder_part (name ++ byte ∷ []) ≡ folder_part name
 without_last [] byte is = rw is refl
 without_last (first ∷ name) byte is = rw (list_any-append is_slash name (byte ∷ []), is, without_last name byte is) (same (is_slash first) (list_any is_slash name))
@@ -15,7 +15,7 @@ without_last (first ∷ name) byte is = rw (list_any-append is_slash name (byte 
     same false true = refl
     same false false = refl
 
--- a name that ends with a slash is its folder
+-- if a name ends with a slash, the whole name is its folder
 pub whole_part : (name : List ℕ) (byte : ℕ) → is_slash byte ≡ true → folder_part (name ++ byte ∷ []) ≡ name ++ byte ∷ []
 whole_part [] byte is = rw is refl
 whole_part (first ∷ name) byte is = rw (list_any-append is_slash name (byte ∷ []), is, whole_part name byte is) (same (is_slash first) (list_any is_slash name))
@@ -25,7 +25,7 @@ whole_part (first ∷ name) byte is = rw (list_any-append is_slash name (byte �
     same false true = refl
     same false false = refl
 
--- the same of the first bytes of a name
+-- if the last byte of a prefix is not a slash, removing it does not change the folder; if it is, the whole prefix is its folder
 pub without_last_at : (name : List ℕ) (end : ℕ) → 0 < end → end ≤ length name → is_slash (get_or name (end - 1) 0) ≡ false → folder_part (take (end - 1) name) ≡ folder_part (take end name)
 without_last_at name zero some within is = absurd (omega arith)
 without_last_at name (suc j) some within is =

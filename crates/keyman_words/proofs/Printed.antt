@@ -7,7 +7,7 @@ use Rattle.keyman_words.specs.declared.status.Status.TheVariants as status
 use Rattle.keyman_words.specs.Seen.{SinkView}
 use Rattle.keyman_words.specs.Tells.{Tells, TellsMade}
 
--- a line that was printed whole, before a run that ends well or with a refusal
+-- if a whole line was printed and the run ends well or with a refusal, `Tells` holds
 pub tells_line : {S : Type 0} (good : Status) (bytes : List ℕ) (sinks : SinkView S) (out out_after : S) → (good ≡ status.Done) ⊎ (good ≡ status.Refused)
     → sinks.faults out_after ≡ sinks.faults out → sinks.told out_after ≡ sinks.told out → (IsTrue (sinks.told out) → sinks.written out_after ≡ sinks.written out ++ bytes) → Tells good bytes sinks out out_after good
 tells_line good bytes sinks out out_after (inl is) faults told prints =
@@ -15,11 +15,11 @@ tells_line good bytes sinks out out_after (inl is) faults told prints =
 tells_line good bytes sinks out out_after (inr is) faults told prints =
     subst (λ (s : Status). Tells s bytes sinks out out_after s) (sym is) (record { counts = (refl, faults); told = told; prints = prints })
 
--- where nothing is printed for want of memory, that is a first part of whatever was to be printed
+-- if an allocation failed and nothing was printed, that is a first part of any bytes, so `Tells` holds
 tells_none : {S : Type 0} (good : Status) (bytes : List ℕ) (sinks : SinkView S) (out : S) → Tells good bytes sinks out out status.Memory
 tells_none good bytes sinks out = record { counts = refl; told = refl; prints = λ told. none_begun (sinks.written out) bytes }
 
--- a line that was made, unless there was no memory for it, is told as what it is
+-- if a line that was made is equal to these bytes, `TellsMade` for the line implies `Tells` for the bytes
 pub tells_made : {S E : Type 0} (good : Status) (bytes : List ℕ) (made : Result (List ℕ) E) (sinks : SinkView S) (out out_after : S) (how : Status)
     → TellsMade good made sinks out out_after how → IfOk made (λ line. line ≡ bytes) → Tells good bytes sinks out out_after how
 tells_made good bytes (Ok line) sinks out out_after how tells is = subst (λ (b : List ℕ). Tells good b sinks out out_after how) is tells.printed

@@ -1,4 +1,4 @@
--- What the words of a call ask for.
+-- The command that command-line arguments request.
 use Rattle.std.specs.Prelude.{Bool, ◌&&◌, nat_lt, nat_le, length, if◌then◌else◌, List, [], ◌∷◌, codes, Option, Some, None, option_map, is_some, ℕ}
 use Rattle.std.specs.Str.{bytes_eq}
 use Rattle.kmn_base.specs.Digits.{are_digits, bounded_value}
@@ -18,20 +18,20 @@ pub data Request : Type 0 where
   Shadow : (source : List ℕ) → Request
   Host : (file keys : List ℕ) → Request
 
--- the number that a word is: 1 to 9 decimal digits
+-- the number that an argument of 1 to 9 decimal digits denotes
 abbrev pub load_number : List ℕ → Option ℕ
 load_number word =
     if nat_lt 0 (length word) && nat_le (length word) 9 && are_digits 10 word then Some (bounded_value 999999999 10 word) else None
 
--- `play FILE KEYS` or `host FILE KEYS`
+-- the request of `play FILE KEYS` or `host FILE KEYS`
 abbrev pub play_request : (word file keys : List ℕ) → Option Request
 play_request word file keys =
     if bytes_eq word (codes "play") then Some (Play file keys)
     else if bytes_eq word (codes "host") then Some (Host file keys)
     else None
 
--- these, `verify FILE`, `shadow SOURCE`, `load NUMBER`, `compile SOURCE FILE`, `decompile FILE SOURCE`, `layout SOURCE LAYOUT`,
--- `trace SOURCE KEYS` or `test SOURCE FILE KEYS`; all other words ask for nothing
+-- the request of the arguments: a `play_request`, `verify FILE`, `shadow SOURCE`, `load NUMBER`, `compile SOURCE FILE`,
+-- `decompile FILE SOURCE`, `layout SOURCE LAYOUT`, `trace SOURCE KEYS` or `test SOURCE FILE KEYS`; None for all other arguments
 abbrev pub request_of : List (List ℕ) → Option Request
 request_of (word ∷ other ∷ []) =
     if bytes_eq word (codes "verify") then Some (Verify other)
@@ -47,11 +47,11 @@ request_of (word ∷ first ∷ second ∷ []) =
 request_of (word ∷ source ∷ file ∷ keys ∷ []) = if bytes_eq word (codes "test") then Some (Test source file keys) else None
 request_of _ = None
 
--- whether the words are a command
+-- whether arguments are a command
 abbrev pub is_form : List (List ℕ) → Bool
 is_form words = is_some (request_of words)
 
--- the request of a command as the program holds it
+-- the request that a command of the program represents
 abbrev pub requested : Command → Request
 requested (command.Compile source file) = Compile source file
 requested (command.Test source file keys) = Test source file keys

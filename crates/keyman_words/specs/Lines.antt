@@ -1,4 +1,4 @@
--- The lines that are printed where work comes to its end.
+-- The lines that are printed when work is done.
 use Rattle.std.specs.Prelude.{ℕ, List, [], ◌∷◌, length, codes}
 use Rattle.std.specs.List.{concat}
 use Rattle.std.specs.Fmt.{decimal}
@@ -7,7 +7,7 @@ use Rattle.rule_model.specs.Lines.{hexadecimal}
 use Rattle.rule_model.specs.declared.tables.Tables.{Tables}
 use Rattle.kmn_compiler.specs.declared.compiling.Compiled.{Compiled}
 
--- what is printed of a compiled file: its counts and its size
+-- the line of a compiled keyboard: its counts and its size
 unfoldable pub compiled_line : Compiled → List ℕ
 compiled_line compiled = concat (
     codes "compiled stores=" ∷ decimal (length compiled.tables.stores)
@@ -16,7 +16,7 @@ compiled_line compiled = concat (
     ∷ codes " bytes=" ∷ decimal (length compiled.bytes)
     ∷ codes "\n" ∷ [])
 
--- what is printed of a valid file: its version and its counts
+-- the line of a valid file: its version and its counts
 unfoldable pub valid_line : Tables → List ℕ
 valid_line tables = concat (
     codes "valid version=" ∷ hexadecimal tables.version
@@ -25,10 +25,10 @@ valid_line tables = concat (
     ∷ codes " rules=" ∷ decimal (length (all_rules tables))
     ∷ codes "\n" ∷ [])
 
--- what is printed of a text that a file was decompiled to: its size
+-- the line of a decompiled text: its size
 unfoldable pub decompiled_line : List ℕ → List ℕ
 decompiled_line source = concat (codes "decompiled bytes=" ∷ decimal (length source) ∷ codes "\n" ∷ [])
 
--- what is printed of a layout that keeps all rules: the count of its keys
+-- the line of a layout that keeps all rules: the number of its keys
 unfoldable pub sound_line : ℕ → List ℕ
 sound_line count = concat (codes "layout sound keys=" ∷ decimal count ∷ codes "\n" ∷ [])

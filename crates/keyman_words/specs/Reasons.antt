@@ -1,4 +1,4 @@
--- The line that is printed of a reason.
+-- The line that is printed for each reason.
 use Rattle.std.specs.Prelude.{ℕ, ◌-◌, true, nat_eq, if◌then◌else◌, List, [], ◌∷◌, ◌++◌, length, replicate, codes}
 use Rattle.std.specs.List.{concat}
 use Rattle.std.specs.Fmt.{decimal, digits}
@@ -14,7 +14,7 @@ use Rattle.touch_layout.specs.declared.faults.LayoutFault.{LayoutFault}
 use Rattle.keyman_words.specs.declared.reason.Reason.{Reason}
 use Rattle.keyman_words.specs.declared.reason.Reason.TheVariants as reason
 
--- the limit that is passed, and the size that passes it
+-- the line of an exceeded limit: the limit, and the size that exceeds it
 unfoldable pub size_line : Code → ℕ → List ℕ
 size_line code size = concat (codes "refused " ∷ code_text code ∷ codes " size " ∷ decimal size ∷ codes "\n" ∷ [])
 
@@ -22,11 +22,11 @@ size_line code size = concat (codes "refused " ∷ code_text code ∷ codes " si
 abbrev pub named_code : ℕ → List ℕ
 named_code unit = if nat_eq unit 0 then [] else codes " code " ++ (replicate (2 - length (digits 16 true unit)) 48 ++ digits 16 true unit)
 
--- the rule that a file breaks, and the place in bytes
+-- the line of a file's fault: the rule that the file breaks, the byte offset, and the code that the fault names
 unfoldable pub fault_line : Fault → List ℕ
 fault_line fault = concat (codes "refused " ∷ code_text fault.code ∷ codes " at " ∷ decimal fault.at ∷ named_code fault.unit ∷ codes "\n" ∷ [])
 
--- the rule that a touch layout breaks, and the place: platform, layer, row and key, 0 where none is meant
+-- the line of a touch layout's fault: the rule that it breaks, and the platform, layer, row and key, each 0 if none is meant
 unfoldable pub place_line : LayoutFault → List ℕ
 place_line fault = concat (
     codes "refused " ∷ code_text fault.code
@@ -36,19 +36,19 @@ place_line fault = concat (
     ∷ codes " key " ∷ decimal fault.place.key
     ∷ codes "\n" ∷ [])
 
--- why a file has no text
+-- the line of the reason why a file can't be decompiled
 unfoldable pub spelling_line : NoSpelling → List ℕ
 spelling_line why = concat (codes "refused " ∷ reason_text why ∷ codes "\n" ∷ [])
 
--- that a number has no load
+-- the line of a number that has no load
 unfoldable pub number_line : List ℕ
 number_line = concat (codes "refused " ∷ code_text G1 ∷ codes "\n" ∷ [])
 
--- that a source has more records than are searched
+-- the line of a source that has too many records to search
 unfoldable pub records_line : ℕ → List ℕ
 records_line count = concat (codes "refused " ∷ code_text G2 ∷ codes " rules " ∷ decimal count ∷ codes "\n" ∷ [])
 
--- a reason's line
+-- the line of a reason
 abbrev pub reason_line : Reason → List ℕ
 reason_line (reason.Line refusal) = refusal_line refusal
 reason_line (reason.Size code size) = size_line code size

@@ -1,25 +1,25 @@
--- What the contracts see of the outside at one moment.
+-- What the contracts see of a folder and a sink in one state.
 use Rattle.std.specs.Prelude.{◌≡◌, ℕ, Bool, IsTrue, List}
 use Rattle.kmn_outside.specs.Outside.{Files}
 use Rattle.kmn_outside.specs.declared.traits.Call.{Call}
 use Rattle.kmn_outside.specs.declared.traits.Folder as folder_trait
 use Rattle.kmn_outside.specs.declared.traits.Sink as sink_trait
 
--- what a folder and a sink say of themselves
+-- the ghost functions with which a folder and a sink describe themselves
 abbrev pub FolderView : Type 0 → Type 1
 FolderView F = folder_trait.Ghosts F
 
 abbrev pub SinkView : Type 0 → Type 1
 SinkView S = sink_trait.Ghosts S
 
--- a folder at one moment
+-- a folder in one state
 pub record FolderState : Type 0 where
   pub told : Bool
   pub files : Files
   pub calls : List Call
   pub faults : ℕ
 
--- a sink at one moment
+-- a sink in one state
 pub record SinkState : Type 0 where
   pub told : Bool
   pub written : List ℕ
@@ -31,6 +31,6 @@ seen_folder view folder = record { told = view.told folder; files = view.files f
 abbrev pub seen_sink : {S : Type 0} → SinkView S → S → SinkState
 seen_sink view sink = record { told = view.told sink; written = view.written sink; faults = view.faults sink }
 
--- nothing was printed, where a sink tells it
+-- if a sink reports what was written to it, nothing was printed
 abbrev pub IsSilent : SinkState → SinkState → Type 0
 IsSilent before after = IsTrue before.told → after.written ≡ before.written

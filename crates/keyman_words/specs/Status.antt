@@ -1,4 +1,4 @@
--- How a run ends, as a number.
+-- The result of a run as a number.
 use Rattle.std.specs.Prelude.{ℕ}
 use Rattle.keyman_words.specs.declared.status.Status.{Status}
 use Rattle.keyman_words.specs.declared.status.Status.TheVariants.{Done, Refused, Words, ReadFault, WriteFault, Memory, ExpectFailed}

@@ -49,8 +49,8 @@ pub enum Command<'a> {
     },
 }
 
-/// The command that the words are, None where they are none. Words compare exactly; those that are names of files become such
-/// here.
+/// Returns the command in the command-line arguments, or `None` if they are not a command. Arguments compare exactly; those that name
+/// files become a `FileName` here.
 pub fn command_of(words: &[Text]) -> Option<Command<'_>>
     ensures { option_map requested result ≡ request_of words.now }
 {
@@ -72,7 +72,7 @@ pub fn command_of(words: &[Text]) -> Option<Command<'_>>
 /// The largest number of nine digits.
 const LARGEST_NUMBER: u32 = 999_999_999;
 
-/// The command of one file or number, `verify`, `shadow` or `load`, None for another word.
+/// Returns the command of one file or number (`verify`, `shadow` or `load`), or `None` for any other arguments.
 fn command_of_one<'a>(word: &[u8], other: &'a Text) -> Option<Command<'a>>
     ensures { option_map requested result ≡ request_of (word.now ∷ other.now ∷ []) }
 {
@@ -92,7 +92,7 @@ fn command_of_one<'a>(word: &[u8], other: &'a Text) -> Option<Command<'a>>
     None
 }
 
-/// The command `load` with its number, None where the word is none.
+/// Returns the command `load` with its number, or `None` if the argument is not a number of 1 to 9 digits.
 fn load_command<'a>(word: &[u8]) -> Option<Command<'a>>
     ensures { option_map requested result ≡ option_map Load (load_number word.now) }
 {
@@ -104,7 +104,7 @@ fn load_command<'a>(word: &[u8]) -> Option<Command<'a>>
     })
 }
 
-/// The command of two files, `compile`, `decompile`, `layout`, `trace`, `play` or `host`, None for another word.
+/// Returns the command of two files (`compile`, `decompile`, `layout`, `trace`, `play` or `host`), or `None` for another word.
 fn command_of_two<'a>(word: &[u8], first: FileName<'a>, second: FileName<'a>) -> Option<Command<'a>>
     ensures { option_map requested result ≡ request_of (word.now ∷ first.entry ∷ second.entry ∷ []) }
 {
@@ -135,7 +135,7 @@ fn command_of_two<'a>(word: &[u8], first: FileName<'a>, second: FileName<'a>) ->
     play_command(word, first, second)
 }
 
-/// The command of a compiled file and a script, `play` or `host`, None for another word.
+/// Returns the command of a compiled keyboard and a script (`play` or `host`), or `None` for another word.
 fn play_command<'a>(word: &[u8], file: FileName<'a>, keys: FileName<'a>) -> Option<Command<'a>>
     ensures { option_map requested result ≡ play_request word.now file.entry keys.entry }
 {
@@ -148,7 +148,7 @@ fn play_command<'a>(word: &[u8], file: FileName<'a>, keys: FileName<'a>) -> Opti
     None
 }
 
-/// The command `test` with its files, None for another word.
+/// Returns the command `test` with its files, or `None` for another word.
 fn test_command<'a>(
     word: &[u8],
     source: FileName<'a>,

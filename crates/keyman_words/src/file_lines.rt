@@ -1,4 +1,4 @@
-//! The lines of work that was done: of a compiled file, of a valid one, of a text and of a touch layout.
+//! The lines of work that was done: of a compiled keyboard, a valid file, a decompiled text and a touch layout.
 
 ghost use Rattle.std.specs.Prelude.{◌≡◌, ◌<◌, ◌^◌, length, IfOk};
 ghost use Rattle.kmx_format.specs.File.{all_rules};
@@ -11,7 +11,7 @@ use kmx_format::rule_count;
 use kmx_verifier::Verified;
 use std::alloc::Global;
 
-/// The line of a compiled file: its counts and its size in bytes.
+/// Returns the line of a compiled keyboard: its counts and its size in bytes.
 #[tactic(auto, unfolding(crate::specs::Lines::compiled_line))]
 pub fn compiled_line(alloc: Global, compiled: &Compiled) -> Result<Text, Memory>
     requires { length (all_rules compiled.now.tables) < 2 ^ 64 }
@@ -27,7 +27,7 @@ pub fn compiled_line(alloc: Global, compiled: &Compiled) -> Result<Text, Memory>
     Ok(Text::from_string(line))
 }
 
-/// The line of a valid file: its version and its counts.
+/// Returns the line of a valid file: its version and its counts.
 #[tactic(auto, using(play_script::proofs::Hexadecimal::padded_hexadecimal), unfolding(crate::specs::Lines::valid_line))]
 pub fn valid_line(alloc: Global, file: &Verified<'_>) -> Result<Text, Memory>
     ensures { IfOk result (λ line. line ≡ valid_line (tables_of file.now)) }
@@ -42,7 +42,7 @@ pub fn valid_line(alloc: Global, file: &Verified<'_>) -> Result<Text, Memory>
     Ok(Text::from_string(line))
 }
 
-/// The line of a text that was written: its size in bytes.
+/// Returns the line of a decompiled text: its size in bytes.
 #[tactic(auto, unfolding(crate::specs::Lines::decompiled_line))]
 pub fn decompiled_line(alloc: Global, text: &Text) -> Result<Text, Memory>
     ensures { IfOk result (λ line. line ≡ decompiled_line text.now) }
@@ -52,9 +52,9 @@ pub fn decompiled_line(alloc: Global, text: &Text) -> Result<Text, Memory>
     Ok(Text::from_string(line))
 }
 
-/// The line of a layout that keeps all rules.
+/// Returns the line of a layout that keeps all rules: the number of its keys.
 #[tactic(auto, unfolding(crate::specs::Lines::sound_line))]
-pub fn sound_line(alloc: Global, count: usize) -> Result<Text, Memory>
+pub fn sound_line(alloc: Global, count: u32) -> Result<Text, Memory>
     ensures { IfOk result (λ line. line ≡ sound_line count) }
 {
     let line = format!(in alloc; "layout sound keys={count}\n")?;

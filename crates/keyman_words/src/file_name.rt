@@ -1,4 +1,4 @@
-//! Names of files. They have a type of their own, so that a name and the contents of a file can't take each other's place.
+//! Names of files. They have their own type, so that the name and the contents of a file can't be confused.
 
 ghost use Rattle.std.specs.Prelude.{◌≡◌, IfOk, IsTrue};
 ghost use Rattle.kmn_outside.specs.Outside.{IsLimited, ReadCounts, Reads, WriteCounts, Writes};
@@ -10,7 +10,7 @@ use kmn_outside::{Folder, ReadError, WriteError};
 use std::alloc::Global;
 use std::marker::Model;
 
-/// The name of a file. Contracts see it as its bytes.
+/// The name of a file. Contracts model it as its bytes.
 #[derive(Drop)]
 pub struct FileName<'a> {
     bytes: &'a [u8],
@@ -25,7 +25,7 @@ impl<'a> Model for FileName<'a> {
 }
 
 impl<'a> FileName<'a> {
-    /// The name that a text is.
+    /// Returns a text as a name. The name borrows the text.
     pub fn of(text: &'a Text) -> FileName<'a>
         ensures { result ≡ text.now }
     {
@@ -35,7 +35,7 @@ impl<'a> FileName<'a> {
     }
 }
 
-/// Reads the file of a name.
+/// Reads the file with a name.
 pub fn read<F: Folder>(
     alloc: Global,
     name: &FileName<'_>,
@@ -50,7 +50,7 @@ pub fn read<F: Folder>(
     folder.read(alloc, name.bytes, limit)
 }
 
-/// Makes these bytes the file of a name.
+/// Writes these bytes as the file with a name.
 pub fn write<F: Folder>(
     alloc: Global,
     name: &FileName<'_>,
@@ -64,7 +64,7 @@ pub fn write<F: Folder>(
     folder.write(alloc, name.bytes, bytes)
 }
 
-/// The name of a file that stands where the file of a name does.
+/// Returns the name of the file `other` in the folder of the file `name`.
 pub fn beside(alloc: Global, name: &FileName<'_>, other: &FileName<'_>) -> Result<Text, Memory>
     ensures { IfOk result (λ text. text ≡ beside name.now other.now) }
 {
@@ -73,7 +73,7 @@ pub fn beside(alloc: Global, name: &FileName<'_>, other: &FileName<'_>) -> Resul
     Ok(text)
 }
 
-/// A name up to and including its last slash; nothing of a name without one.
+/// Returns a name up to and including its last slash, or an empty slice if it has none.
 #[tactic(auto, using(crate::proofs::BesideLaws::without_last_at, crate::proofs::BesideLaws::whole_part_at))]
 fn folder_part(name: &[u8]) -> &[u8]
     ensures { result.now ≡ folder_part name.now }

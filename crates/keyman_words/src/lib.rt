@@ -1,20 +1,21 @@
-//! What a program is told and what it tells: the command that the words of its call ask for, the names of files, the lines
-//! that it prints of a reason why work is refused and of work that comes to its end, and the status that it ends with.
+//! The texts of a run: the command in its command-line arguments, the names of its files, the lines that it prints when work is
+//! refused or done, and its exit status.
 //!
-//! It stands on `kmn_outside` for the file of a name and for the sink, on `play_transcript`, which puts a line whole, and on
-//! the crates whose faults and results a line tells: `kmn_compiler`, `kmx_verifier`, `kmx_decompiler`, `play_script` and
-//! `touch_layout`.
+//! Depends on `kmn_outside` for files and the sink, on `play_transcript`, which prints a whole line, and on the crates that define the
+//! faults and results that a line reports: `kmn_compiler`, `kmx_verifier`, `kmx_decompiler`, `play_script` and `touch_layout`.
 //!
-//! A program calls `words` with what the system gave it, and takes what comes for the words behind its name. That they are
-//! the words of the call no clause says, since the toolchain's contract of `Env::arg` tells nothing of them; what is proved
-//! is that `words` returns, whatever the system gives. The runs call `command_of`, which knows the words exactly by
-//! `request_of` (`specs/Command`), read and write by `read` and `write`, and name a file that stands where another one does
-//! by `beside` (`specs/Beside`). They say by a `Reason` why work is refused and call `reason_line` for its line
-//! (`specs/Reasons`); `compiled_line`, `valid_line`, `decompiled_line` and `sound_line` answer the lines of work that was
-//! done (`specs/Lines`): each exactly its line, unless there is no memory for it. `LONG_FILE` is the fault of a file that is
-//! too long to be read. They end by `tell_line`, whose clause `Tells` (`specs/Tells`) says by status what was printed, by
-//! `tell_made` with a line that there may be no memory for, and by `write_status`, and the programs by `exit_code` of a
-//! status; `specs/Seen` is what their contracts see of a folder and a sink.
+//! A program calls `words` to get the command-line arguments after its name. No clause states that the result is these arguments,
+//! since the toolchain's contract of `Env::arg` does not describe them. What is proved is that `words` returns, whatever the system
+//! passes. The runs use these functions:
+//! - `command_of` returns exactly the command that `request_of` specifies (`specs/Command`).
+//! - `read` and `write` access a file by its name, and `beside` returns the name of a file in another file's folder (`specs/Beside`).
+//! - `reason_line` returns the line of a `Reason` why work is refused (`specs/Reasons`). `compiled_line`, `valid_line`,
+//!   `decompiled_line` and `sound_line` return the lines of work that was done (`specs/Lines`). Each returns exactly its line, unless
+//!   an allocation fails. `LONG_FILE` is the fault of a file that is too long to read.
+//! - `tell_line` ends a run; its clause `Tells` (`specs/Tells`) states what was printed for each status. `tell_made` ends a run with a
+//!   line that may be missing because an allocation failed, and `write_status` with a failed write.
+//!
+//! The programs end with the `exit_code` of a status. `specs/Seen` defines what the contracts of runs see of a folder and a sink.
 #![tactic(auto)]
 
 mod command;

@@ -1,4 +1,4 @@
-//! The lines of reasons.
+//! The line of each reason.
 
 ghost use Rattle.std.specs.Prelude.{◌≡◌, IfOk};
 ghost use Rattle.std.specs.String.{string_bytes};
@@ -13,7 +13,7 @@ use play_script::refused_event_line;
 use std::alloc::{AllocError, Global};
 use touch_layout::{LayoutFault, LayoutPlace};
 
-/// The line of a reason why work is refused.
+/// Returns the line of a reason why work is refused.
 pub fn reason_line(alloc: Global, why: Reason) -> Result<Text, Memory>
     ensures { IfOk result (λ line. line ≡ reason_line why) }
 {
@@ -29,7 +29,7 @@ pub fn reason_line(alloc: Global, why: Reason) -> Result<Text, Memory>
     }
 }
 
-/// The line of a refusal.
+/// Returns the line of a refusal.
 #[tactic(auto, unfolding(rule_model::specs::Lines::refusal_line))]
 fn refusal_line(alloc: Global, refusal: Refusal) -> Result<Text, Memory>
     ensures { IfOk result (λ line. line ≡ refusal_line refusal) }
@@ -41,7 +41,7 @@ fn refusal_line(alloc: Global, refusal: Refusal) -> Result<Text, Memory>
     Ok(line)
 }
 
-/// The line of a limit that would be passed, with the size in bytes.
+/// Returns the line of a limit that would be exceeded, with the size in bytes.
 #[tactic(auto, unfolding(crate::specs::Reasons::size_line))]
 fn size_line(alloc: Global, code: Code, size: u64) -> Result<Text, Memory>
     ensures { IfOk result (λ line. line ≡ size_line code size) }
@@ -53,7 +53,7 @@ fn size_line(alloc: Global, code: Code, size: u64) -> Result<Text, Memory>
     Ok(line)
 }
 
-/// The line of a file's fault.
+/// Returns the line of a file's fault.
 #[tactic(auto, unfolding(crate::specs::Reasons::fault_line))]
 fn fault_line(alloc: Global, fault: Fault) -> Result<Text, Memory>
     ensures { IfOk result (λ line. line ≡ fault_line fault) }
@@ -68,7 +68,7 @@ fn fault_line(alloc: Global, fault: Fault) -> Result<Text, Memory>
     Ok(line)
 }
 
-/// The code of an item that a fault names, nothing where it names none.
+/// Returns the text of the item code that a fault names, or an empty text if it names none.
 #[tactic(auto, using(crate::proofs::Hexadecimal::two_digits_padded))]
 fn named_code(alloc: Global, unit: u16) -> Result<String, AllocError>
     ensures { IfOk result (λ text. string_bytes text ≡ named_code unit) }
@@ -79,7 +79,7 @@ fn named_code(alloc: Global, unit: u16) -> Result<String, AllocError>
     format!(in alloc; " code {unit:02X}")
 }
 
-/// The line of a rule that a layout breaks, with its place.
+/// Returns the line of a rule that a layout breaks, with its place.
 #[tactic(auto, unfolding(crate::specs::Reasons::place_line))]
 fn place_line(alloc: Global, fault: LayoutFault) -> Result<Text, Memory>
     ensures { IfOk result (λ line. line ≡ place_line fault) }
@@ -97,7 +97,7 @@ fn place_line(alloc: Global, fault: LayoutFault) -> Result<Text, Memory>
     Ok(line)
 }
 
-/// The line of why a file has no text.
+/// Returns the line of the reason why a file can't be decompiled.
 #[tactic(auto, unfolding(crate::specs::Reasons::spelling_line))]
 fn spelling_line(alloc: Global, why: NoSpelling) -> Result<Text, Memory>
     ensures { IfOk result (λ line. line ≡ spelling_line why) }
@@ -106,7 +106,7 @@ fn spelling_line(alloc: Global, why: NoSpelling) -> Result<Text, Memory>
     Ok(Text::from_string(line))
 }
 
-/// The line of a number that no load has.
+/// Returns the line of a number that no load has.
 #[tactic(auto, unfolding(crate::specs::Reasons::number_line))]
 fn number_line(alloc: Global) -> Result<Text, Memory>
     ensures { IfOk result (λ line. line ≡ number_line) }
@@ -117,7 +117,7 @@ fn number_line(alloc: Global) -> Result<Text, Memory>
     Ok(line)
 }
 
-/// The line of a source that has so many records, too many for a search among them.
+/// Returns the line of a source with `count` records, which are too many to search.
 #[tactic(auto, unfolding(crate::specs::Reasons::records_line))]
 fn records_line(alloc: Global, count: u64) -> Result<Text, Memory>
     ensures { IfOk result (λ line. line ≡ records_line count) }

@@ -6,8 +6,8 @@ use kmn_base::{Memory, Text};
 use kmn_outside::{Sink, WriteError};
 use play_transcript::put_all;
 
-/// Prints a line, or several, and ends with this status. A write fault comes where the sink failed, and nothing was printed or a
-/// first part.
+/// Prints one or more lines, and returns this status. If the sink fails, returns `WriteFault`; then a first part of the bytes was
+/// printed, maybe none.
 pub fn tell_line<S: Sink>(line: &[u8], status: Status, out: &mut S) -> Status
     requires { (status ≡ Status.Done) ⊎ (status ≡ Status.Refused) }
     ensures { Tells status line.now S.Sink out.old out.new result }
@@ -18,7 +18,8 @@ pub fn tell_line<S: Sink>(line: &[u8], status: Status, out: &mut S) -> Status
     }
 }
 
-/// Prints a line, or several, that were made, and ends with this status. Where they weren't for want of memory, nothing is printed.
+/// Prints one or more lines that were made, and returns this status. If an allocation failed while they were made, does not print and
+/// returns `Memory`.
 pub fn tell_made<S: Sink>(made: Result<Text, Memory>, status: Status, out: &mut S) -> Status
     requires { (status ≡ Status.Done) ⊎ (status ≡ Status.Refused) }
     ensures { TellsMade status made S.Sink out.old out.new result }
@@ -29,7 +30,7 @@ pub fn tell_made<S: Sink>(made: Result<Text, Memory>, status: Status, out: &mut 
     }
 }
 
-/// The status of a run that ends with a write or a put that didn't succeed.
+/// Returns the status of a run that ends with a failed write of a file or to the sink.
 pub fn write_status(error: WriteError) -> Status
     ensures { result ≡ write_status error }
 {

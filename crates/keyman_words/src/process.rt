@@ -3,8 +3,8 @@ use std::alloc::Global;
 use std::env::FillError;
 use std::rt::Env;
 
-/// The words behind the program's name, which is not looked at. A word is bytes; it need not be UTF-8. That they are the words
-/// of the call is no clause: the contract of `Env::arg` tells nothing but that an answer fits in its room.
+/// Returns the command-line arguments after the program's name, which is ignored. An argument is bytes; it need not be UTF-8. No
+/// clause states that these are the arguments: the contract of `Env::arg` only states that a result fits in its buffer.
 pub fn words(rt: &(impl Env + Alloc<A = Global>)) -> Result<Seq<Text>, Memory> {
     let mut words = Seq::new(rt.alloc());
     for place in 1..usize::MAX {
@@ -16,7 +16,7 @@ pub fn words(rt: &(impl Env + Alloc<A = Global>)) -> Result<Seq<Text>, Memory> {
     Ok(words)
 }
 
-/// The word at a place, None past the last. The room for it doubles until it fits.
+/// Returns the argument at an index, or `None` past the last. The buffer doubles until the argument fits.
 fn word(env: &impl Env, alloc: Global, place: usize) -> Result<Option<Text>, Memory> {
     let mut room = 256usize;
     for _ in 0..usize::BITS {

@@ -4,13 +4,13 @@ ghost use Rattle.keyman_words.specs.Status.{status_number};
 
 use std::process::ExitCode;
 
-/// How a run ended.
+/// The result of a run.
 #[derive(Clone, Copy, Debug, PartialEq, Eq)]
 pub enum Status {
     Done,
-    /// A named rule was broken, or a file isn't exported, and the line of that was printed.
+    /// A named rule was broken, or a file isn't exported, and the line that reports this was printed.
     Refused,
-    /// The words are no command, or not the names of two files.
+    /// The command-line arguments are not a command or, for the exporter, not the names of two files.
     Words,
     ReadFault,
     WriteFault,
@@ -20,7 +20,7 @@ pub enum Status {
 }
 
 impl Status {
-    /// The exit status of the process.
+    /// Returns the exit status of the process.
     pub fn number(self) -> u8
         ensures { result ≡ status_number self }
     {
@@ -35,7 +35,7 @@ impl Status {
         }
     }
 
-    /// What the process ends with after a run that ended so.
+    /// Returns the exit code with which the process ends after a run with this result.
     pub fn exit_code(self) -> ExitCode
         ensures { exit_status result ≡ status_number self }
     {

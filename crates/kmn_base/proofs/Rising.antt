@@ -1,6 +1,11 @@
 -- Lists of numbers that rise stay so where a number above all is put at their end.
 use Rattle.std.proofs.Common.{◌≡◌, ℕ, ◌+◌, ◌==◌, ◌<◌, ◌≤◌, if◌then◌else◌, List, [], ◌∷◌, ◌++◌, refl, arith}
-use Rattle.kmn_base.specs.Rising.{AllAbove, AllBelow, Rises, times}
+use Rattle.kmn_base.specs.Rising.{AllAbove, Rises, times}
+
+-- each number is below another
+abbrev pub AllBelow : ℕ → List ℕ → Type 0
+AllBelow high [] = Unit {0}
+AllBelow high (n ∷ ns) = (n < high) × AllBelow high ns
 
 pub AllBelow-more : (low high : ℕ) (ns : List ℕ) → low ≤ high → AllBelow low ns → AllBelow high ns
 AllBelow-more low high [] le below = tt

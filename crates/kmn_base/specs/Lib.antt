@@ -8,5 +8,6 @@ pub mod Lists
 pub mod Names
 pub mod Rising
 pub mod Spelling
+pub mod Stated
 pub mod Texts
 pub mod Laws

@@ -9,11 +9,6 @@ abbrev pub AllAbove : ℕ → List ℕ → Type 0
 AllAbove low [] = Unit {0}
 AllAbove low (n ∷ ns) = (low < n) × AllAbove low ns
 
--- each number is below another
-abbrev pub AllBelow : ℕ → List ℕ → Type 0
-AllBelow high [] = Unit {0}
-AllBelow high (n ∷ ns) = (n < high) × AllBelow high ns
-
 -- each number is above all before it
 abbrev pub Rises : List ℕ → Type 0
 Rises [] = Unit {0}

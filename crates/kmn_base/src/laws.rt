@@ -1,6 +1,7 @@
 //! Laws of the definitions in `specs/`, each the contract of a function with an empty body.
 
 ghost use Rattle.kmn_base.specs.Laws.{PutIsSound, TakingKeepsSoundness, WindowOfPut, CharactersOfPutChar, CharactersOfPutMark, ReadingAgainNeedsTheWindow, ReadingAgainIsSound, ReadingAgainGivesTheText, ReadingAgainTheSameText, SpellingsArePrefixFree, SpellingsAreShort, SpellingsAreUnits, SpelledItemIsNoFault, NoFaultIsEndOrItem, UnitsSpellOneList, FirstFaultIsOne, SpelledThroughOrBad, SpelledThroughIsNotBad};
+ghost use Rattle.kmn_base.specs.Stated.{LimitsAreAsStated, ShiftFlagsAreAsStated, SignsAreAsStated};
 
 /// After a put each mark stands among the last 64 items, whatever stood before.
 #[tactic(auto, using(crate::proofs::Lists::put_is_sound))]
@@ -107,4 +108,19 @@ pub fn spelled_through_or_bad()
 /// Bytes that are spelled to their end have no place at which no item is spelled.
 pub fn spelled_through_is_not_bad()
     ensures { SpelledThroughIsNotBad }
+{}
+
+/// Each limit is the number that the pages and the format state.
+pub fn limits_are_as_stated()
+    ensures { LimitsAreAsStated }
+{}
+
+/// Each shift flag is the bit that the format states.
+pub fn shift_flags_are_as_stated()
+    ensures { ShiftFlagsAreAsStated }
+{}
+
+/// The sentinel is the unit that the format states, and no character has the number that stands for none.
+pub fn signs_are_as_stated()
+    ensures { SignsAreAsStated }
 {}

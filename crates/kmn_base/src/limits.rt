@@ -1,4 +1,5 @@
-//! The limits of this product, each with its unit. What passes one is refused by name.
+//! The limits of this product, each with its unit. What passes one is refused by name. Definitions use these constants, and the law
+//! `limits_are_as_stated` says each as a number.
 
 /// Bytes of a source, a script, a touch layout or a decompiled text.
 pub const TEXT_BYTES: usize = 4_194_304;
@@ -32,6 +33,10 @@ pub const FILE_NAME_UNITS: usize = 255;
 pub const SCRIPT_EVENTS: usize = 100_000;
 /// Characters of a string in a script.
 pub const SCRIPT_STRING_CHARS: usize = 4_096;
+/// Key records of a keyboard that is searched for dead rules, each of which is compared with all before it (our own choice).
+pub const SHADOW_RECORDS: usize = 2_000;
+/// Rules of a load behind its first one (our own choice).
+pub const LOAD_RULES: u32 = 2_000;
 /// Text fields over one keyboard, of a host and of a script for many fields.
 pub const FIELDS: usize = 64;
 /// Characters of the whole text after an edit.

@@ -1,4 +1,4 @@
--- What holds of a program that a source is accepted with, and of the file that it compiles to.
+-- Properties of a program that a source is accepted with, and of the file that it compiles to.
 use Rattle.std.proofs.Common.{◌≡◌, ℕ, ◌≤◌, Bool, true, false, List, [], ◌∷◌, length, Some, None, Result, Ok, Err, refl, ap, sym, ◌∙◌, subst, nat_lt, arith}
 use Rattle.std.specs.Prelude.{IsErrAnd}
 use Rattle.std.specs.List.{list_all}
@@ -24,21 +24,21 @@ use Rattle.rule_model.specs.Transcript.{transcript}
 use Rattle.kmx_format.specs.File.{file_of}
 use Rattle.kmx_format.specs.TablesOf.{tables_of, no_places}
 use Rattle.kmx_format.specs.Writable.{IsWritable, IsFile}
-use Rattle.kmn_compiler.specs.Excess.{excess, IsExcess}
-use Rattle.kmx_format.specs.Compiles.{Compiles}
-use Rattle.kmx_format.specs.Law.{HasOwnLines}
-use Rattle.kmx_format.specs.Means.{Means}
-use Rattle.kmx_format.specs.Ordered.{compiled_tables}
-use Rattle.kmx_format.specs.WellNamed.{IsWellNamed, is_known_group, is_known_rule}
-use Rattle.kmx_format.proofs.Ordered.{tables_are_only_ones, program_compiles}
-use Rattle.kmx_format.proofs.Whole.{meaning_kept, transcript_kept}
+use Rattle.kmx_writer.specs.Excess.{excess, IsExcess}
+use Rattle.compile_laws.specs.Compiles.{Compiles}
+use Rattle.compile_laws.specs.Law.{HasOwnLines}
+use Rattle.compile_laws.specs.Means.{Means}
+use Rattle.compile_laws.specs.Ordered.{compiled_tables}
+use Rattle.compile_laws.specs.WellNamed.{IsWellNamed, is_known_group, is_known_rule}
+use Rattle.compile_laws.proofs.Ordered.{tables_are_only_ones, program_compiles}
+use Rattle.compile_laws.proofs.Whole.{meaning_kept, transcript_kept}
 use Rattle.kmx_verifier.proofs.FileValid.{file_valid}
 use Rattle.kmn_compiler.specs.Source.{CompilesTo}
 use Rattle.kmn_compiler.specs.declared.compiling.Compiled.{Compiled}
 use Rattle.kmn_compiler.proofs.Meaning.{read_again, means}
 use Rattle.kmn_compiler.proofs.NoPlaces.{same_meaning}
 
--- a program that is accepted meets what the law of the compiler rests on, and its tables can be written
+-- whether a program meets the premise of the compiler's law and its tables can be written
 pub record IsAccepted (program : Program) : Type 0 where
   pub named : IsWellNamed program
   pub writable : IsWritable (compiled_tables program)
@@ -50,7 +50,7 @@ own_lines_of program (group ∷ groups) known =
     let own = and_parts (have_own_lines group.rules) (list_all (is_known_rule program group.using_keys) group.rules) parts.0 in
     rw (own.0, own_lines_of program groups parts.1) refl
 
--- what is written where no limit is passed keeps the limits
+-- whether a picture and the file of tables with it are within their limits
 pub record KeepsLimits (tables : Tables) (picture : List ℕ) : Type 0 where
   pub picture_size : length picture ≤ PICTURE_BYTES
   pub file_size : length (file_of tables picture) ≤ FILE_BYTES
@@ -97,7 +97,7 @@ module _ (program : Program) (h : IsAccepted program) where
       means program tables (file_of tables picture) h.named (program_compiles program) (read_again tables picture (file_of tables picture) h.writable refl limits.file_size)
       (record { tables = tables; picture = picture; writable = h.writable; picture_size = limits.picture_size; file_size = limits.file_size; is = refl })
 
--- what the last step answers is the file of the program
+-- if an accepted program compiles to tables and no limit is passed, their file is a result of compiling the program
 pub compiled_from : (program : Program) (picture : List ℕ) (compiled : Compiled) → IsAccepted program → Compiles program compiled.tables
     → compiled.bytes ≡ file_of compiled.tables picture → IsFile compiled.bytes → excess compiled.tables picture ≡ None → CompilesTo (Ok program) picture (Ok compiled)
 compiled_from program picture compiled h compiles bytes file kept =
@@ -127,7 +127,7 @@ unwritten program picture tables (error.TooLarge code size) h compiles passed =
     (program, refl, subst (λ (t : Tables). excess t picture ≡ Some (code, size)) (accepted_same program h tables compiles) passed)
 unwritten program picture tables error.Memory h compiles passed = tt
 
--- what is answered for an error is what the error says
+-- if a result is an error, and the error is a result of compiling a program, so is the result
 pub answered : (program : Program) (picture : List ℕ) (e : CompileError) (result : Result Compiled CompileError) → IsErrAnd result (λ f. f ≡ e) → CompilesTo (Ok program) picture (Err e)
     → CompilesTo (Ok program) picture result
 answered program picture e (Ok compiled) is says = absurd is

@@ -1,4 +1,4 @@
--- What holds of a source that is accepted, and of the program that it has.
+-- Properties of a source that is accepted, and of its program.
 use Rattle.std.proofs.Common.{◌≡◌, ℕ, List, None, Result, Ok, Err, ap, sym, subst}
 use Rattle.kmn_base.specs.Answers.{Answers, and_then}
 use Rattle.kmn_base.specs.declared.refusals.CompileError.{CompileError}
@@ -12,13 +12,13 @@ use Rattle.rule_model.specs.Tab.{tab}
 use Rattle.rule_model.specs.Trace.{trace}
 use Rattle.rule_model.specs.Transcript.{transcript}
 use Rattle.kmx_format.specs.File.{file_of}
-use Rattle.kmn_compiler.specs.Excess.{excess}
-use Rattle.kmx_format.specs.Means.{Means}
-use Rattle.kmx_format.specs.Ordered.{compiled_tables}
+use Rattle.kmx_writer.specs.Excess.{excess}
+use Rattle.compile_laws.specs.Means.{Means}
+use Rattle.compile_laws.specs.Ordered.{compiled_tables}
 use Rattle.kmn_parser.specs.Source.{parsed}
-use Rattle.kmn_names.specs.First.{or_refusal}
+use Rattle.store_table.specs.First.{or_refusal}
 use Rattle.rule_checker.specs.Refused.{IsRead, refused, checked}
-use Rattle.kmx_format.proofs.Ordered.{program_compiles}
+use Rattle.compile_laws.proofs.Ordered.{program_compiles}
 use Rattle.rule_checker.proofs.Named.{well_named}
 use Rattle.rule_checker.proofs.Written.{tables_written}
 use Rattle.rule_checker.proofs.Sources.{source_read, accepted_parts}
@@ -32,12 +32,12 @@ is_accepted program read kept = record { named = well_named program read kept; w
 pub checked_accepted : (source : List ℕ) (program : Program) → checked source ≡ Ok program → IsAccepted program
 checked_accepted source program is = let parts = accepted_parts source program is in is_accepted program (source_read source program parts.0) parts.1
 
--- what the check of a program answers that was read
+-- if a source is read as a program, the result of checking the program is the result of checking the source
 pub checked_read : (source : List ℕ) (program : Program) (result : Result Program CompileError) → parsed source ≡ Ok program → Answers (or_refusal program (refused program)) result → Answers (checked source) result
 checked_read source program result is answers =
     subst (λ (read : Result Program Refusal). Answers (and_then read (λ p. or_refusal p (refused p))) result) (sym is) answers
 
--- what is answered for a source that wasn't read
+-- if reading a source returns an error, checking the source returns it
 pub unread : (source : List ℕ) (error : CompileError) → Answers (parsed source) (Err error) → Answers {A = Program} (checked source) (Err error)
 unread source (error.Refused refusal) is = ap (λ (read : Result Program Refusal). and_then read (λ p. or_refusal p (refused p))) is
 unread source (error.TooLarge code size) is = absurd is

@@ -2,8 +2,8 @@
 use Rattle.std.proofs.Common.{◌≡◌, ◌∙◌, ap, subst}
 use Rattle.rule_model.specs.declared.program.Program.{Program}
 use Rattle.rule_model.specs.declared.tables.Tables.{Tables}
-use Rattle.kmx_format.specs.Compiles.{Compiles, AreOrderedGroups}
-use Rattle.kmn_compiler.specs.Order.{IsOrdered}
+use Rattle.compile_laws.specs.Compiles.{Compiles, AreOrderedGroups}
+use Rattle.rule_order.specs.Order.{IsOrdered}
 use Rattle.rule_expand.specs.Expanded.{expanded_tables}
 
 pub ordered_compiles : (program : Program) (expanded tables : Tables) → expanded ≡ expanded_tables program → IsOrdered expanded tables → Compiles program tables

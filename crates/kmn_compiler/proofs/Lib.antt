@@ -3,7 +3,4 @@ pub mod Checks
 pub mod Expanded
 pub mod Meaning
 pub mod NoPlaces
-pub mod Strings
-pub mod TextSteps
-pub mod RuleSteps
-pub mod Whole
+pub mod Counted

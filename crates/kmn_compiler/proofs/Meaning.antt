@@ -3,16 +3,16 @@ use Rattle.std.proofs.Common.{◌≡◌, ◌≤◌, ℕ, List, length, ap, sym, 
 use Rattle.kmn_base.specs.declared.limits.TheConstants.{FILE_BYTES}
 use Rattle.rule_model.specs.declared.program.Program.{Program}
 use Rattle.rule_model.specs.declared.tables.Tables.{Tables}
-use Rattle.kmx_format.specs.Compiles.{Compiles}
+use Rattle.compile_laws.specs.Compiles.{Compiles}
 use Rattle.kmx_format.specs.File.{file_of}
-use Rattle.kmx_format.specs.Means.{Means}
+use Rattle.compile_laws.specs.Means.{Means}
 use Rattle.rule_model.specs.Tab.{tab}
 use Rattle.kmx_format.specs.TablesOf.{tables_of, no_places}
 use Rattle.rule_model.specs.Trace.{trace}
-use Rattle.kmx_format.specs.WellNamed.{IsWellNamed}
+use Rattle.compile_laws.specs.WellNamed.{IsWellNamed}
 use Rattle.kmx_format.specs.Writable.{IsWritable, IsFile}
 use Rattle.kmx_format.proofs.FileLaw.{law as reading_gives_back}
-use Rattle.kmx_format.proofs.Whole.{meaning_kept}
+use Rattle.compile_laws.proofs.Whole.{meaning_kept}
 use Rattle.kmn_compiler.proofs.NoPlaces.{same_meaning}
 
 -- what is read of the file is the tables, but for the places of keys

@@ -1,4 +1,4 @@
--- The meaning of tables does not look at the places of keys in key stores.
+-- The meaning of tables does not depend on the places of keys in key stores.
 use Rattle.std.proofs.Common.{◌≡◌, Bool, List, [], ◌∷◌, ◌++◌, map, refl, ap}
 use Rattle.rule_model.specs.declared.tables.Rule.{Rule}
 use Rattle.rule_model.specs.declared.tables.Store.{Store}

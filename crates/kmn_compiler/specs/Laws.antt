@@ -8,24 +8,24 @@ use Rattle.rule_model.specs.Tab.{tab}
 use Rattle.rule_model.specs.Trace.{trace}
 use Rattle.rule_model.specs.Transcript.{transcript}
 use Rattle.kmx_format.specs.File.{file_of}
-use Rattle.kmn_compiler.specs.Excess.{excess}
-use Rattle.kmx_format.specs.Means.{Means}
-use Rattle.kmx_format.specs.Ordered.{compiled_tables}
+use Rattle.kmx_writer.specs.Excess.{excess}
+use Rattle.compile_laws.specs.Means.{Means}
+use Rattle.compile_laws.specs.Ordered.{compiled_tables}
 use Rattle.rule_checker.specs.Refused.{checked}
 
--- its tables take its steps, whatever the events
+-- if a source is accepted, the tables of its program take the steps of the program, whatever the events
 abbrev pub TablesTakeItsSteps : Type 0
 TablesTakeItsSteps =
     (source : List ℕ) (program : Program) → checked source ≡ Ok program
     → (events : List Event) → trace (src program) events ≡ trace (tab (compiled_tables program)) events
 
--- and print what it prints, whatever the entries of a script
+-- if a source is accepted, the tables of its program print what the program prints, whatever the entries of a script
 abbrev pub TablesPrintTheSame : Type 0
 TablesPrintTheSame =
     (source : List ℕ) (program : Program) → checked source ≡ Ok program
     → (entries : List Entry) → transcript (src program) entries ≡ transcript (tab (compiled_tables program)) entries
 
--- their file means it, with each picture with which no limit is passed
+-- if a source is accepted and no limit is passed with a picture, the file of its tables with the picture means the program
 abbrev pub FilesMeanIt : Type 0
 FilesMeanIt =
     (source : List ℕ) (program : Program) → checked source ≡ Ok program

@@ -11,7 +11,7 @@ use Rattle.rule_model.specs.declared.system.TheConstants.{BITMAP}
 abbrev pub is_bitmap : Store → Bool
 is_bitmap store = nat_eq store.system BITMAP
 
--- the characters among elements, as a text; there is none where there are no elements
+-- the text of the characters among elements, if there are elements
 abbrev pub picture_text : List Element → Option (List ℕ)
 picture_text elements = if nat_eq (length elements) 0 then None else Some (encode_utf8_all (filter_map element_char elements))
 

@@ -8,14 +8,14 @@ use Rattle.rule_model.specs.Tab.{tab}
 use Rattle.kmx_format.specs.File.{file_of}
 use Rattle.kmx_format.specs.TablesOf.{tables_of}
 use Rattle.kmx_format.specs.Writable.{IsFile, IsWritable}
-use Rattle.kmn_compiler.specs.Excess.{excess}
-use Rattle.kmx_format.specs.Compiles.{Compiles}
-use Rattle.kmx_format.specs.Means.{Means}
-use Rattle.kmx_format.specs.Ordered.{compiled_tables}
+use Rattle.kmx_writer.specs.Excess.{excess}
+use Rattle.compile_laws.specs.Compiles.{Compiles}
+use Rattle.compile_laws.specs.Means.{Means}
+use Rattle.compile_laws.specs.Ordered.{compiled_tables}
 use Rattle.kmx_verifier.specs.FaultOf.{IsValid}
 use Rattle.kmn_compiler.specs.declared.compiling.Compiled.{Compiled}
 
--- a compiled file is that of the tables which the program compiles to, with the picture; it is valid, and means the program
+-- whether compiled bytes are the file of the tables that a program compiles to, with a picture: it is valid and means the program
 pub record IsCompiledFrom (program : Program) (picture : List ℕ) (compiled : Compiled) : Type 0 where
   pub compiles : Compiles program compiled.tables
   pub tables : compiled.tables ≡ compiled_tables program
@@ -27,8 +27,8 @@ pub record IsCompiledFrom (program : Program) (picture : List ℕ) (compiled : C
   pub means : Means compiled.bytes program
   pub keyboard : tab (tables_of compiled.bytes) ≡ tab compiled.tables
 
--- what a compilation with a picture answers for a program, or for a source with this program or refusal: its refusal,
--- exactly, else the limit that its picture or file would pass, exactly, else its file; want of memory alone is free
+-- the result of compiling a program, or a source that is read as this program or refusal, with a picture: exactly its refusal,
+-- else exactly the limit that its picture or file would pass, else its file; only `Memory` is unspecified
 abbrev pub CompilesTo : Result Program Refusal → List ℕ → Result Compiled CompileError → Type 0
 CompilesTo read picture (Ok compiled) = (program : Program) × (read ≡ Ok program) × IsCompiledFrom program picture compiled
 CompilesTo read picture (Err (Refused refusal)) = read ≡ Err refusal

@@ -8,7 +8,7 @@ pub fn tables_keep_meaning()
     ensures prints { TablesPrintTheSame }
 {}
 
-/// The file of these tables means the program, where neither the picture nor the file passes its limit.
+/// The file of these tables means the program, if neither the bitmap nor the file passes its limit.
 pub fn files_mean_their_source()
     ensures { FilesMeanIt }
 {}

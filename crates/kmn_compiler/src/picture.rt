@@ -1,4 +1,4 @@
-//! The name of a keyboard's picture.
+//! Finds the name of a keyboard's bitmap, an icon file.
 
 ghost use Rattle.std.specs.Prelude.{◌≡◌, IfOk, filter_map, encode_utf8_all};
 ghost use Rattle.rule_model.specs.Tab.{element_char};
@@ -10,7 +10,7 @@ use rule_expand::system_elements;
 use rule_model::system::BITMAP;
 use std::alloc::Global;
 
-/// The text of the first `&bitmap` of a program, which names its picture; None where there is none, or where it is empty.
+/// Returns the text of the first `&bitmap` of a program, which names its bitmap, or `None` if there is no `&bitmap` or it is empty.
 #[tactic(auto, unfolding(crate::specs::Picture::picture_name))]
 pub fn picture_name(alloc: Global, checked: &Checked) -> Result<Option<Text>, Memory>
     ensures { IfOk result (λ name. name ≡ picture_name checked.now) }
@@ -19,7 +19,7 @@ pub fn picture_name(alloc: Global, checked: &Checked) -> Result<Option<Text>, Me
     picture_text(alloc, elements.as_slice())
 }
 
-/// The text of elements, if any.
+/// Returns the text of elements, or `None` if there are no elements.
 fn picture_text(alloc: Global, elements: &[Element]) -> Result<Option<Text>, Memory>
     ensures { IfOk result (λ text. text ≡ picture_text elements.now) }
 {
@@ -29,7 +29,7 @@ fn picture_text(alloc: Global, elements: &[Element]) -> Result<Option<Text>, Mem
     Ok(Some(text_of(alloc, elements)?))
 }
 
-/// The characters among elements, as a text.
+/// Returns the text of the characters among elements.
 fn text_of(alloc: Global, elements: &[Element]) -> Result<Text, Memory>
     ensures { IfOk result (λ text. text ≡ encode_utf8_all (filter_map element_char elements.now)) }
 {

@@ -2,7 +2,7 @@
 use Rattle.std.specs.Prelude.{ℕ, Bool, ◌&&◌, List, [], fold, bit_or, Some, None, unwrap_or}
 use Rattle.std.specs.List.{prefix_len}
 use Rattle.kmn_base.specs.declared.keys.TheConstants.{VIRTUAL_KEY}
-use Rattle.rule_model.specs.Keys.{key_code, shift_flag}
+use Rattle.virtual_keys.specs.Keys.{key_code, shift_flag}
 use Rattle.rule_model.specs.declared.program.SrcItem.{SrcItem}
 use Rattle.rule_model.specs.declared.program.SrcItem.TheVariants as source
 use Rattle.rule_model.specs.declared.program.KeyName.{KeyName}

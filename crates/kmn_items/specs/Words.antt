@@ -4,8 +4,8 @@ use Rattle.std.specs.Str.{byte}
 use Rattle.kmn_base.specs.Names.{same_name, named_in}
 use Rattle.kmn_base.specs.Texts.{character_count}
 use Rattle.kmn_base.specs.declared.limits.TheConstants.{SOURCE_NAME_CHARS}
-use Rattle.rule_model.specs.Dictionary.{name_chars}
-use Rattle.rule_model.specs.Keys.{key_code, shift_flag}
+use Rattle.virtual_keys.specs.Dictionary.{name_chars}
+use Rattle.virtual_keys.specs.Keys.{key_code, shift_flag}
 use Rattle.kmn_items.specs.declared.syntax.ItemWord.{ItemWord}
 use Rattle.kmn_items.specs.declared.syntax.ItemWord.TheVariants as word
 

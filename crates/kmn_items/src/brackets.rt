@@ -10,8 +10,9 @@ use crate::words::is_modifier;
 use kmn_base::keys::VIRTUAL_KEY;
 use kmn_base::{Memory, Seq};
 use kmn_lines::{Token, TokenKind};
-use rule_model::{KeyName, SrcItem, key_named, modifier_named};
+use rule_model::{KeyName, SrcItem};
 use std::alloc::Global;
+use virtual_keys::{key_named, modifier_named};
 
 /// What stands behind the modifiers of a virtual key.
 const KEY_AND_END: [Slot; 2] = [Slot::KeyName, Slot::KeyEnd];

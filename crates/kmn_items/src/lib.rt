@@ -1,7 +1,7 @@
 //! Reads the items of a line from its tokens, which `kmn_lines` describes: characters, virtual keys, and the forms that
 //! begin with a word.
 //!
-//! It stands on `kmn_lines` for the kinds of tokens, and on `rule_model` for the names of keys and for the items.
+//! It stands on `kmn_lines` for the kinds of tokens, on `virtual_keys` for the names of keys, and on `rule_model` for the items.
 //! `specs/Item` says what items tokens stand for, by four questions: what its first token says of an item
 //! (`specs/Leads`), whether that may stand there (`specs/Standing`), which form it has (`specs/Forms`, `specs/Slots`), and
 //! what the form stands for in its section: `layer` sets the layer in an output and asks for it in a context, and the name

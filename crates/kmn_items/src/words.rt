@@ -7,7 +7,7 @@ use kmn_base::limits::SOURCE_NAME_CHARS;
 use kmn_base::names::{named_in, same_name};
 use kmn_base::slices::{before, behind};
 use kmn_base::texts::character_count;
-use rule_model::{key_named, modifier_named, named_chars};
+use virtual_keys::{key_named, modifier_named, named_chars};
 
 static ITEM_WORDS: [(&str, ItemWord); 22] = [
     ("dk", ItemWord::Dead),

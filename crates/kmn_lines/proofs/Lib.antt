@@ -10,4 +10,3 @@ pub mod Cuts
 pub mod LineTexts
 pub mod Prefixes
 pub mod CutExamples
-pub mod Scans

@@ -6,7 +6,11 @@ use Rattle.kmn_lines.specs.declared.line_state.LineState.{LineState}
 use Rattle.kmn_base.specs.Bytes.{is_blank}
 use Rattle.kmn_lines.specs.Bytes.{first_or_end}
 use Rattle.kmn_lines.specs.Lines.{starts_comment, outside, in_line, after_byte, ends_line, physical_lines}
-use Rattle.kmn_lines.specs.Places.{IsBetween}
+
+-- the places that a state knows lie between two others
+pub record IsBetween (from to : ℕ) (r : LineState) : Type 0 where
+  pub slash : IfSome r.slash (λ at. (from ≤ at) × (at ≤ to))
+  pub stop : IfSome r.stop (λ at. (from ≤ at) × (at ≤ to))
 
 between-if : (from to : ℕ) (b : Bool) (r s : LineState) → IsBetween from to r → IsBetween from to s → IsBetween from to (if b then r else s)
 between-if from to true r s g h = g

@@ -8,7 +8,8 @@ use Rattle.kmn_lines.specs.declared.line_state.PhysicalLine.{PhysicalLine}
 use Rattle.kmn_lines.specs.declared.logical.Logical.{Logical}
 use Rattle.kmn_lines.specs.Bytes.{first_or_end}
 use Rattle.kmn_lines.specs.Lines.{ends_line, line_start, after_byte, physical_lines, physical_lines_at, extended, gather}
-use Rattle.kmn_lines.specs.Places.{IsBetween, IsPlaced}
+use Rattle.kmn_lines.specs.Places.{IsPlaced}
+use Rattle.kmn_lines.proofs.LineStates.{IsBetween}
 use Rattle.kmn_lines.proofs.LineStates.{between_after_byte}
 use Rattle.kmn_lines.proofs.TextSizes.{all-if}
 

@@ -4,4 +4,3 @@ pub mod Tokens
 pub mod Places
 pub mod Walks
 pub mod Laws
-pub mod Scanning

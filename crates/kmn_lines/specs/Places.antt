@@ -4,11 +4,6 @@ use Rattle.kmn_lines.specs.declared.line_state.LineState.{LineState}
 use Rattle.kmn_lines.specs.declared.line_state.PhysicalLine.{PhysicalLine}
 use Rattle.kmn_lines.specs.declared.logical.Logical.{Logical}
 
--- the places that a state knows lie between two others
-pub record IsBetween (from to : ℕ) (r : LineState) : Type 0 where
-  pub slash : IfSome r.slash (λ at. (from ≤ at) × (at ≤ to))
-  pub stop : IfSome r.stop (λ at. (from ≤ at) × (at ≤ to))
-
 -- a physical line stands behind a place, has a byte, and ends within a length
 pub record IsPhysicalLineWithin (from size : ℕ) (p : PhysicalLine) : Type 0 where
   pub begins : from ≤ p.from

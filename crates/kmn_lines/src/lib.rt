@@ -1,9 +1,8 @@
-//! The lines of a source, and the tokens of a line or the first fault among them.
+//! The lines of a source, and the types of its tokens.
 //!
-//! It stands on `kmn_base`. `specs/Lines` says how a source is cut, `specs/Tokens` what the tokens of a line are and which
-//! fault comes first; `laws` says what holds of both in words that do not speak of reading. The layers above walk over
-//! `lines`, and over the `parts` of each; they call `tokens` for each line that `lines` gives, and read statements from what
-//! it answers. What a text is of a token can be asked of it alone: `word_size`, `starts_number`, `number`, `has_forbidden`.
+//! It stands on `kmn_base`. `specs/Lines` says how a source is cut, `specs/Tokens` what the tokens of a line are and
+//! which fault comes first; `laws` says what holds of both in words that do not speak of reading. The layers above walk
+//! over `lines` and, for the tokens, over the `parts` of each.
 #![tactic(auto)]
 
 ghost use Rattle.std.specs.Prelude.{◌≡◌, ◌≤◌, length, All};
@@ -13,30 +12,21 @@ ghost use Rattle.kmn_lines.specs.Places.{IsPlaced};
 ghost use Rattle.kmn_lines.specs.Walks.{lines_left, parts_left};
 
 pub mod bytes;
-mod faults;
 pub mod laws;
 mod line_state;
 mod line_walk;
 mod logical;
-mod numbers;
 mod part_walk;
 mod physical_line;
 mod prefix;
-mod scan;
-mod sizes;
 mod token;
-mod token_error;
 
-pub use faults::has_forbidden;
 use kmn_base::slices::before;
 use kmn_base::texts::mark_size;
 pub use line_state::{LineState, PhysicalLine};
 pub use line_walk::Lines;
 pub use logical::{Logical, Part};
-pub use numbers::number;
 pub use part_walk::Parts;
-pub use scan::tokens;
-pub use sizes::{starts_number, word_size};
 pub use token::{Token, TokenKind};
 
 /// The logical lines of a source in their order, of which a first U+FEFF is no part. A comment and a joining backslash

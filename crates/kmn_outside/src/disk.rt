@@ -2,10 +2,11 @@ ghost use Rattle.std.specs.Prelude.{◌≡◌, ◌≢◌, Err};
 ghost use Rattle.std.specs.Str.{IsUtf8};
 ghost use Rattle.kmn_outside.specs.Outside.{ReadCounts, WriteCounts, IsLimited};
 
+use crate::saving::save;
 use crate::{Folder, ReadError, WriteError};
 use kmn_base::Seq;
 use std::alloc::Global;
-use std::fs::{self, File};
+use std::fs::File;
 use std::io::{self, ErrorKind, Read};
 use std::marker::Model;
 use std::rt::Files;
@@ -58,14 +59,15 @@ impl<R: Files> Folder for DiskFolder<R> {
         answer
     }
 
-    /// Makes the whole file anew. It takes no memory of its own, so each error is a fault.
-    fn write(&mut self, _alloc: Global, name: &[u8], bytes: &[u8]) -> Result<(), WriteError>
+    /// Puts the bytes in place of the file at once, so that it has all of them or stays as it was; what is no regular file takes them as
+    /// they come. Each error is a fault, want of memory for a name beside the file too.
+    fn write(&mut self, alloc: Global, name: &[u8], bytes: &[u8]) -> Result<(), WriteError>
         ensures counts { WriteCounts self.old self.new result }
         ensures memory { result ≢ Err WriteError.Memory }
         ensures no_path { ¬ IsUtf8 name.now → result ≡ Err WriteError.Failed }
     {
         match str::from_utf8(name) {
-            Ok(path) if fs::write(&self.runtime, path, bytes).is_ok() => Ok(()),
+            Ok(path) if save(&self.runtime, alloc, path, bytes).is_ok() => Ok(()),
             _ => {
                 self.faults = self.faults.saturating_add(1);
                 Err(WriteError::Failed)

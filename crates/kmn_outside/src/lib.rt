@@ -11,6 +11,7 @@ mod counts;
 mod disk;
 mod memory_folder;
 mod memory_sink;
+mod saving;
 mod stream;
 mod traits;
 

@@ -6,7 +6,7 @@ use Rattle.std.proofs.lemmas.Bool.{and_parts, eqb-true, eq-eqb, cases_lt}
 use Rattle.std.proofs.lemmas.Nat.{and_le_l, and_le_r}
 use Rattle.kmn_base.specs.Names.{same_name}
 use Rattle.kmn_base.specs.declared.keys.TheConstants.{SHIFT_FLAGS}
-use Rattle.rule_model.specs.Keys.{shift_flags}
+use Rattle.virtual_keys.specs.Keys.{shift_flags}
 use Rattle.kmn_items.specs.Brackets.{flags_of}
 use Rattle.kmn_parser.specs.Texts.{word}
 use Rattle.kmn_parser.specs.Items.{flag_words}

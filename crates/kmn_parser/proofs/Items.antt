@@ -5,7 +5,7 @@ use Rattle.std.specs.Prelude.{not, nat_eq, bit_and, filter, map}
 use Rattle.std.specs.List.{list_all}
 use Rattle.std.specs.Fmt.{decimal}
 use Rattle.std.proofs.lemmas.Bool.{cond-true, cond-false, and_from, and_parts}
-use Rattle.rule_model.specs.Keys.{shift_flags}
+use Rattle.virtual_keys.specs.Keys.{shift_flags}
 use Rattle.rule_model.specs.declared.program.KeyName.{KeyName}
 use Rattle.kmn_items.specs.Brackets.{flags_of, named_key, key_item, modifier_count}
 use Rattle.kmn_items.proofs.ItemLemmas.{items_skip}

@@ -7,10 +7,10 @@ use Rattle.std.proofs.lemmas.Bool.{and_parts, and_from, or_right, ne_eqb, eqb-tr
 use Rattle.kmn_base.specs.Names.{same_name, named_in}
 use Rattle.kmn_lines.specs.Tokens.{starts_number, begins_forbidden, hex_value}
 use Rattle.kmn_lines.specs.declared.token.TokenKind.TheVariants as kind
-use Rattle.rule_model.specs.Dictionary.{groups, group_chars, name_chars}
+use Rattle.virtual_keys.specs.Dictionary.{groups, group_chars, name_chars}
 use Rattle.kmn_base.specs.declared.limits.TheConstants.{SOURCE_NAME_CHARS}
 use Rattle.kmn_base.specs.Texts.{character_count}
-use Rattle.rule_model.specs.Keys.{key_codes, key_code, shift_flags}
+use Rattle.virtual_keys.specs.Keys.{key_codes, key_code, shift_flags}
 use Rattle.rule_model.specs.declared.program.KeyName.{KeyName}
 use Rattle.kmn_items.specs.Words.{is_own_key, is_touch_name, is_modifier, is_key_name}
 use Rattle.kmn_items.specs.Brackets.{named_key}

@@ -11,8 +11,8 @@ use Rattle.std.proofs.lemmas.Fmt.{decimal_nonempty}
 use Rattle.kmn_base.specs.Names.{same_name}
 use Rattle.std.specs.Char.{to_ascii_lowercase}
 use Rattle.kmn_base.specs.declared.limits.TheConstants.{SOURCE_NAME_CHARS}
-use Rattle.rule_model.specs.Dictionary.{groups, group_chars, name_chars}
-use Rattle.rule_model.specs.Keys.{key_codes, key_name}
+use Rattle.virtual_keys.specs.Dictionary.{groups, group_chars, name_chars}
+use Rattle.virtual_keys.specs.Keys.{key_codes, key_name}
 use Rattle.rule_model.specs.declared.program.KeyName.{KeyName}
 use Rattle.rule_model.specs.declared.program.SrcItem.{SrcItem}
 use Rattle.rule_model.specs.declared.program.SrcItem.TheVariants as source

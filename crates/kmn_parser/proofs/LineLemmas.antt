@@ -23,7 +23,14 @@ use Rattle.kmn_parser.specs.declared.statement.Sign.{Sign}
 use Rattle.kmn_items.specs.TokenTexts.{with_texts}
 use Rattle.kmn_parser.specs.Line.{is_sign, place_of}
 use Rattle.kmn_parser.specs.Source.{line_statement, group_after, with_statement, read_lines, with_rule, read_text, parsed}
-use Rattle.kmn_parser.specs.Reading.{read_further, reading_after, read_behind}
+use Rattle.kmn_parser.specs.Reading.{read_further, reading_after}
+
+-- what is read, and all lines that are left
+abbrev pub read_behind : List ℕ → Reading → List Logical → Result Program Refusal
+read_behind source reading lines = elim reading.refused [
+  | None ↦ read_lines source reading.group reading.program lines
+  | Some found ↦ Err found
+]
 
 -- a sign stands at the same place among the tokens with their texts
 pub place_with_texts : (source : List ℕ) (wanted : Sign) (tokens : List Token) → place_of wanted (with_texts source tokens) ≡ position_or_len (λ (token : Token). is_sign wanted token.kind) tokens

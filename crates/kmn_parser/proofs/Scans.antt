@@ -13,7 +13,7 @@ use Rattle.kmn_lines.proofs.Numbered.{drop-next}
 use Rattle.kmn_items.specs.TokenTexts.{LineToken, with_texts, with_text, text_of}
 use Rattle.kmn_parser.specs.Printed.{printed}
 use Rattle.kmn_parser.proofs.LineForms.{AreReadBack, IsReadBack, tokens_in}
-use Rattle.kmn_lines.proofs.Scans.{first_fault_skip}
+use Rattle.kmn_tokens.proofs.Scans.{first_fault_skip}
 
 -- a token by its text
 abbrev token_of : List ℕ → LineToken

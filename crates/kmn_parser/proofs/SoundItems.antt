@@ -7,7 +7,7 @@ use Rattle.std.proofs.lemmas.Bool.{and_from, not-true, and_parts}
 use Rattle.kmn_lines.specs.Tokens.{begins_forbidden, starts_number, hex_value}
 use Rattle.kmn_lines.specs.declared.token.TokenKind.{TokenKind}
 use Rattle.kmn_lines.specs.declared.token.TokenKind.TheVariants as kind
-use Rattle.rule_model.specs.Keys.{shift_flags}
+use Rattle.virtual_keys.specs.Keys.{shift_flags}
 use Rattle.rule_model.specs.declared.program.SrcItem.{SrcItem}
 use Rattle.rule_model.specs.declared.program.SrcItem.TheVariants as source
 use Rattle.kmn_items.specs.declared.syntax.Where.{Where}

@@ -8,8 +8,8 @@ use Rattle.std.proofs.lemmas.Nat.Bits.{bit_at_and, bit_at_or, same_from_bits}
 use Rattle.std.proofs.lemmas.Str.{encodes-chars, length-le-encodes}
 use lib.Utf8.{encodes}
 use Rattle.kmn_base.specs.Names.{same_name, named_in}
-use Rattle.rule_model.specs.Dictionary.{name_chars}
-use Rattle.rule_model.specs.Keys.{key_codes, shift_flags, key_code, shift_flag}
+use Rattle.virtual_keys.specs.Dictionary.{name_chars}
+use Rattle.virtual_keys.specs.Keys.{key_codes, shift_flags, key_code, shift_flag}
 use Rattle.kmn_lines.specs.declared.token.TokenKind.{TokenKind}
 use Rattle.kmn_lines.specs.declared.token.TokenKind.TheVariants as kind
 use Rattle.kmn_items.specs.TokenTexts.{LineToken, is_word}

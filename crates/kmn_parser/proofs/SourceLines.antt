@@ -28,10 +28,11 @@ use Rattle.kmn_parser.specs.declared.statement.LastGroup.TheVariants.{Missing}
 use Rattle.kmn_parser.specs.declared.statement.Statement.{Statement}
 use Rattle.kmn_parser.specs.declared.statement.Statement.TheVariants as statement
 use Rattle.kmn_items.specs.TokenTexts.{with_texts}
-use Rattle.kmn_base.specs.Rising.{AllBelow, Rises, times}
-use Rattle.kmn_base.proofs.Rising.{AllBelow-more, AllBelow-push, AllBelow-front, AllBelow-back, Rises-push, times-push, times-none}
+use Rattle.kmn_base.specs.Rising.{Rises, times}
+use Rattle.kmn_base.proofs.Rising.{AllBelow, AllBelow-more, AllBelow-push, AllBelow-front, AllBelow-back, Rises-push, times-push, times-none}
 use Rattle.kmn_parser.specs.Source.{at_line, line_statement, group_after, with_rule, with_statement, no_program, read_lines, read_text, parsed}
-use Rattle.kmn_parser.specs.SourceLaws.{store_lines, begin_lines, group_lines, lines_of_rules, rule_lines, StandsAt, statements_at, has_own_lines, IsInOrder, StatementsAreInOrder}
+use Rattle.kmn_parser.specs.SourceLaws.{store_lines, begin_lines, group_lines, lines_of_rules, rule_lines, statements_at, has_own_lines, IsInOrder, StatementsAreInOrder}
+use Rattle.kmn_parser.proofs.StatedLines.{StandsAt}
 use Rattle.kmn_parser.proofs.StatedLines.{ReadsAt, line-at}
 
 -- each logical line has a number above those of the lines before it, and the first at least a bound

@@ -3,7 +3,7 @@ use Rattle.std.specs.Prelude.{â„•, not, nat_eq, bit_and, unwrap_or, filter, ifâ—
 use Rattle.std.specs.Fmt.{decimal}
 use Rattle.std.specs.List.{list_any}
 use Rattle.std.specs.Str.{byte, encode_utf8_all}
-use Rattle.rule_model.specs.Keys.{key_name, shift_flags}
+use Rattle.virtual_keys.specs.Keys.{key_name, shift_flags}
 use Rattle.rule_model.specs.declared.program.KeyName.{KeyName}
 use Rattle.rule_model.specs.declared.program.SrcItem.{SrcItem}
 use Rattle.rule_model.specs.declared.program.SrcItem.TheVariants as source

@@ -19,10 +19,3 @@ reading_after source reading line = elim reading.refused [
   | None ↦ read_further reading.group reading.program (line_statement source reading.group line)
   | Some found ↦ reading
 ]
-
--- what is read, and all lines that are left
-abbrev pub read_behind : List ℕ → Reading → List Logical → Result Program Refusal
-read_behind source reading lines = elim reading.refused [
-  | None ↦ read_lines source reading.group reading.program lines
-  | Some found ↦ Err found
-]

@@ -29,14 +29,6 @@ lines_of_rules rules = map (λ (rule : RuleDef). rule.line) rules
 abbrev pub rule_lines : List GroupDef → List ℕ
 rule_lines groups = flat_map (λ (group : GroupDef). lines_of_rules group.rules) groups
 
--- a statement has the number of a line; an empty line states nothing
-abbrev pub StandsAt : ℕ → Statement → Type 0
-StandsAt line statement.Nothing = Unit {0}
-StandsAt line (statement.Store store) = store.line ≡ line
-StandsAt line (statement.Begin start) = start.line ≡ line
-StandsAt line (statement.Group group) = (group.line ≡ line) × (group.rules ≡ [])
-StandsAt line (statement.Rule rule) = rule.line ≡ line
-
 -- how many statements have a line
 abbrev pub statements_at : ℕ → Program → ℕ
 statements_at line program =

@@ -1,7 +1,6 @@
-//! Reads a source as a program: its lines as statements, and the first refusal where one cannot be read; and the text that
-//! says a program.
+//! The program that a source states, or the first refusal where a line states nothing that can be read.
 //!
-//! It stands on `kmn_lines` for lines and tokens, `kmn_items` for the items of a statement, and `rule_model` for the
+//! It stands on `kmn_lines` for lines, `kmn_tokens` for tokens, `kmn_items` for the items of a statement, and `rule_model` for the
 //! statements. `specs/Source` says which program a source is and what it is refused for, `specs/Line` what a line states;
 //! `docs/LANGUAGE.md` tells it to a keyboard writer. The layer above calls `parse`, which answers exactly that program or
 //! that refusal, and rests on `laws`; for the name of a system store it calls `system_store_name`.

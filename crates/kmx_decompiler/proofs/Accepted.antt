@@ -1,4 +1,4 @@
--- Nothing of a file's text is refused, so what it compiles to means what the file means.
+-- No part of a file's text is refused, so what the text compiles to means what the file means.
 use Rattle.std.proofs.Common.{◌≡◌, ℕ, List, None, sym, ap, ◌∙◌, subst}
 use Rattle.std.specs.Prelude.{All, Result}
 use Rattle.std.specs.List.{AllByRecursion}
@@ -9,11 +9,11 @@ use Rattle.rule_model.specs.declared.program.Program.{Program}
 use Rattle.rule_model.specs.declared.tables.Tables.{Tables}
 use Rattle.rule_model.specs.Naming.{names_of}
 use Rattle.rule_model.specs.Tab.{tab_dictionary}
-use Rattle.kmn_names.specs.First.{or_refusal}
+use Rattle.store_table.specs.First.{or_refusal}
 use Rattle.rule_checker.specs.Refused.{IsRead, refused}
 use Rattle.kmx_format.specs.TablesOf.{tables_of}
 use Rattle.kmx_format.specs.Playable.{IsPlayable}
-use Rattle.kmx_format.specs.Numbers.{dictionary_stores}
+use Rattle.compile_laws.specs.Numbers.{dictionary_stores}
 use Rattle.rule_checker.proofs.Reading.{own_keys_read}
 use Rattle.kmn_parser.proofs.Programs.{programs_read_back}
 use Rattle.decompile_program.specs.Back.{back}
@@ -43,7 +43,7 @@ unrefused bytes can texts none =
     let short : AllByRecursion HasFewElements (dictionary_stores (names_of program).keys) = subst (λ (names : List (List ℕ)). AllByRecursion HasFewElements (dictionary_stores names)) (sym keys) fit.1 in
     text_unrefused bytes can texts none (stores_short tables can out (sayable bytes none) fit.0 short)
 
--- the names of a file that has a text
+-- if a file has a text, its names are UTF-8
 texts : (bytes : List ℕ) → HasText bytes → HasTextNames (tables_of bytes)
 texts bytes has = names_are_text bytes has.small
 
@@ -56,7 +56,7 @@ program_names_stand bytes has = spelled_names_stand bytes has.playable (texts by
 pub program_items_stand : SpelledItemsStand
 program_items_stand bytes has = spelled_items_stand bytes has.playable (texts bytes has) has.spelled
 
--- the program of a text is read and not refused
+-- if a file has a text, the program of the text is read and not refused
 pub program_read : (bytes : List ℕ) → HasText bytes → IsRead (back (tables_of bytes))
 program_read bytes has = is_read bytes has.playable (texts bytes has) has.spelled
 

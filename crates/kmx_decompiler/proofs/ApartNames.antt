@@ -14,9 +14,9 @@ use Rattle.rule_model.specs.declared.program.GroupDef.{GroupDef}
 use Rattle.rule_model.specs.declared.tables.Store.{Store}
 use Rattle.rule_model.specs.declared.tables.Group.{Group}
 use Rattle.rule_model.specs.Naming.{is_dropped}
-use Rattle.kmn_names.specs.declared.stating.Stated.{Stated}
-use Rattle.kmn_names.specs.First.{broken, first_code, first_of}
-use Rattle.kmn_names.specs.Names.{is_named, kept_name, store_names, group_names, is_store_again, is_group_again, store_item_code, store_code, store_refusal, group_code, group_refusal}
+use Rattle.store_table.specs.declared.stating.Stated.{Stated}
+use Rattle.store_table.specs.First.{broken, first_code, first_of}
+use Rattle.store_table.specs.Names.{is_named, kept_name, store_names, group_names, is_store_again, is_group_again, store_item_code, store_code, store_refusal, group_code, group_refusal}
 use Rattle.decompile_program.specs.Items.{Names, back_element}
 use Rattle.decompile_program.specs.Back.{back_stores, back_group, back_groups}
 use Rattle.decompile_program.proofs.Apart.{same-turned, filled, EachApart, AreApart}
@@ -24,7 +24,7 @@ use Rattle.kmx_decompiler.proofs.StatedNames.{named-cons}
 use Rattle.kmx_decompiler.proofs.UnrefusedRules.{no-else, no-earlier, no-line, no-broken}
 use Rattle.kmx_decompiler.proofs.Conjunctions.{fails-when}
 
--- a name that isn't empty is the same as none of those that come later
+-- a name that is not empty differs from all names that come later
 abbrev pub Later : List (Option (List ℕ)) → List ℕ → Type 0
 Later calls y = same_name y [] ≡ false → EachApart y calls
 
@@ -68,7 +68,7 @@ HaveNames (call ∷ calls) [] = Unit {0}
 HaveNames (None ∷ calls) (store ∷ stores) = HaveNames calls stores
 HaveNames (Some name ∷ calls) (store ∷ stores) = (nat_eq store.system 0 ≡ true → same_name name [] ≡ false) × HaveNames calls stores
 
--- stores behind others
+-- if stores have distinct names, which also differ from the names of the stores before them, none is refused for its name
 pub stores_apart : (stated : Stated) (names : Names) (line : ℕ) (before : List StoreDef) (calls : List (Option (List ℕ))) (stores : List Store)
     → HaveNames calls stores → AreApart calls → AllByRecursion (Later calls) (store_names before) → first_of (store_refusal stated) before (back_stores names line calls stores) ≡ None
 stores_apart stated names line before [] stores some apart later = refl
@@ -92,7 +92,7 @@ stores_apart stated names line before (Some name ∷ calls) (store ∷ stores) s
     (subst (AllByRecursion (Later calls)) (sym (flat_map-append kept_name before (written ∷ []) ∙ ap (λ (xs : List (List ℕ)). store_names before ++ xs) (append-nil (kept_name written))))
     (later-join calls (store_names before) (kept_name written) (later-next name calls (store_names before) later) (later-kept calls written apart.0))))
 
--- groups whose names are told apart
+-- each name of a list differs from the names in `before` and from the earlier names of the list
 abbrev pub ApartFrom : List (List ℕ) → List (List ℕ) → Type 0
 ApartFrom before [] = Unit {0}
 ApartFrom before (x ∷ names) = (is_named before x ≡ false) × ApartFrom (before ++ x ∷ []) names

@@ -20,7 +20,7 @@ range-below from zero bound h = All-nil (λ n. n < bound)
 range-below from (suc count) bound h =
     All-cons (λ n. n < bound) from (range_with_len (from + 1) count) (omega arith) (range-below (from + 1) count bound (omega arith))
 
--- free names are such names
+-- free names are names of ordinary stores that a source reads
 pub free_spelled : (letter : List ℕ) → ((n : ℕ) → n < 10 ^ 9 → IsStoreName (numbered_name letter n))
     → (taken : List (List ℕ)) (count : ℕ) → 1 + (count + length taken) ≤ 10 ^ 9 → AllByRecursion IsStoreName (free_names letter taken count)
 unfolding free_names
@@ -41,7 +41,7 @@ other-names : (names : List (List ℕ)) → AllByRecursion IsStoreName names →
 other-names [] h = tt
 other-names (name ∷ names) h = h.1
 
--- stores from a number on: an ordinary one that is written has such a name, a system store one of the ids that are written
+-- stores numbered from `n` on: a written ordinary store has a name that a source reads, a written system store one of the written ids
 abbrev pub AreNamed : List ℕ → ℕ → List (Option (List ℕ)) → List Store → Type 0
 AreNamed named n [] [] = Unit {0}
 AreNamed named n [] (store ∷ stores) = ⊥
@@ -50,7 +50,7 @@ AreNamed named n (None ∷ calls) (store ∷ stores) = (is_written named n store
 AreNamed named n (Some name ∷ calls) (store ∷ stores) =
     (nat_eq store.system 0 ≡ true → IsStoreName name) × (nat_eq store.system 0 ≡ false → (name ≡ []) × (list_any (nat_eq store.system) written_ids ≡ true)) × AreNamed named (n + 1) calls stores
 
--- UTF-8 names
+-- the name of a store is UTF-8
 abbrev pub HasText : Store → Type 0
 HasText store = is_utf8 store.name ≡ true
 
@@ -96,7 +96,7 @@ name_called named k (Some name ∷ calls) (store ∷ stores) zero n h e o a = h.
 name_called named k (None ∷ calls) (store ∷ stores) (suc i) n h e o a = name_called named (k + 1) calls stores i n h.1 (omega (arith, e)) o a
 name_called named k (Some name ∷ calls) (store ∷ stores) (suc i) n h e o a = name_called named (k + 1) calls stores i n h.2 (omega (arith, e)) o a
 
--- groups
+-- the name of a group is UTF-8
 abbrev pub GroupHasText : Group → Type 0
 GroupHasText group = is_utf8 group.name ≡ true
 

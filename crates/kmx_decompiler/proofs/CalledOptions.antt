@@ -1,4 +1,4 @@
--- The options of the program that tables are written out as are called as the options of the tables are.
+-- The options of the program that tables are written out as have the names by which the options of the tables are called.
 use Rattle.std.proofs.Common.{◌≡◌, ℕ, ◌+◌, true, false, List, [], ◌∷◌, ◌++◌, length, drop, map, refl, ◌∙◌}
 use Rattle.std.specs.Prelude.{flat_map, nat_eq, slice_get, unwrap_or, option_to_list}
 use Rattle.std.specs.List.{list_any, AllByRecursion}
@@ -18,9 +18,9 @@ use Rattle.rule_model.specs.declared.tables.Rule.{Rule}
 use Rattle.rule_model.specs.declared.tables.Group.{Group}
 use Rattle.rule_model.specs.declared.tables.Tables.{Tables}
 use Rattle.rule_model.specs.Tab.{tab_options, pattern_options, output_options, rule_options, group_options}
-use Rattle.kmn_names.specs.Names.{is_named}
-use Rattle.kmn_names.specs.Known.{known, option_named}
-use Rattle.kmn_names.specs.Known.{rule_options as source_options}
+use Rattle.store_table.specs.Names.{is_named}
+use Rattle.store_table.specs.Known.{known, option_named}
+use Rattle.store_table.specs.Known.{rule_options as source_options}
 use Rattle.item_checker.specs.Items.{is_option}
 use Rattle.decompile_program.specs.Items.{Names, store_called, back_pattern, back_output, back_key, some_items}
 use Rattle.decompile_program.specs.Back.{back_rule, back_rules, back_statement, match_line, nomatch_line, back_group, back_groups, names_for, written_stores, written_begins, back}
@@ -30,7 +30,7 @@ use Rattle.kmx_decompiler.proofs.StatedNames.{named-cons}
 use Rattle.kmx_decompiler.proofs.ApartNames.{named-none}
 use Rattle.kmx_decompiler.proofs.GroupRules.{rules_of}
 
--- what holds of the names that all of two lists give
+-- if all names that `f` returns for the items of each of two lists have a property, so have those for both lists together
 join-flat : {X : Type 0} (P : List ℕ → Type 0) (f : X → List (List ℕ)) (xs ys : List X) → AllByRecursion P (flat_map f xs) → AllByRecursion P (flat_map f ys)
     → AllByRecursion P (flat_map f (xs ++ ys))
 join-flat P f [] ys h k = k
@@ -117,7 +117,7 @@ unfolding known back tab_options
 options_called tables P h =
     groups-called (names_for tables) P (1 + length (written_stores tables) + length (written_begins tables)) (names_for tables).groups tables.groups h
 
--- what holds of each number of a list
+-- if each number that is in a list has a property, all elements of the list have it
 each-of : (P : ℕ → Type 0) (xs : List ℕ) → ((n : ℕ) → list_any (nat_eq n) xs ≡ true → P n) → AllByRecursion P xs
 each-of P [] h = tt
 each-of P (x ∷ xs) h = (h x (or_left (nat_eq x x) (list_any (nat_eq x) xs) (eq-eqb x x refl)), each-of P xs (λ n e. h n (or_right (nat_eq n x) (list_any (nat_eq n) xs) e)))
@@ -126,7 +126,7 @@ not-among : (x : List ℕ) (names : List (List ℕ)) → AllByRecursion (λ (y :
 not-among x [] h = named-none x
 not-among x (y ∷ names) h = named-cons y names x ∙ or_from (same_name x y) (is_named names x) h.0 (not-among x names h.1)
 
--- a name that no option of the tables is called by is no option's
+-- if no option of the tables is called by a name, the name is not an option of the program
 pub not_option : (tables : Tables) (x : List ℕ) → ((n : ℕ) → IsOption tables n → same_name x (store_called (names_for tables) n) ≡ false) → is_option (known (back tables)) x ≡ false
 not_option tables x h =
     not-among x (known (back tables)).options (options_called tables (λ (y : List ℕ). same_name x y ≡ false)

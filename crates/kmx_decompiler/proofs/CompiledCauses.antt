@@ -1,4 +1,4 @@
--- No cause holds of any part of a file that a program compiles to, where the program is accepted and was written so.
+-- If a program is accepted and was written as a source writes it, no part of a file that the program compiles to has a cause.
 use Rattle.std.proofs.Common.{◌≡◌, ℕ, ◌+◌, ◌≤◌, Bool, true, false, not, ◌||◌, List, [], ◌∷◌, ◌++◌, length, map, Option, Some, None, refl, sym, ◌∙◌, ap, subst, arith}
 use Rattle.std.specs.Prelude.{All, drop, flat_map, nat_eq, slice_get, take, unwrap_or}
 use Rattle.std.specs.List.{list_all, list_any, AllByRecursion, join_with_byte}
@@ -20,22 +20,22 @@ use Rattle.rule_model.specs.declared.tables.Group.{Group}
 use Rattle.rule_model.specs.declared.tables.Tables.{Tables}
 use Rattle.rule_model.specs.Naming.{names_of, stores_of, rule_items, all_rules}
 use Rattle.rule_model.specs.Tab.{tab_options, is_dictionary}
-use Rattle.kmx_format.specs.Numbers.{values_of, value_store, dictionary_stores, numbers_of}
-use Rattle.kmx_format.specs.Compiles.{Compiles, file_group}
-use Rattle.kmx_format.specs.Ordered.{ordered_group, compiled_tables}
-use Rattle.kmx_format.specs.WellNamed.{IsWellNamed, is_known_group, is_word}
-use Rattle.kmx_format.proofs.PlacedItems.{first_place}
-use Rattle.kmx_format.proofs.Options.{options-same}
-use Rattle.kmx_format.proofs.Dictionary.{dictionary-same}
-use Rattle.kmx_format.proofs.Keyboards.{tab_names, src_dictionary}
-use Rattle.kmx_format.proofs.Known.{has_values, group_known}
-use Rattle.kmx_format.proofs.Ordered.{tables_are_only_ones}
-use Rattle.kmx_format.proofs.Stores.{linked}
-use Rattle.kmx_format.proofs.Values.{values_known}
+use Rattle.compile_laws.specs.Numbers.{values_of, value_store, dictionary_stores, numbers_of}
+use Rattle.compile_laws.specs.Compiles.{Compiles, file_group}
+use Rattle.compile_laws.specs.Ordered.{ordered_group, compiled_tables}
+use Rattle.compile_laws.specs.WellNamed.{IsWellNamed, is_known_group, is_word}
+use Rattle.compile_laws.proofs.PlacedItems.{first_place}
+use Rattle.compile_laws.proofs.Options.{options-same}
+use Rattle.compile_laws.proofs.Dictionary.{dictionary-same}
+use Rattle.compile_laws.proofs.Keyboards.{tab_names, src_dictionary}
+use Rattle.compile_laws.proofs.Known.{has_values, group_known}
+use Rattle.compile_laws.proofs.Ordered.{tables_are_only_ones}
+use Rattle.compile_laws.proofs.Stores.{linked}
+use Rattle.compile_laws.proofs.Values.{values_known}
 use Rattle.kmx_format.specs.File.{file_of}
 use Rattle.kmx_format.specs.TablesOf.{tables_of, group_without_places, no_places}
 use Rattle.kmx_format.proofs.FileLaw.{law}
-use Rattle.kmn_names.specs.Known.{known}
+use Rattle.store_table.specs.Known.{known}
 use Rattle.item_checker.specs.Items.{is_option, rule_code, rule_refusal, rules_refusal}
 use Rattle.rule_checker.specs.Refused.{IsRead, refused}
 use Rattle.rule_checker.proofs.Unrefused.{none_at_line, Stands, none_first}

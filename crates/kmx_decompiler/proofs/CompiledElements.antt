@@ -1,4 +1,4 @@
--- The keys, deadkeys and elements of a file that a program compiles to have names and flags that a source can say.
+-- The keys, deadkeys and elements of a file that a program compiles to have names and flags that a source can express.
 use Rattle.std.proofs.Common.{◌≡◌, ℕ, ◌+◌, ◌-◌, ◌≤◌, Bool, true, false, not, ◌||◌, List, [], ◌∷◌, ◌++◌, map, Option, None, Some, is_some, refl, sym, ◌∙◌, ap, subst, arith, if◌then◌else◌}
 use Rattle.std.specs.Prelude.{All, bit_and, nat_eq, nat_lt, find, flat_map, option_map, unwrap_or, slice_get}
 use Rattle.std.specs.List.{list_all, list_any}
@@ -10,8 +10,8 @@ use Rattle.kmn_base.specs.declared.items.Element.TheVariants as element
 use Rattle.kmn_base.specs.declared.keys.TheConstants.{SHIFT_FLAGS}
 use Rattle.kmn_base.specs.declared.limits.TheConstants.{DEADKEYS}
 use Rattle.kmn_base.specs.Names.{same_name}
-use Rattle.rule_model.specs.Keys.{key_codes, key_name}
-use Rattle.rule_model.specs.Dictionary.{place_in, code_in, name_in}
+use Rattle.virtual_keys.specs.Keys.{key_codes, key_name}
+use Rattle.virtual_keys.specs.Dictionary.{place_in, code_in, name_in}
 use Rattle.rule_model.specs.declared.program.KeyName.{KeyName}
 use Rattle.rule_model.specs.declared.program.SrcItem.{SrcItem}
 use Rattle.rule_model.specs.declared.program.SrcItem.TheVariants as source
@@ -20,8 +20,8 @@ use Rattle.rule_model.specs.declared.program.Program.{Program}
 use Rattle.rule_model.specs.declared.tables.Store.{Store}
 use Rattle.rule_model.specs.Tab.{store_elements}
 use Rattle.rule_model.specs.Naming.{names_of, stores_of, stores_onto, store_of, is_dropped, mark_number, key_number, elements_named, item_elements}
-use Rattle.kmx_format.proofs.PlacedItems.{first_place}
-use Rattle.rule_model.proofs.NamePlaces.{some_place}
+use Rattle.compile_laws.proofs.PlacedItems.{first_place}
+use Rattle.virtual_keys.proofs.NamePlaces.{some_place}
 use Rattle.rule_checker.proofs.Accepted.{IsUnrefused}
 use Rattle.rule_checker.proofs.Within.{few_marks}
 use Rattle.rule_checker.proofs.Numbers.{place_below, place_either_way, has_keys, has_marks, keys_appear, marks_appear, store_items_pass}
@@ -38,7 +38,7 @@ beyond p = grind (arith, nat_tests)
 back : (p : ℕ) → 256 + p - 256 ≡ p
 back p = omega arith
 
--- a key of the dictionary has a name
+-- a key that is in the dictionary has a name
 name-there : (keys : List (List ℕ)) (p : ℕ) (name : List ℕ) → slice_get keys p ≡ Some name → has_key_name keys (256 + p) ≡ true
 name-there keys p name at =
     ap is_some
@@ -55,7 +55,7 @@ own-named keys name h = by (place_in keys name) refl (ap is_some (place_either_w
     by None is some = absurd (cc)
     by (Some p) is some = let first = first_place (same_name name) keys p is in name-there keys p first.item first.reads
 
--- a key of the table has one
+-- a key of the table has a name, since the codes of the table are below 256
 codes-small : list_all (λ row. nat_lt row.1 256) key_codes ≡ true
 unfolding key_codes
 codes-small = refl
@@ -85,7 +85,7 @@ module _ (program : Program) (names : Names) (same : names.keys ≡ (names_of pr
   key_named key ok among =
       subst (λ (keys : List (List ℕ)). has_key_name keys (key_number (names_of program) key) ≡ true) (sym same) (key_by key ok (nat_eq key.code 0) refl among)
 
-  -- an element of which no cause holds
+  -- an element that has a spelling
   abbrev pub IsFine : Element → Type 0
   IsFine e = is_unspelled_element names e ≡ false
 
@@ -150,7 +150,7 @@ module _ (program : Program) (names : Names) (same : names.keys ≡ (names_of pr
         by true one = fine
         by false one = All-append IsFineStore before (store_of (names_of program) before store ∷ []) fine (All-cons IsFineStore (store_of (names_of program) before store) [] one (All-nil IsFineStore))
 
-    -- the elements of the stores that are stated
+    -- if a program was written as a source writes it, the elements of its stated stores have spellings
     pub stated_fine : WasWritten program → All IsFineStore (stores_of program)
     unfolding stores_of
     stated_fine written =

@@ -1,4 +1,4 @@
--- The tables that a text compiles to have no more items in their rules than the text.
+-- The rules of the tables that a text compiles to have no more items than the text.
 use Rattle.std.proofs.Common.{◌≡◌, ℕ, ◌+◌, ◌≤◌, Bool, true, false, List, [], ◌∷◌, ◌++◌, length, drop, map, Option, None, Some, refl, ap, arith, length-append, if◌then◌else◌}
 use Rattle.std.specs.Prelude.{nat_eq, flat_map, filter, find, slice_get, unwrap_or}
 use Rattle.std.specs.List.{sum_by, AllByRecursion}
@@ -18,10 +18,10 @@ use Rattle.rule_model.specs.declared.tables.Rule.{Rule}
 use Rattle.rule_model.specs.declared.tables.Group.{Group}
 use Rattle.rule_model.specs.declared.tables.Tables.{Tables}
 use Rattle.rule_model.specs.Src.{is_plain_kind, is_match_kind, is_nomatch_kind, is_plain, is_on_match, is_on_nomatch, cased_keys}
-use Rattle.kmx_format.specs.Numbers.{Numbers, numbers_of}
-use Rattle.kmx_format.specs.Compiles.{file_pattern, file_output, or_nul, file_outputs, has_halves, half_key, file_record, own_key, keyed_records, rule_records, statement_outputs, file_group}
-use Rattle.kmx_format.specs.Ordered.{in_order, ordered_group, compiled_tables}
-use Rattle.kmx_format.proofs.Ordered.{in_order_permutes}
+use Rattle.compile_laws.specs.Numbers.{Numbers, numbers_of}
+use Rattle.compile_laws.specs.Compiles.{file_pattern, file_output, or_nul, file_outputs, has_halves, half_key, file_record, own_key, keyed_records, rule_records, statement_outputs, file_group}
+use Rattle.compile_laws.specs.Ordered.{in_order, ordered_group, compiled_tables}
+use Rattle.compile_laws.proofs.Ordered.{in_order_permutes}
 use Rattle.kmn_items.specs.declared.syntax.Where.TheVariants as section
 use Rattle.kmn_items.specs.declared.syntax.Seen.{Seen}
 use Rattle.kmn_items.specs.Item.{unseen}
@@ -78,7 +78,7 @@ module _ (numbers : Numbers) where
   abbrev plain_records : List RuleDef → List Rule
   plain_records rules = flat_map (rule_records numbers) (filter is_plain rules)
 
-  -- so it is with a rule of a kind before others
+  -- a rule of a kind and the rules after it have no more items in the tables than in the text
   abbrev Few : RuleDef → List RuleDef → RuleKind → Type 0
   Few rule rules kind =
       sizes_of (flat_map (rule_records numbers) (if is_plain_kind kind then rule ∷ filter is_plain rules else filter is_plain rules))
@@ -115,7 +115,7 @@ module _ (numbers : Numbers) where
       let same = sum_by-IsPermutation rule_size (plain_records group.rules) (in_order (plain_records group.rules)) (in_order_permutes (plain_records group.rules)) in
       omega (arith, here, rest, made, stated, same)
 
-  -- without cased keys no key has halves
+  -- if there are no cased keys, no key has two halves
   module _ (names : Names) (uncased : numbers.cased ≡ []) where
     one-record : (k : RuleKey) (rule : RuleDef) → keyed_records numbers rule (back_key names k) ≡ file_record numbers rule None 0 (own_key numbers (back_key names k)) ∷ []
     one-record key.Any rule = refl

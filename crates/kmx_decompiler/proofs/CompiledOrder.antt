@@ -1,4 +1,4 @@
--- The records of a file that a program compiles to stand by falling length of their contexts.
+-- The records of a file that a program compiles to are sorted by the length of their contexts, longest first.
 use Rattle.std.proofs.Common.{◌≡◌, ℕ, suc, ◌+◌, ◌<◌, Bool, true, false, List, [], ◌∷◌, length, map, None, refl, ◌∙◌, ap, subst, arith, cond, Less, Equal, Greater}
 use Rattle.std.specs.Prelude.{nat_lt, slice_index_or, option_map, ◌==◌}
 use Rattle.std.specs.List.Sorted.{IsSortedBy}
@@ -11,12 +11,12 @@ use Rattle.rule_model.specs.declared.tables.Group.{Group}
 use Rattle.rule_model.specs.declared.tables.Tables.{Tables}
 use Rattle.kmx_format.specs.TablesOf.{rule_without_place, group_without_places, no_places}
 use Rattle.kmx_format.proofs.FileLaw.{law}
-use Rattle.kmx_format.specs.Compiles.{stands_before, Compiles}
+use Rattle.compile_laws.specs.Compiles.{stands_before, Compiles}
 use Rattle.kmx_decompiler.specs.declared.no_spelling.NoSpelling.TheVariants.{Order}
 use Rattle.kmx_decompiler.specs.Unspelled.{longer_behind, first_longer, disorder}
 use Rattle.kmx_decompiler.specs.Laws.{CompiledIsInOrder}
 
--- where a record doesn't stand before another, its context isn't longer
+-- if a record does not come before another, its context is not longer
 not-longer : (a b : Rule) → stands_before a b ≡ false → nat_lt (length b.context) (length a.context) ≡ false
 not-longer a b h = by (nat_lt (length b.context) (length a.context)) h
   where

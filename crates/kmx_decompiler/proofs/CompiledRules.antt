@@ -1,4 +1,4 @@
--- No cause holds of the rules and groups of a file that a program compiles to.
+-- The rules and groups of a file that a program compiles to have no causes.
 use Rattle.std.proofs.Common.{◌≡◌, ℕ, suc, zero, ◌+◌, Bool, true, false, not, ◌&&◌, ◌||◌, List, [], ◌∷◌, ◌++◌, length, map, Option, None, Some, refl, sym, ◌∙◌, ap, arith, if◌then◌else◌}
 use Rattle.std.specs.Prelude.{All, nat_eq, nat_lt, filter, find, flat_map, option_to_list, slice_get, unwrap_or}
 use Rattle.std.specs.List.{list_all, list_any, AllByRecursion}
@@ -14,7 +14,7 @@ use Rattle.kmn_base.specs.declared.keys.RuleKey.{RuleKey}
 use Rattle.kmn_base.specs.declared.keys.RuleKey.TheVariants as key
 use Rattle.kmn_base.proofs.Options.{option_or-none}
 use Rattle.kmn_base.proofs.Elements.{All-append_parts}
-use Rattle.rule_model.specs.Dictionary.{is_nameable}
+use Rattle.virtual_keys.specs.Dictionary.{is_nameable}
 use Rattle.rule_model.specs.declared.program.SrcItem.{SrcItem}
 use Rattle.rule_model.specs.declared.program.SrcItem.TheVariants as source
 use Rattle.rule_model.specs.declared.program.RuleKind.{RuleKind}
@@ -31,21 +31,21 @@ use Rattle.rule_model.specs.Hold.{key_of_element}
 use Rattle.rule_model.specs.Naming.{names_of, stores_of, rule_items, elements_named, mark_number}
 use Rattle.rule_model.specs.Src.{is_plain_kind, is_plain, is_on_match, is_on_nomatch, value_elements}
 use Rattle.rule_model.specs.Tab.{elements_of}
-use Rattle.kmx_format.specs.Numbers.{Numbers, numbers_of, number_of_store, number_of_value}
-use Rattle.kmx_format.specs.Compiles.{file_pattern, element_outs, element_outs_if_any, file_output, or_nul, has_halves, half_key, file_record, key_records, records_from, own_key, keyed_records, rule_records, statement_outputs, file_group}
-use Rattle.kmx_format.specs.Ordered.{in_order, ordered_group}
-use Rattle.kmx_format.specs.WellNamed.{is_store, is_fixed, is_known_pattern, is_known_output}
-use Rattle.kmx_format.proofs.Linked.{is_value}
-use Rattle.kmx_format.proofs.Dictionary.{read_chars}
-use Rattle.kmx_format.proofs.Known.{has_values, KnownRule, KnownStatement, KnownGroup}
-use Rattle.kmx_format.proofs.Ordered.{in_order_permutes}
+use Rattle.compile_laws.specs.Numbers.{Numbers, numbers_of, number_of_store, number_of_value}
+use Rattle.compile_laws.specs.Compiles.{file_pattern, element_outs, element_outs_if_any, file_output, or_nul, has_halves, half_key, file_record, key_records, records_from, own_key, keyed_records, rule_records, statement_outputs, file_group}
+use Rattle.compile_laws.specs.Ordered.{in_order, ordered_group}
+use Rattle.compile_laws.specs.WellNamed.{is_store, is_fixed, is_known_pattern, is_known_output}
+use Rattle.compile_laws.proofs.Linked.{is_value}
+use Rattle.compile_laws.proofs.Dictionary.{read_chars}
+use Rattle.compile_laws.proofs.Known.{has_values, KnownRule, KnownStatement, KnownGroup}
+use Rattle.compile_laws.proofs.Ordered.{in_order_permutes}
 use Rattle.rule_model.specs.Patterns.{is_matched, is_nul}
 use Rattle.kmx_format.specs.TablesOf.{rule_without_place, group_without_places}
 use Rattle.kmn_parser.specs.ProgramLaws.{IsCharacter, IsReadItem}
-use Rattle.kmn_names.specs.Known.{known}
+use Rattle.store_table.specs.Known.{known}
 use Rattle.item_checker.specs.Items.{is_no_character, is_pattern_item, context_item_code, context_code, key_code, rule_output_code, rule_code}
 use Rattle.rule_checker.specs.Refused.{IsRead}
-use Rattle.kmn_names.specs.First.{first_code}
+use Rattle.store_table.specs.First.{first_code}
 use Rattle.rule_checker.proofs.Accepted.{IsUnrefused}
 use Rattle.rule_checker.proofs.Numbers.{has_keys, has_marks}
 use Rattle.rule_checker.proofs.Elements.{IsSoundElement, found_sound, stated_sound}
@@ -63,7 +63,7 @@ characters-alone : (cs : List ℕ) → list_any is_no_character (map element.Cha
 characters-alone [] = refl
 characters-alone (c ∷ cs) = characters-alone cs
 
--- a value that can stand in quotes
+-- if a value can be quoted, it has a spelling
 value-fine : (value : List ℕ) → IsSpelledValue value → is_unspelled_value (map element.Char value) ≡ false
 value-fine value ok =
     (λ i. characters-alone value i || (not (list_all is_inner (read_chars value i)) || have_both_quotes (read_chars value i)))
@@ -120,8 +120,8 @@ module _ (numbers : Numbers) where
       (λ i. length (if nul-same before item s.0 c.0 i then file_pattern numbers item ∷ filter is_nul (map (file_pattern numbers) items) else filter is_nul (map (file_pattern numbers) items)))
       ∙ longer (is_nul_item item) (file_pattern numbers item) item (filter is_nul (map (file_pattern numbers) items)) (filter is_nul_item items) rest
 
--- what is known of the names of a file: those of its dictionary, that stores which are named are ordinary ones, and that
--- values are the elements of their stores
+-- the known facts about the names of a file: it has the key names of the program, named stores are ordinary ones, values are the
+-- elements of their stores, and the elements of stores have spellings
 pub record AreNamesOf (program : Program) (names : Names) : Type 0 where
   pub keys : names.keys ≡ (names_of program).keys
   pub ordinary : (name : List ℕ) → IsSpelledName name → is_store program name ≡ true → is_system_store (slice_get names.elements (number_of_store (numbers_of program) name)) ≡ false
@@ -234,7 +234,7 @@ module _ (program : Program) (read : IsRead program) (whole : IsUnrefused progra
   some-fine [] h = refl
   some-fine (o ∷ outs) h = h
 
-  -- what a rule has that is read, written and not refused
+  -- the properties of a rule that is read, written and not refused
   pub record IsSaidRule (rule : RuleDef) : Type 0 where
     pub written : IsWrittenRule rule
     pub items : All IsReadItem (rule_items rule)
@@ -270,7 +270,7 @@ module _ (program : Program) (read : IsRead program) (whole : IsUnrefused progra
   element-key-fine (element.Mark m) is h = refl
   element-key-fine (element.Key flags code) is h = (or_parts (not (has_key_name names.keys code)) _ h).0
 
-  -- a half of a key is as the key
+  -- if a key has a spelling, each half of the key has one
   half-fine : (half : ℕ) (k : RuleKey) → is_unspelled_key names k ≡ false → is_unspelled_key names (half_key half k) ≡ false
   half-fine half key.Any h = h
   half-fine half (key.Char c) h = h
@@ -316,7 +316,7 @@ module _ (program : Program) (read : IsRead program) (whole : IsUnrefused progra
         let among = items-pass (has_keys program) rule said.keys in
         keyed-fine rule.key is.1 ok.1 among.1
 
-  -- a plain rule's context has no item that is refused
+  -- if a plain rule is not refused, no item of its context is refused
   plain-context : (rule : RuleDef) (kind : RuleKind) → is_plain_kind kind ≡ true → rule_code (known program) kind rule ≡ None → context_code [] rule.context ≡ None
   plain-context rule Plain is code =
       (option_or-none (context_code [] rule.context) (option_or (key_code (known program) rule.key) (first_code (rule_output_code (known program) rule) rule.output)) code).0

@@ -1,4 +1,4 @@
--- Nothing stands against the text of a file that a source compiles to but its size.
+-- A file that a source compiles to has a text, unless the text or what it compiles to is too large.
 use Rattle.std.specs.Prelude.{option_map}
 use Rattle.std.specs.Option.{option_or}
 use Rattle.kmx_format.specs.File.{file_of}

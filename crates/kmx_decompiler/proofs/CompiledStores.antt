@@ -1,4 +1,4 @@
--- No cause holds of the stores of a file that a program compiles to.
+-- The stores of a file that a program compiles to have no causes.
 use Rattle.std.proofs.Common.{◌≡◌, ◌≢◌, ℕ, zero, suc, ◌+◌, Bool, true, false, not, ◌||◌, List, [], ◌∷◌, ◌++◌, map, Option, Some, None, refl, sym, ◌∙◌, ap, subst, arith}
 use Rattle.std.specs.Prelude.{All, nat_eq, position, slice_get, take, drop, unwrap_or}
 use Rattle.std.specs.List.{list_any, AllByRecursion}
@@ -14,10 +14,10 @@ use Rattle.rule_model.specs.declared.tables.Store.{Store}
 use Rattle.rule_model.specs.declared.tables.Tables.{Tables}
 use Rattle.rule_model.specs.Naming.{names_of, stores_of}
 use Rattle.rule_model.specs.Tab.{is_dictionary}
-use Rattle.kmx_format.specs.Numbers.{values_of, value_store, dictionary_stores, compiled_stores, numbers_of, number_of_store}
-use Rattle.kmx_format.specs.WellNamed.{is_store}
-use Rattle.kmx_format.proofs.PlacedItems.{FirstPlace, first_place, at_place}
-use Rattle.kmn_names.specs.Known.{known}
+use Rattle.compile_laws.specs.Numbers.{values_of, value_store, dictionary_stores, compiled_stores, numbers_of, number_of_store}
+use Rattle.compile_laws.specs.WellNamed.{is_store}
+use Rattle.compile_laws.proofs.PlacedItems.{FirstPlace, first_place, at_place}
+use Rattle.store_table.specs.Known.{known}
 use Rattle.rule_checker.specs.Refused.{IsRead}
 use Rattle.rule_checker.proofs.Accepted.{IsUnrefused}
 use Rattle.kmn_parser.specs.Names.{is_source_name}
@@ -33,7 +33,7 @@ use Rattle.kmx_decompiler.proofs.Sayable.{AreSayable}
 use Rattle.kmx_decompiler.proofs.StatedStores.{IsStatedStore, all_stated}
 use Rattle.kmn_lines.proofs.TextSizes.{clash}
 
--- what all elements of a list have, the one of a number has
+-- if all elements of a list have a property, the element at an index has it
 pub all_at : {X : Type 0} (P : X → Type 0) (xs : List X) → All P xs → (i : ℕ) (x : X) → slice_get xs i ≡ Some x → P x
 all_at P [] h i x at = absurd (none-some x at)
 all_at P (y ∷ xs) h zero x at = subst P (same_Some y x at) (All-head P y xs h)
@@ -87,9 +87,9 @@ module _ (named : List ℕ) (x : Store) where
       (λ t. keeps free (earlier ++ s.name ∷ []) (n + 1) stores i m next at own more apart.1)
       (λ t. keeps (drop 1 free) (earlier ++ s.name ∷ []) (n + 1) stores i m next at own more apart.1)))
 
--- ---- what holds of each store
+-- ---- the properties of each store
 
--- no cause holds of a store but of an option
+-- a store that has no cause, apart from the causes of an option
 pub record IsGoodStore (program : Program) (names : Names) (keys : names.keys ≡ (names_of program).keys) (s : Store) : Type 0 where
   pub fine : IsFineStore program names keys s
   pub dictionary : is_dictionary s ≡ true → is_unspelled_dictionary s.elements ≡ false
@@ -99,7 +99,7 @@ pub no_elements : (test : Element → Bool) (es : List Element) → All (λ e. t
 no_elements test [] h = refl
 no_elements test (e ∷ es) h = λ i. All-head (λ e. test e ≡ false) e es h i || no_elements test es (All-tail (λ e. test e ≡ false) e es h) i
 
--- from each store of a number on
+-- if each store, numbered from `n` on, has a spelling, all the stores have one
 pub each_sayable : (names : Names) (options : List ℕ) (n : ℕ) (stores : List Store) → ((i : ℕ) (s : Store) → slice_get stores i ≡ Some s → is_unspelled_store names options (n + i) s ≡ false) → AreSayable names options n stores
 each_sayable names options n [] h = tt
 each_sayable names options n (s ∷ stores) h = (
@@ -107,7 +107,7 @@ each_sayable names options n (s ∷ stores) h = (
   each_sayable names options (n + 1) stores (λ i t at. let e : n + suc i ≡ n + 1 + i = omega arith in subst (λ (k : ℕ). is_unspelled_store names options k t ≡ false) e (h (suc i) t at)),
 )
 
--- of several dictionaries one is the first
+-- if the store of a number is the first dictionary, it is a dictionary
 pub first_dictionary : (stores : List Store) (i : ℕ) (s : Store) → slice_get stores i ≡ Some s → is_first_dictionary stores i ≡ true → is_dictionary s ≡ true
 first_dictionary stores i s at h = by (position is_dictionary stores) refl h
   where
@@ -126,7 +126,7 @@ module _ (program : Program) (read : IsRead program) (whole : IsUnrefused progra
   pub stated_at : (i : ℕ) (s : Store) → slice_get (stores_of program) i ≡ Some s → IsStatedStore (known program) s
   stated_at i s at = all_at (IsStatedStore (known program)) (stores_of program) (all_stated program read whole written) i s at
 
-  -- a store with a name of a source is an ordinary one
+  -- a store with a name that a source can have is an ordinary store
   named-ordinary : (s : Store) → IsStatedStore (known program) s → (name : List ℕ) → IsSpelledName name → same_name s.name name ≡ true → (b : Bool) → nat_eq s.system 0 ≡ b → b ≡ true
   named-ordinary s stated name ok same true e = refl
   named-ordinary s stated name ok same false e =

@@ -1,4 +1,4 @@
--- When a conjunction fails, and which part of it.
+-- Which part of a conjunction fails if the conjunction fails.
 use Rattle.std.proofs.Common.{◌≡◌, Bool, true, false, ◌&&◌, refl}
 
 pub fails-when : (a b : Bool) → (a ≡ true → b ≡ false) → (a && b) ≡ false

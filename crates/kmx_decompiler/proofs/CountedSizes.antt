@@ -1,4 +1,4 @@
--- What the limits count of the program that tables are written out as is what the stores have that it compiles to.
+-- The sizes that the limits count for the program of tables are the sizes of the stores that the program compiles to.
 use Rattle.std.proofs.Common.{◌≡◌, ℕ, ◌≤◌, false, List, [], ◌∷◌, ◌++◌, length, map, None, refl, sym, ◌∙◌, ap, subst, arith}
 use Rattle.std.specs.Prelude.{◌+◌, flat_map, nat_lt, sum}
 use Rattle.std.specs.List.{list_any, AllByRecursion}
@@ -16,10 +16,10 @@ use Rattle.rule_model.specs.declared.tables.Store.{Store}
 use Rattle.rule_model.specs.declared.tables.Tables.{Tables}
 use Rattle.rule_model.specs.Tab.{distinct_onto}
 use Rattle.rule_model.specs.Naming.{names_of, stores_of, store_of, is_dropped, source_items, all_rules, key_names}
-use Rattle.kmx_format.specs.Numbers.{values_of, value_store, dictionary_stores, compiled_stores}
+use Rattle.compile_laws.specs.Numbers.{values_of, value_store, dictionary_stores, compiled_stores}
 use Rattle.kmx_format.specs.Writable.{elements_of}
 use Rattle.kmx_format.specs.Playable.{IsPlayable}
-use Rattle.kmn_names.specs.Known.{Known, known, statement_elements}
+use Rattle.store_table.specs.Known.{Known, known, statement_elements}
 use Rattle.rule_checker.specs.Limits.{items_of, values_of_statement, statement_size, store_size, dictionary_size, sizes, have_many_elements, limits_refusal}
 use Rattle.rule_checker.specs.Refused.{IsRead}
 use Rattle.rule_checker.proofs.Sizes.{element_count, items_in_order, values_in_order, stores_in_order, dictionary_sized, values_sized}
@@ -38,7 +38,7 @@ use Rattle.kmx_decompiler.proofs.FewItems.{statements, all_short, records_few, g
 use Rattle.kmx_decompiler.proofs.UnpassedLimits.{KeepsLimits, no_limit_passed}
 use Rattle.kmx_decompiler.proofs.UnrefusedRules.{no-earlier}
 
--- stores that name no other store have the sizes that are counted
+-- if stores name no other store, they have the counted sizes
 stores-sized : (facts : Known) (stores : List StoreDef) → AllByRecursion (IsSimple facts.names) stores → flat_map (store_size facts) stores ≡ map element_count (map (store_of facts.names []) stores)
 stores-sized facts [] h = refl
 stores-sized facts (s ∷ stores) h =
@@ -74,7 +74,7 @@ module _ (tables : Tables) (can : IsPlayable tables) (out : CanBeWrittenOut tabl
       ∙ sym (map-append element_count (stores_of program) (dictionary_stores (names_of program).keys ++ map value_store (values_of program))
       ∙ ap (λ (ns : List ℕ). map element_count (stores_of program) ++ ns) (map-append element_count (dictionary_stores (names_of program).keys) (map value_store (values_of program))))
 
-  -- all limits are kept, where no store that it compiles to has too many elements
+  -- no store that the program compiles to has too many elements
   abbrev pub AreShortStores : Type 0
   AreShortStores = list_any (nat_lt STORE_ELEMENTS) (map element_count (compiled_stores program)) ≡ false
 

@@ -1,4 +1,4 @@
--- The names of a file's key dictionary, joined by spaces, are no longer than a store may be.
+-- The names of a file's key dictionary, joined by spaces, fit in a store.
 use Rattle.std.proofs.Common.{◌≡◌, ℕ, suc, ◌+◌, ◌<◌, ◌≤◌, Bool, true, false, List, [], ◌∷◌, ◌++◌, length, get_or, refl, sym, ap, ◌∙◌, arith, eqb-true, cond, if◌then◌else◌}
 use Rattle.std.specs.Prelude.{All, ◌||◌, nat_eq, nat_lt, nat_le, filter, filter_map, find, chars, encode_utf8_all}
 use Rattle.std.specs.List.{list_any, AllByRecursion, slice_split, onto_first, join_with_byte}
@@ -20,14 +20,14 @@ use Rattle.rule_model.proofs.KeyNames.{dictionary_has}
 use Rattle.rule_model.specs.Tab.{distinct_onto, element_char, is_dictionary, store_elements, tab_dictionary, words}
 use Rattle.rule_checker.specs.Limits.{names_size}
 use Rattle.kmx_format.specs.Playable.{IsPlayable, IsPlayableStore}
-use Rattle.kmx_format.specs.Numbers.{dictionary_stores}
+use Rattle.compile_laws.specs.Numbers.{dictionary_stores}
 use Rattle.rule_checker.proofs.Sizes.{joined_size}
 use Rattle.kmn_parser.proofs.Values.{all-scalars}
 use Rattle.decompile_program.proofs.WrittenCharacters.{characters-few}
 use Rattle.decompile_program.proofs.FewNames.{HasFewElements}
 use Rattle.kmx_decompiler.proofs.SpelledItems.{value-characters}
 
--- the characters of texts, and one for each text
+-- the number of characters in texts, plus one for each text
 abbrev pub total : List (List ℕ) → ℕ
 total [] = 0
 total (text ∷ texts) = suc (character_count text + total texts)
@@ -58,12 +58,12 @@ split-first b bytes false other rest =
     let more = counted b bytes in
     omega (arith, parts, put, more, rest)
 
--- a text's parts have its characters but the spaces between them
+-- the parts of a text that is split at spaces have all characters of the text except the spaces
 split-total : (bytes : List ℕ) → total (slice_split (nat_eq 32) bytes) ≡ suc (character_count bytes)
 split-total [] = omega arith
 split-total (b ∷ bytes) = split-first b bytes (nat_eq 32 b) refl (split-total bytes)
 
--- fewer texts have fewer characters
+-- a list from which texts are removed has no larger total
 kept-total : (test : Bool) (text : List ℕ) (kept texts : List (List ℕ)) → total kept ≤ total texts → total (cond test (text ∷ kept) kept) ≤ suc (character_count text + total texts)
 kept-total true text kept texts h = omega (arith, h)
 kept-total false text kept texts h = omega (arith, h)
@@ -88,7 +88,7 @@ distinct-total seen (text ∷ texts) =
     let rest = distinct-total (if test then seen else seen ++ text ∷ []) texts in
     omega (arith, here, rest)
 
--- so names take as many characters as a store of them, and one more
+-- the total of names is the number of their characters, plus one for each name
 names-total : (names : List (List ℕ)) → All IsOwnKey names → total names ≡ names_size names + length names
 names-total [] own = refl
 names-total (name ∷ names) own =
@@ -101,7 +101,7 @@ text-count cs all =
     let valid = all-scalars cs all in
     counted-characters (encode_utf8_all cs) (cs, (valid, refl)) ∙ ap length (chars-encodes cs valid)
 
--- few elements, of which those that are characters are characters of a keyboard
+-- elements that fit in a store, with characters that a keyboard can have
 abbrev AreFew : List Element → Type 0
 AreFew elements = (length elements ≤ STORE_ELEMENTS) × All IsCharacter (filter_map element_char elements)
 
@@ -109,7 +109,7 @@ dictionary-few : (stores : List Store) → All IsPlayableStore stores → AreFew
 dictionary-few stores h = dictionary_has AreFew stores (omega arith, All-nil IsCharacter)
     (λ i d within. let store = get_or stores i d in let here = h i d within in (here.element_count, value-characters store.elements here.elements))
 
--- the names of a file's dictionary stand in one store, parted by spaces
+-- the names of a file's dictionary are in one store, separated by spaces, so their total is at most one more than a store can have
 pub dictionary-total : (tables : Tables) → IsPlayable tables → total (tab_dictionary tables.stores) ≤ suc STORE_ELEMENTS
 unfolding tab_dictionary
 dictionary-total tables can =
@@ -124,7 +124,7 @@ dictionary-total tables can =
     let once = distinct-total [] (words text) in
     omega (arith, few.0, shorter, count, parts, kept, once)
 
--- so they are few, and joined again they are no longer than a store may be
+-- if the total of names is at most one more than a store can have, there are few names, and joined by spaces they fit in a store
 pub names-fit : (names : List (List ℕ)) → All IsOwnKey names → total names ≤ suc STORE_ELEMENTS
     → (length names ≤ STORE_ELEMENTS) × AllByRecursion HasFewElements (dictionary_stores names)
 names-fit [] own few = ((omega arith), tt)

@@ -1,4 +1,4 @@
--- The text of playable tables compiles to so few stores, with so few elements, that 32 bits count them.
+-- The numbers of stores and elements that the text of playable tables compiles to fit in 32 bits.
 use Rattle.std.proofs.Common.{◌≡◌, ℕ, zero, suc, ◌+◌, ◌*◌, ◌<◌, ◌≤◌, ◌^◌, Bool, true, false, List, [], ◌∷◌, ◌++◌, ◌||◌, ◌-◌, length, map, Option, refl, sym, subst, ap, arith, length-append, if◌then◌else◌}
 use Rattle.std.specs.Prelude.{All, filter_map, flat_map, fold, max, sum, nat_eq, slice_get, unwrap_or, None, is_some}
 use Rattle.std.specs.List.{list_any, AllByRecursion, IsDistinct}
@@ -54,7 +54,7 @@ fold-small (x ∷ xs) a small h = let here = h.0 in fold-small xs (max a x) (ome
 mark-small : (tables : Tables) → IsPlayable tables → greatest_mark tables < 2 ^ 16
 mark-small tables can = fold-small (table_marks tables) 0 (omega arith) (small_marks tables can)
 
--- so many lengths at most, which come to so many elements at most
+-- there are at most `stores` lengths, and their sum is at most `elements`
 record AreWithin (stores elements : ℕ) (ns : List ℕ) : Type 0 where
   stores_within : length ns ≤ stores
   elements_within : sum ns ≤ elements
@@ -182,7 +182,7 @@ values-among names [] = All-nil (IsAmong ([] ∷ map characters names.elements))
 values-among names (n ∷ ns) =
     All-cons (IsAmong ([] ∷ map characters names.elements)) (value_called names n) (map (value_called names) ns) (value-among names.elements n) (values-among names ns)
 
--- there are no more values than stores, and one without characters
+-- there are at most as many values as stores, plus one value without characters
 values-few : (names : Names) (ns : List ℕ) → length (with_values names [] ns) ≤ suc (length names.elements)
 values-few names ns =
     let all : List (List ℕ) = [] ∷ map characters names.elements in

@@ -27,11 +27,11 @@ use Rattle.rule_model.specs.Naming.{names_of, all_rules, source_items, mark_name
 use Rattle.rule_model.specs.Tab.{distinct_onto}
 use Rattle.kmx_format.specs.Writable.{IsWritableRule}
 use Rattle.kmx_format.specs.Playable.{IsPlayable, IsPlayableGroup}
-use Rattle.kmn_names.specs.Known.{Known, known}
+use Rattle.store_table.specs.Known.{Known, known}
 use Rattle.rule_checker.specs.Limits.{Statement, OfStore, OfRule, in_line_order, item_size, output_size, cased_codes, virtual_count, key_count, records_of_statement, record_count, mark_count, all_records, group_refusal}
 use Rattle.rule_checker.proofs.FirstPassed.{sum_append}
 use Rattle.rule_checker.proofs.Sizes.{items_in_order}
-use Rattle.kmn_names.specs.First.{first_of}
+use Rattle.store_table.specs.First.{first_of}
 use Rattle.decompile_program.specs.Marks.{greatest_mark}
 use Rattle.decompile_program.specs.Items.{Names, back_pattern, back_output, back_key, some_items, key_called}
 use Rattle.decompile_program.specs.Back.{back_rule, back_rules, back_statement, match_line, nomatch_line, back_group, back_groups, names_for, written_stores, written_begins, written_groups, back}
@@ -50,7 +50,7 @@ sum-cons x xs = sum_by-cons (λ x. x) x xs
 sum-mapped : {X : Type 0} (f : X → ℕ) (xs ys : List X) → sum (map f (xs ++ ys)) ≡ sum (map f xs) + sum (map f ys)
 sum-mapped f xs ys = ap sum (map-append f xs ys) ∙ sum_append (map f xs) (map f ys)
 
--- what holds of all rules, and of each store, holds of all statements in the order of their lines
+-- if all rules and each store have a property, all statements in the order of their lines have it
 module _ (P : Statement → Type 0) (stores-have : (store : StoreDef) → P (OfStore store)) where
   of-stores : (stores : List StoreDef) → AllByRecursion P (map OfStore stores)
   of-stores [] = tt
@@ -131,11 +131,11 @@ module _ (facts : Known) (names : Names) where
       (group-short stores count line (unwrap_or (slice_get called 0) []) group (All-head (IsPlayableGroup stores count) group groups h))
       (groups-short stores count (line + 1 + length written.rules) (drop 1 called) groups (All-tail (IsPlayableGroup stores count) group groups h))
 
-  -- records: one for each rule
+  -- the number of records of a rule
   abbrev records : RuleDef → ℕ
   records rule = record_count facts rule.kind rule.key
 
-  -- without cased keys each key has one
+  -- if there are no cased keys, each key has one record
   abbrev AreUncased : Type 0
   AreUncased = cased_codes facts ≡ []
 
@@ -209,7 +209,7 @@ module _ (tables : Tables) (can : IsPlayable tables) where
       (groups-short (known (back tables)) (names_for tables) (length tables.stores) (length tables.groups) (1 + length (written_stores tables) + length (written_begins tables)) (names_for tables).groups
       tables.groups can.groups)
 
-  -- there are not too many records
+  -- if tables can be written out, the program has no cased keys, so it does not have too many records
   uncased-codes : CanBeWrittenOut tables → cased_codes (known (back tables)) ≡ []
   unfolding known
   uncased-codes written = ap (filter (λ code. nat_lt 0 code && nat_lt code 256)) (uncased tables can written)
@@ -222,7 +222,7 @@ module _ (tables : Tables) (can : IsPlayable tables) where
       let few = can.rule_count in
       omega (arith, all, of, few)
 
-  -- nor too many groups
+  -- the program has as many groups as the tables, so it does not have too many groups
   groups-long : (names : Names) (line : ℕ) (called : List (List ℕ)) (groups : List Group) → length (back_groups names line called groups) ≡ length groups
   groups-long names line called [] = refl
   groups-long names line called (group ∷ groups) =
@@ -234,7 +234,7 @@ module _ (tables : Tables) (can : IsPlayable tables) where
       few_groups_refused [] (written_groups tables)
       (let few = can.group_count in let l = groups-long (names_for tables) (1 + length (written_stores tables) + length (written_begins tables)) (names_for tables).groups tables.groups in omega (arith, few, l))
 
-  -- nor too many deadkeys
+  -- the program does not have too many deadkeys
   pub marks_few : IsSayable tables → CanBeWrittenOut tables → mark_count statements ≤ DEADKEYS
   unfolding names_of
   marks_few said written =

@@ -1,4 +1,4 @@
--- How long a file is, by the items of its rules: all else of it is within limits that leave room.
+-- A bound on the length of a file by the number of items in its rules: limits keep all other parts small enough.
 use Rattle.std.proofs.Common.{◌≡◌, ℕ, ◌+◌, ◌*◌, ◌≤◌, List, [], ◌∷◌, ◌++◌, length, arith, length-append}
 use Rattle.std.specs.Prelude.{All, flat_map}
 use Rattle.std.specs.List.{sum_by}
@@ -15,7 +15,7 @@ use Rattle.kmx_format.specs.Writable.{elements_of, IsWritableStore, IsWritableGr
 use Rattle.kmx_format.proofs.FileSize.{string_at_most, items_at_most}
 use Rattle.kmx_format.proofs.FileLaw.{length-file_of}
 
--- the items of records, of match and nomatch outputs, and of all groups
+-- the number of items of a record, of the match and nomatch outputs of a group, of a group, and of all groups
 abbrev pub rule_size : Rule → ℕ
 rule_size rule = length rule.context + length rule.output
 
@@ -85,7 +85,7 @@ sizes-together (group ∷ groups) =
       sizes-together groups,
     )
 
--- so a file of tables with few items keeps its limit
+-- if tables have few items, their file is within the limit of a file
 pub file_bound : (tables : Tables) → IsWritable tables → table_size tables ≤ 1_300_000 → length (file_of tables []) ≤ FILE_BYTES
 file_bound tables can few =
     omega (

@@ -1,11 +1,11 @@
--- The file of what a file's text compiles to is within the limits.
+-- The file that the text of a file compiles to is within the limits.
 use Rattle.std.proofs.Common.{◌≡◌, ◌+◌, ◌≤◌, [], length, refl, sym, subst, arith}
 use Rattle.rule_model.specs.declared.program.Program.{Program}
 use Rattle.rule_model.specs.declared.tables.Tables.{Tables}
 use Rattle.kmx_format.specs.TablesOf.{tables_of}
 use Rattle.kmx_format.specs.Writable.{IsWritable}
-use Rattle.kmx_format.specs.Ordered.{compiled_tables}
-use Rattle.kmx_format.proofs.Ordered.{tables_are_only_ones}
+use Rattle.compile_laws.specs.Ordered.{compiled_tables}
+use Rattle.compile_laws.proofs.Ordered.{tables_are_only_ones}
 use Rattle.rule_checker.proofs.Written.{tables_written}
 use Rattle.decompile_program.specs.Back.{back}
 use Rattle.decompile_program.proofs.Uncased.{uncased}

@@ -1,4 +1,4 @@
--- The rules of a group, as what lists of groups are flattened by.
+-- The rules of a group, as a function that flattens lists of groups.
 use Rattle.std.proofs.Common.{List}
 use Rattle.rule_model.specs.declared.program.RuleDef.{RuleDef}
 use Rattle.rule_model.specs.declared.program.GroupDef.{GroupDef}

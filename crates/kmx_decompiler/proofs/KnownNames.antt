@@ -1,5 +1,5 @@
--- Where stores and groups of tables are stated by the names that they are called by, no rule that is written out of the
--- tables is refused for a name.
+-- If the stores and groups of tables are stated by the names that they are called by, no rule that is written out of the tables is
+-- refused for a name.
 use Rattle.std.proofs.Common.{◌≡◌, ℕ, ◌+◌, ◌<◌, Bool, true, false, not, ◌||◌, List, [], ◌∷◌, ◌++◌, length, drop, map, None, refl, sym, subst}
 use Rattle.std.specs.Prelude.{slice_get, unwrap_or, option_to_list}
 use Rattle.std.specs.List.{list_any, AllByRecursion}
@@ -22,15 +22,15 @@ use Rattle.rule_model.specs.declared.tables.Group.{Group}
 use Rattle.rule_model.specs.declared.tables.Tables.{Tables}
 use Rattle.rule_model.specs.Naming.{rule_items}
 use Rattle.rule_model.specs.Src.{is_on_match, is_on_nomatch}
-use Rattle.kmn_names.specs.declared.stating.Stated.{Stated}
-use Rattle.kmn_names.specs.First.{broken, first_code, first_of}
-use Rattle.kmn_names.specs.Names.{is_named, names_no_store, names_no_group, is_second, is_again, rule_item_code, rule_code, rule_refusal, rules_refusal}
+use Rattle.store_table.specs.declared.stating.Stated.{Stated}
+use Rattle.store_table.specs.First.{broken, first_code, first_of}
+use Rattle.store_table.specs.Names.{is_named, names_no_store, names_no_group, is_second, is_again, rule_item_code, rule_code, rule_refusal, rules_refusal}
 use Rattle.decompile_program.specs.Items.{Names, store_called, group_called, back_pattern, back_output, back_key, some_items}
 use Rattle.decompile_program.specs.Back.{back_rule, back_rules, back_statement, match_line, nomatch_line, back_group, back_groups}
 use Rattle.decompile_program.proofs.Good.{IsNamed, GoodPattern, GoodOutput, GoodRule, GoodGroup}
 use Rattle.kmx_decompiler.proofs.UnrefusedRules.{no-else, no-earlier, no-line, no-broken}
 
--- of a group's rules at most one is a match and one a nomatch, behind some of which these two are known
+-- at most one rule of a group is a match and at most one a nomatch; the flags state whether an earlier rule is one
 abbrev AtMostOne : Bool → Bool → List RuleDef → Type 0
 AtMostOne matched unmatched [] = Unit {0}
 AtMostOne matched unmatched (rule ∷ rules) =

@@ -1,4 +1,4 @@
--- The least of places, seen one after the other.
+-- The least of several places, computed one place after the other.
 use Rattle.std.proofs.Common.{◌≡◌, ℕ, ◌+◌, List, [], ◌∷◌, ◌++◌, Option, Some, None, refl, sym, ap, ◌∙◌, append_assoc, append-nil}
 use Rattle.std.specs.Prelude.{fold, min}
 use Rattle.rule_model.specs.declared.tables.Rule.{Rule}
@@ -14,7 +14,7 @@ use Rattle.kmx_decompiler.specs.Causes.{is_unspelled_key}
 use Rattle.kmx_decompiler.specs.Places.{at_cause, cause_places, least, store_causes, rule_causes, group_causes}
 use Rattle.kmx_decompiler.specs.Least.{lesser, lesser_of}
 
--- of some places and others
+-- the least of joined places is the least of the second places and of the least of the first
 pub lesser_append : (first second : List ℕ) (found : Option ℕ) → lesser (first ++ second) found ≡ lesser second (lesser first found)
 lesser_append [] second found = refl
 lesser_append (place ∷ places) second found = lesser_append places second (Some (lesser_of found place))
@@ -23,7 +23,7 @@ folded : (places : List ℕ) (found : ℕ) → lesser places (Some found) ≡ So
 folded [] found = refl
 folded (place ∷ places) found = folded places (min found place)
 
--- from none on it is the least
+-- if there is no place before, the result is the least of the places
 lesser_is_least : (places : List ℕ) → lesser places None ≡ least places
 lesser_is_least [] = refl
 lesser_is_least (place ∷ places) = folded places place
@@ -34,7 +34,7 @@ apart_by_three a b c rest =
     ∙ ap (λ tail. a ++ tail) (sym (append_assoc b (c ++ []) rest))
     ∙ sym (append_assoc a (b ++ (c ++ [])) rest)
 
--- the places of a record, then those of the others
+-- the places of records are the places of the first record, then the places of the others
 rules_apart : (names : Names) (place : ℕ) (rule : Rule) (rules : List Rule)
     → rule_causes names place (rule ∷ rules) ≡ rule_causes names place (rule ∷ []) ++ rule_causes names (place + RULE_BYTES) rules
 rules_apart names place rule rules = apart_by_three (at_cause place (is_unspelled_key names rule.key)) _ _ (rule_causes names (place + RULE_BYTES) rules)
@@ -47,7 +47,7 @@ lesser_rules names place rule rules found least e =
     ∙ lesser_append (rule_causes names place (rule ∷ [])) (rule_causes names (place + RULE_BYTES) rules) least
     ∙ ap (lesser (rule_causes names (place + RULE_BYTES) rules)) (sym e)
 
--- one record more
+-- the least place of records is the least place of the others, computed after the first record
 pub rules_step : (names : Names) (place next : ℕ) (rule : Rule) (rest from : List Rule) (found least whole : Option ℕ)
     → from ≡ rule ∷ rest → found ≡ lesser (rule_causes names place (rule ∷ [])) least → next ≡ place + RULE_BYTES
     → lesser (rule_causes names place from) least ≡ whole → lesser (rule_causes names next rest) found ≡ whole
@@ -57,7 +57,7 @@ rules_step names place next rule rest from found least whole begins e behind bef
     ∙ sym (ap (λ rules. lesser (rule_causes names place rules) least) begins)
     ∙ before
 
--- the places of a group, then those of the others
+-- the places of groups are the places of the first group, then the places of the others
 groups_apart : (bytes : List ℕ) (names : Names) (place : ℕ) (group : Group) (groups : List Group)
     → group_causes bytes names place (group ∷ groups) ≡ group_causes bytes names place (group ∷ []) ++ group_causes bytes names (place + GROUP_BYTES) groups
 groups_apart bytes names place group groups = apart_by_three _ _ (rule_causes names (word_at bytes (place + 4)) group.rules) (group_causes bytes names (place + GROUP_BYTES) groups)
@@ -70,7 +70,7 @@ lesser_groups bytes names place group groups found least e =
     ∙ lesser_append (group_causes bytes names place (group ∷ [])) (group_causes bytes names (place + GROUP_BYTES) groups) least
     ∙ ap (lesser (group_causes bytes names (place + GROUP_BYTES) groups)) (sym e)
 
--- one group more
+-- the least place of groups is the least place of the others, computed after the first group
 pub groups_step : (bytes : List ℕ) (names : Names) (place next : ℕ) (group : Group) (rest from : List Group) (found least whole : Option ℕ)
     → from ≡ group ∷ rest → found ≡ lesser (group_causes bytes names place (group ∷ [])) least → next ≡ place + GROUP_BYTES
     → lesser (group_causes bytes names place from) least ≡ whole → lesser (group_causes bytes names next rest) found ≡ whole
@@ -80,7 +80,7 @@ groups_step bytes names place next group rest from found least whole begins e be
     ∙ sym (ap (λ groups. lesser (group_causes bytes names place groups) least) begins)
     ∙ before
 
--- the least of the places of stores, and then of groups, is the least of all
+-- the least of the places of stores, and then of groups, is the least of all places in a file
 pub least_is : (bytes : List ℕ) (tables indexed : Tables) (names : Names) (place_of_stores place_of_groups : ℕ) (stores : List Store) (groups : List Group) (first place : Option ℕ)
     → tables ≡ tables_of bytes → indexed ≡ tables → names ≡ names_for tables → place_of_stores ≡ word_at bytes 32 → place_of_groups ≡ word_at bytes 36
     → stores ≡ tables.stores → groups ≡ tables.groups

@@ -1,4 +1,4 @@
--- Counts by the lengths of stores, one after the other.
+-- Counts by the lengths of stores, added one after the other.
 use Rattle.std.proofs.Common.{◌≡◌, ℕ, ◌+◌, ◌≤◌, List, [], ◌∷◌, ◌++◌, length, drop, map, Some, refl, sym, ap, ◌∙◌, arith}
 use Rattle.std.specs.Prelude.{sum, slice_get}
 use Rattle.std.proofs.lemmas.List.{drop_more}
@@ -10,12 +10,12 @@ use Rattle.kmx_decompiler.specs.Counting.{capped, none_counted, with_lengths}
 abbrev next : WrittenCounts → ℕ → WrittenCounts
 next counts n = record { stores = capped (counts.stores + 1); elements = capped (counts.elements + n) }
 
--- some lengths and others
+-- adding lengths and then others is adding the joined lengths
 pub with_lengths_append : (counts : WrittenCounts) (first second : List ℕ) → with_lengths (with_lengths counts first) second ≡ with_lengths counts (first ++ second)
 with_lengths_append counts [] second = refl
 with_lengths_append counts (n ∷ ns) second = with_lengths_append (next counts n) ns second
 
--- the length of one value more
+-- adding the length of the value at an index, then the lengths after it, is adding all lengths from the index on
 pub next_length : (counts more whole : WrittenCounts) (values : List (List ℕ)) (place : ℕ) (value : List ℕ) → Some value ≡ slice_get values place → more ≡ with_lengths counts (length value ∷ [])
     → with_lengths counts (map length (drop place values)) ≡ whole → with_lengths more (map length (drop (place + 1) values)) ≡ whole
 next_length counts more whole values place value at is so_far =
@@ -44,7 +44,7 @@ elements_from counts (n ∷ ns) few =
     let rest = elements_from (next counts n) ns (omega (arith, few, all, more)) in
     omega (arith, rest, all, more)
 
--- from nothing on the stores are as many as the lengths, and the elements their sum
+-- if the counts start at zero and fit in 32 bits, they are the number of lengths and the sum of the lengths
 pub stores_are : (ns : List ℕ) → length ns ≤ 0xFFFF_FFFF → (with_lengths none_counted ns).stores ≡ length ns
 stores_are ns few = let all = stores_from none_counted ns (omega (arith, few)) in omega (arith, all)
 

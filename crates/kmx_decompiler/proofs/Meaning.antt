@@ -1,4 +1,4 @@
--- What a file's text compiles to means what the file means, where nothing of the text is refused.
+-- If no part of a file's text is refused, what the text compiles to means what the file means.
 use Rattle.std.proofs.Common.{◌≡◌, ℕ, List, None, sym, ◌∙◌}
 use Rattle.kmn_base.specs.declared.events.Event.{Event}
 use Rattle.rule_model.specs.declared.program.Program.{Program}
@@ -7,8 +7,8 @@ use Rattle.rule_model.specs.Tab.{tab}
 use Rattle.rule_model.specs.Trace.{trace}
 use Rattle.kmx_format.specs.TablesOf.{tables_of}
 use Rattle.kmx_format.specs.Playable.{IsPlayable}
-use Rattle.kmx_format.specs.Compiles.{Compiles}
-use Rattle.kmx_format.proofs.Whole.{meaning_kept}
+use Rattle.compile_laws.specs.Compiles.{Compiles}
+use Rattle.compile_laws.proofs.Whole.{meaning_kept}
 use Rattle.rule_checker.specs.Refused.{IsRead, refused}
 use Rattle.rule_checker.proofs.Named.{well_named}
 use Rattle.rule_checker.proofs.Sources.{source_read}

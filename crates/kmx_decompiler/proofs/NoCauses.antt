@@ -1,4 +1,4 @@
--- Tables of a valid file of which no cause holds can be written out, and the names of their dictionary are UTF-8.
+-- If the tables of a valid file have no cause, they can be written out, and the names of their dictionary are UTF-8.
 use Rattle.std.proofs.Common.{◌≡◌, ℕ, List, None}
 use Rattle.std.specs.Prelude.{All}
 use Rattle.std.specs.Str.{IsUtf8}

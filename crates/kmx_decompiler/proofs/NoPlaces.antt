@@ -1,4 +1,4 @@
--- Where no cause holds of the parts of a file's tables there are no places of causes.
+-- If the parts of a file's tables have no causes, there are no places of causes.
 use Rattle.std.proofs.Common.{◌≡◌, ℕ, ◌+◌, Bool, true, false, List, [], ◌∷◌, ◌++◌, refl}
 use Rattle.std.specs.List.{list_any, AllByRecursion}
 use Rattle.rule_model.specs.declared.tables.Rule.{Rule}

@@ -10,7 +10,7 @@ use Rattle.rule_model.specs.Content.{option_of, option_number, options_before}
 use Rattle.rule_model.specs.System.{system_options}
 use Rattle.rule_model.specs.Tab.{with_options, tab_options}
 
--- a store has one where its number is listed, whatever stands behind the stores
+-- a store has an option number if and only if its number is in the list, whatever follows the stores
 numbered : (options : List ℕ) (option k n : ℕ) (stores : List Store) (others : List StoreMeaning) → n < length stores
     → is_some (option_of option (slice_get (with_options options k stores ++ others) n)) ≡ list_any (nat_eq (k + n)) options
 numbered options option k n [] others within = absurd (omega arith)
@@ -21,7 +21,7 @@ numbered options option k (suc n) (store ∷ stores) others within =
     let less : n < length stores = omega arith in
     numbered options option (k + 1) n stores others less ∙ ap (λ m. list_any (nat_eq m) options) here
 
--- a store of tables has one where some item uses it as an option
+-- a store of tables has an option number if and only if some item uses it as an option
 pub is_option : (tables : Tables) (n : ℕ) → n < length tables.stores
     → is_some (option_number (with_options (tab_options tables) 0 tables.stores ++ system_options) (Numbered n)) ≡ list_any (nat_eq n) (tab_options tables)
 is_option tables n within =

@@ -1,4 +1,4 @@
--- The records of a valid file stand in it, so four bytes can tell their places.
+-- The records of a valid file are in the file, so their places fit in four bytes.
 use Rattle.std.proofs.Common.{◌≡◌, ℕ, zero, suc, ◌+◌, ◌*◌, ◌<◌, ◌≤◌, ◌^◌, ◌⊎◌, inl, inr, List, length, None, sym, subst, ap, ◌∙◌, arith}
 use Rattle.kmn_base.specs.declared.limits.TheConstants.{FILE_BYTES}
 use Rattle.kmn_base.proofs.SmallBytes.{AreBytes}
@@ -7,7 +7,7 @@ use Rattle.rule_model.specs.declared.tables.Tables.{Tables}
 use Rattle.kmx_format.specs.declared.sizes.TheConstants.{STORE_BYTES}
 use Rattle.kmx_format.specs.TablesOf.{word_at, tables_of, uses_keys_at, groups_from}
 use Rattle.kmx_format.proofs.SmallNumbers.{word_at-small}
-use Rattle.kmx_parts.specs.View.{store_count, group_count}
+use Rattle.kmx_view.specs.View.{store_count, group_count}
 use Rattle.kmx_verifier.specs.FaultOf.{size_fault, header_fault, arrays_fault, stores_fault, groups_fault, group_fault, records_place_fault, fault_of, IsValid}
 use Rattle.kmx_verifier.proofs.Arrays.{size_fits, array_stands, arrays_stand}
 use Rattle.kmx_verifier.proofs.Playing.{length-stores_from, length-rules_from}
@@ -26,7 +26,7 @@ some-within : (place count file : ℕ) → (suc count ≡ 0) ⊎ (place + 24 * s
 some-within place count file (inl none) = absurd (omega (arith, none))
 some-within place count file (inr within) = omega (arith, within)
 
--- where groups have no fault, their key records stand in the file
+-- if groups have no fault, their records and key records end at places that fit in four bytes
 groups-near : (bytes : List ℕ) (before place count : ℕ) → AreBytes bytes → length bytes ≤ FILE_BYTES → (count ≡ 0) ⊎ (place + 24 * count ≤ length bytes)
     → groups_fault bytes before place count ≡ None → HaveNearRecords bytes place (groups_from bytes place count)
 groups-near bytes before place zero small fits stand h = tt
@@ -44,7 +44,7 @@ groups-near bytes before place (suc count) small fits stand h =
       groups-near bytes (before + rules) (place + 24) count small fits (inr within) parts.1,
     )
 
--- so the records of all stores and groups do
+-- the records of all stores and groups of a valid file end at places that fit in four bytes
 pub stores_near : (bytes : List ℕ) (tables : Tables) → AreBytes bytes → IsValid bytes → tables ≡ tables_of bytes → word_at bytes 32 + STORE_BYTES * length tables.stores < 2 ^ 32
 unfolding fault_of tables_of
 stores_near bytes tables small valid of_bytes =

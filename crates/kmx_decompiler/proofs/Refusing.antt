@@ -1,4 +1,4 @@
--- Why a file has no text, asked part by part.
+-- The reason why a file has no text, determined part by part.
 use Rattle.std.proofs.Common.{◌≡◌, ℕ, ◌<◌, ◌≤◌, ◌^◌, true, false, List, [], ◌∷◌, length, length-append, Option, Some, None, ap, sym, subst, ◌∙◌, arith}
 use Rattle.std.specs.Prelude.{All, flat_map, nat_lt, if◌then◌else◌, option_map}
 use Rattle.std.specs.Str.{IsUtf8}
@@ -42,7 +42,7 @@ few-in (group ∷ groups) few =
 pub few_rules : (tables : Tables) → IsPlayable tables → All (λ (group : Group). length group.rules < 2 ^ 32) tables.groups
 few_rules tables h = few-in tables.groups h.rule_count
 
--- a text that is too large, and one that isn't
+-- the excess of a text that is too large, and of one that is not
 pub larger_text : (program : Program) (size : ℕ) → size ≡ length (program_text program) → nat_lt TEXT_BYTES size ≡ true → excess program ≡ Some (TooLarge size)
 unfolding text_size
 larger_text program size is larger =
@@ -53,7 +53,7 @@ unfolding text_size
 text_within program size is within =
     rw (← is) (λ i. if within i then Some (TooLarge size) else too_many (store_count program) (element_count program))
 
--- the first part that tells why: the order, the least cause, the excess
+-- the reason why a file has no text is the reason of the first part that has one: the order, the least cause, the excess
 pub unspelled_order : (bytes : List ℕ) (why : NoSpelling) → disorder 0 (tables_of bytes).groups ≡ Some why → unspelled bytes ≡ Some why
 unfolding unspelled
 unspelled_order bytes why e =
@@ -73,7 +73,7 @@ unspelled_excess bytes order e =
     ap (λ first. option_or first (option_or (option_map Unspelled (least (cause_places bytes))) (excess (back (tables_of bytes))))) order
     ∙ ap (λ place. option_or (option_map Unspelled place) (excess (back (tables_of bytes)))) e
 
--- where no part up to the causes tells why, the tables can be written out, and their keys have names in UTF-8
+-- if neither the order nor a cause is a reason, the tables can be written out, and the names of their keys are UTF-8
 pub written : (bytes : List ℕ) (tables : Tables) (place : Option ℕ)
     → tables ≡ tables_of bytes → IsPlayable tables → disorder 0 tables.groups ≡ None → place ≡ least (cause_places bytes) → place ≡ None → CanBeWrittenOut tables
 written bytes tables place of_bytes can order is none =

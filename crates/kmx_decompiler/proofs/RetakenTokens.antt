@@ -1,4 +1,4 @@
--- The text of a token is one token: taken by itself it has the size that it had before what stood behind it.
+-- The text of a token is one token: by itself it has the same size as with the text that followed it.
 use Rattle.std.proofs.Common.{◌≡◌, ℕ, zero, suc, ◌+◌, ◌<◌, ◌≤◌, Bool, true, false, ◌==◌, if◌then◌else◌, List, [], ◌∷◌, length, take, drop, is_some, refl, sym, ◌∙◌, ap, subst, arith}
 use Rattle.std.proofs.lemmas.Bool.{and_right, cond-true, cond-false, cond_both}
 use Rattle.std.proofs.lemmas.List.{length-take-le}
@@ -7,13 +7,13 @@ use Rattle.kmn_lines.specs.Bytes.{first_or_end}
 use Rattle.kmn_lines.specs.Tokens.{single, is_unequal, in_word, word_size, quoted_size, starts_number, plain_size, token_size}
 use Rattle.kmn_lines.proofs.TextSizes.{take-one, in_word-plain, in_word-from, token_size-within, not_number-take, number-take, number-digit, first-take}
 
--- a byte of a word is one where the text is cut off
+-- if a byte is part of a word, it is still part of a word where the text is cut off
 word-cut : (byte m : ℕ) (bytes : List ℕ) → in_word byte (first_or_end bytes) ≡ true → in_word byte (first_or_end (take m bytes)) ≡ true
 word-cut byte zero bytes h = let plain = in_word-plain byte (first_or_end bytes) h in in_word-from byte 10 plain.blank plain.quote plain.alone (and_right (byte == 33) false refl)
 word-cut byte (suc m) [] h = h
 word-cut byte (suc m) (next ∷ bytes) h = h
 
--- a ! is no sign of inequality there
+-- if a byte does not begin a `!=`, it does not begin one where the text is cut off
 unequal-cut : (byte m : ℕ) (bytes : List ℕ) → is_unequal byte (first_or_end bytes) ≡ false → is_unequal byte (first_or_end (take m bytes)) ≡ false
 unequal-cut byte zero bytes h = and_right (byte == 33) false refl
 unequal-cut byte (suc m) [] h = h
@@ -72,7 +72,7 @@ module _ (byte : ℕ) (bytes : List ℕ) where
   size-word e f g =
       size-rest e ∙ (cond-false unequal 2 (if is_some (single byte) then 1 else word_size (byte ∷ bytes)) f ∙ cond-false (is_some (single byte)) 1 (word_size (byte ∷ bytes)) g)
 
--- the bytes of a number behind its first two
+-- if a text starts with a number, the number by itself has the same size
 number-again : (text : List ℕ) → starts_number text ≡ true → token_size (take (2 + word_size (drop 2 text)) text) ≡ 2 + word_size (drop 2 text)
 number-again [] e = absurd (cc)
 number-again (a ∷ []) e = absurd (cc)
@@ -120,6 +120,6 @@ size-again (byte ∷ bytes) = by (starts_number (byte ∷ bytes)) refl
     by true e = subst (λ (n : ℕ). token_size (take n (byte ∷ bytes)) ≡ n) (sym (size-number (byte ∷ bytes) e)) (number-again (byte ∷ bytes) e)
     by false e = subst (λ (n : ℕ). token_size (take n (byte ∷ bytes)) ≡ n) (sym (size_plain (byte ∷ bytes) e)) (plain-again byte bytes e)
 
--- so a token's text has the size of its token
+-- the text of a token has the size of the token
 pub token_alone : (text : List ℕ) → 0 < length text → token_size (take (token_size text) text) ≡ length (take (token_size text) text)
 token_alone text some = size-again text ∙ sym (length-take-le (token_size text) text (token_size-within text some))

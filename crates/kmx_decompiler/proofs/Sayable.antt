@@ -1,4 +1,4 @@
--- Where there is nothing against a file's text, no cause holds and nothing is too large.
+-- If there is no reason against a file's text, the file has no cause and nothing is too large.
 use Rattle.std.proofs.Common.{◌≡◌, ℕ, zero, suc, ◌+◌, ◌≤◌, Bool, true, false, List, [], ◌∷◌, ◌++◌, length, Option, None, Some, refl, sym, subst, arith, if◌then◌else◌}
 use Rattle.std.specs.Prelude.{All, nat_lt, nat_le, option_map, slice_get}
 use Rattle.std.specs.List.{list_any, AllByRecursion}
@@ -44,7 +44,7 @@ some-if false x o h = (refl, h)
 at-most : (a b : ℕ) → nat_lt a b ≡ false → nat_le b a ≡ true
 at-most a b h = grind (arith, nat_tests, h)
 
--- contexts don't grow
+-- the contexts of a group do not grow
 abbrev pub Falls : Group → Type 0
 Falls group = has_falling_contexts group.rules ≡ true
 
@@ -65,7 +65,7 @@ all-fall g (group ∷ groups) h =
     let parts = option_or-none (option_map (λ (rule : ℕ). Order g rule) (first_longer group.rules)) (disorder (g + 1) groups) h in
     All-cons Falls group groups (group-falls group.rules (mapped-none (λ (rule : ℕ). Order g rule) (first_longer group.rules) parts.0)) (all-fall (g + 1) groups parts.1)
 
--- no cause holds of a record, of a group, of the stores from a number on
+-- a record, a group, and the stores that are numbered from `n` on have no cause
 pub record IsSayableRule (names : Names) (rule : Rule) : Type 0 where
   pub key : is_unspelled_key names rule.key ≡ false
   pub output : list_any (is_unspelled_output names) rule.output ≡ false
@@ -120,7 +120,7 @@ sayable-stores names options place n (store ∷ stores) h =
     let parts = append_empty (at_cause (place + 8) (is_unspelled_store names options n store)) (store_causes names options (place + STORE_BYTES) (n + 1) stores) h in
     (no-cause (place + 8) (is_unspelled_store names options n store) parts.0, sayable-stores names options (place + STORE_BYTES) (n + 1) stores parts.1)
 
--- what holds of the store of a number
+-- if stores have no cause, the store of a number has a spelling
 pub sayable-at : (names : Names) (options : List ℕ) (k : ℕ) (stores : List Store) → AreSayable names options k stores
     → (i n : ℕ) (store : Store) → n ≡ k + i → slice_get stores i ≡ Some store → is_unspelled_store names options n store ≡ false
 sayable-at names options k [] h i n store e at = absurd (none-some store at)
@@ -130,7 +130,7 @@ sayable-at names options k (x ∷ stores) h zero n store e at =
     (subst (λ (m : ℕ). is_unspelled_store names options m x ≡ false) (sym same) h.0)
 sayable-at names options k (x ∷ stores) h (suc i) n store e at = sayable-at names options (k + 1) stores h.1 i n store (omega (arith, e)) at
 
--- nothing is too large
+-- the text of a program and what it compiles to are within the limits
 pub record IsSmall (program : Program) : Type 0 where
   pub text : text_size program ≤ TEXT_BYTES
   pub stores : store_count program ≤ STORES
@@ -149,7 +149,7 @@ small program h =
       elements = ltb-false ALL_ELEMENTS (element_count program) three.0;
     }
 
--- tables of which no cause holds
+-- tables that have no cause
 pub record HasNoCause (tables : Tables) : Type 0 where
   pub order : All Falls tables.groups
   pub stores : AreSayable (names_for tables) (tab_options tables) 0 tables.stores
@@ -168,7 +168,7 @@ no_cause_holds bytes order places =
       groups = sayable-groups bytes (names_for tables) (word_at bytes 36) tables.groups parts.1;
     }
 
--- and whose text isn't too large
+-- tables that have no cause and whose text is not too large
 pub record IsSayable (tables : Tables) : Type 0 where
   pub order : All Falls tables.groups
   pub stores : AreSayable (names_for tables) (tab_options tables) 0 tables.stores

@@ -1,4 +1,4 @@
--- No store that is written out of playable tables has too many elements, where the dictionary hasn't too many names.
+-- If the dictionary of playable tables does not have too many names, no store that is written out of them has too many elements.
 use Rattle.std.proofs.Common.{◌≡◌, ℕ, ◌+◌, ◌≤◌, Bool, true, false, List, [], ◌∷◌, ◌++◌, length, map, Option, None, Some, refl, arith, length-append, if◌then◌else◌}
 use Rattle.std.specs.Prelude.{All, flat_map, nat_eq}
 use Rattle.std.specs.List.{AllByRecursion, range_with_len}
@@ -20,7 +20,7 @@ use Rattle.decompile_program.specs.Items.{Names, back_element}
 use Rattle.decompile_program.specs.Back.{back_stores, numbered, stated_marks, stated_key, mark_store, key_store}
 
 module _ (names : SourceNames) where
-  -- the elements that the items of a store statement stand for are not too many
+  -- the items of a store statement represent at most as many elements as a store can have
   abbrev pub IsShortStatement : StoreDef → Type 0
   IsShortStatement store = length (flat_map (item_elements names []) store.items) ≤ STORE_ELEMENTS
 

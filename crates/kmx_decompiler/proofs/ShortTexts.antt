@@ -1,4 +1,4 @@
--- No store that a file's text compiles to has too many elements, where this holds of the store of its keys' names.
+-- If the store of the key names does not have too many elements, no store that a file's text compiles to has too many.
 use Rattle.std.proofs.Common.{◌≡◌, ℕ, ◌+◌, ◌≤◌, false, List, [], ◌∷◌, ◌++◌, length, map, refl, sym, subst, arith}
 use Rattle.std.specs.Prelude.{nat_lt, slice_get, unwrap_or}
 use Rattle.std.specs.List.{list_any, AllByRecursion}
@@ -11,7 +11,7 @@ use Rattle.rule_model.specs.declared.tables.Store.{Store}
 use Rattle.rule_model.specs.declared.tables.Tables.{Tables}
 use Rattle.rule_model.specs.Naming.{SourceNames, names_of, stores_of, store_of}
 use Rattle.rule_model.specs.Tab.{tab_dictionary}
-use Rattle.kmx_format.specs.Numbers.{values_of, value_store, dictionary_stores, compiled_stores}
+use Rattle.compile_laws.specs.Numbers.{values_of, value_store, dictionary_stores, compiled_stores}
 use Rattle.kmx_format.specs.Playable.{IsPlayable}
 use Rattle.rule_checker.proofs.Sizes.{element_count}
 use Rattle.decompile_program.specs.Marks.{greatest_mark}

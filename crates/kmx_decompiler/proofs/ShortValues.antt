@@ -1,4 +1,4 @@
--- No value of the program that playable tables are written out as is longer than a store may be.
+-- Each value of the program that playable tables are written out as fits in a store.
 use Rattle.std.proofs.Common.{ℕ, zero, suc, ◌+◌, ◌≤◌, List, [], ◌∷◌, ◌++◌, length, drop, map, arith}
 use Rattle.std.specs.Prelude.{All, flat_map, filter_map, slice_get, unwrap_or, option_to_list}
 use Rattle.std.specs.List.{AllByRecursion}
@@ -23,7 +23,7 @@ use Rattle.rule_model.specs.declared.tables.Group.{Group}
 use Rattle.rule_model.specs.declared.tables.Tables.{Tables}
 use Rattle.rule_model.specs.Tab.{elements_of, element_char}
 use Rattle.rule_model.specs.Naming.{rule_items}
-use Rattle.kmx_format.specs.Numbers.{item_values, values_of}
+use Rattle.compile_laws.specs.Numbers.{item_values, values_of}
 use Rattle.kmx_format.specs.Playable.{IsPlayable, IsPlayableStore}
 use Rattle.rule_checker.proofs.Lists.{All-distinct, all_of}
 use Rattle.decompile_program.specs.Items.{Names, value_called, back_pattern, back_output, back_key, some_items}

@@ -1,4 +1,4 @@
--- No cause holds of the store of a program's key names: they are words that a source can have, each once.
+-- The store of a program's key names has no cause: the names are words that a source can have, each once.
 use Rattle.std.proofs.Common.{◌≡◌, ℕ, Bool, true, false, not, ◌&&◌, ◌||◌, List, [], ◌∷◌, ◌++◌, map, refl, sym, ◌∙◌, ap, if◌then◌else◌, append_assoc, append-nil}
 use Rattle.std.specs.Prelude.{All, nat_eq, nat_lt, filter_map, flat_map, encode_utf8_all}
 use Rattle.std.specs.List.{list_all, list_any, join_with_byte, prefix_len}
@@ -14,14 +14,14 @@ use Rattle.rule_model.specs.declared.program.RuleDef.{RuleDef}
 use Rattle.rule_model.specs.declared.program.Program.{Program}
 use Rattle.rule_model.specs.Naming.{names_of, rule_items, all_rules, store_items, stores_before, stores_after, items_from, source_items, key_names}
 use Rattle.rule_model.specs.Tab.{distinct_onto, element_char, words}
-use Rattle.kmx_format.specs.WellNamed.{is_word}
-use Rattle.kmx_format.proofs.Dictionary.{read_chars, words_again}
+use Rattle.compile_laws.specs.WellNamed.{is_word}
+use Rattle.compile_laws.proofs.Dictionary.{read_chars, words_again}
 use Rattle.rule_checker.proofs.Lists.{All-flat_map, All-distinct, all_pass}
 use Rattle.kmx_decompiler.specs.Causes.{is_dictionary_name, are_repeated, is_unspelled_dictionary}
 use Rattle.kmx_decompiler.specs.Written.{IsWrittenItem, IsWrittenStore, IsWrittenRule, WasWritten}
 use Rattle.kmx_decompiler.proofs.SpelledKeys.{IsKeyName}
 
--- ---- names that are taken once each are not repeated
+-- ---- names that are collected once each are not repeated
 
 more-apart : (before names : List (List ℕ)) (x : List ℕ) → are_repeated before names ≡ false → list_any (λ known. same_name known x) (before ++ names) ≡ false
     → are_repeated before (names ++ x ∷ []) ≡ false
@@ -51,7 +51,7 @@ dictionary_fine name names w good apart =
     let again : words (encode_utf8_all (filter_map element_char (map element.Char cs))) ≡ name ∷ names = ap (λ (read : List ℕ). words (encode_utf8_all read)) (read_chars cs) ∙ words_again (name ∷ names) w in
     (λ i. not (list_all is_dictionary_name (again i)) || are_repeated [] (again i)) ∙ (λ i. not (good i) || apart i)
 
--- ---- the names of a program's own keys
+-- ---- the names of a program's custom keys
 
 module _ (program : Program) (written : WasWritten program) where
   store-items-written : (stores : List StoreDef) → All IsWrittenStore stores → All IsWrittenItem (store_items stores)

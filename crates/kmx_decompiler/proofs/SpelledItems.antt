@@ -1,4 +1,4 @@
--- The items of tables of which no cause holds can be written.
+-- If tables have no cause, their items can be written.
 use Rattle.std.proofs.Common.{◌≡◌, ℕ, zero, suc, ◌+◌, ◌^◌, ◌<◌, ◌≤◌, Bool, true, false, not, ◌&&◌, ◌||◌, List, [], ◌∷◌, length, map, None, refl, ◌∙◌, arith, if◌then◌else◌}
 use Rattle.std.specs.Prelude.{All, ◌≢◌, nat_eq, bit_and, filter, filter_map}
 use Rattle.std.specs.List.{list_any, list_all, AllByRecursion, range_with_len}
@@ -15,7 +15,7 @@ use Rattle.kmn_base.specs.declared.keys.RuleKey.{RuleKey}
 use Rattle.kmn_base.specs.declared.keys.RuleKey.TheVariants as key
 use Rattle.kmn_base.specs.declared.units.TheConstants.{SENTINEL}
 use Rattle.kmn_base.specs.Spelling.{IsSpellable, is_forbidden}
-use Rattle.rule_model.specs.Dictionary.{is_nameable}
+use Rattle.virtual_keys.specs.Dictionary.{is_nameable}
 use Rattle.kmn_items.specs.declared.syntax.Seen.{Seen}
 use Rattle.kmn_items.specs.declared.syntax.Where.TheVariants as section
 use Rattle.kmn_items.specs.declared.syntax.ItemWord.{ItemWord}
@@ -50,7 +50,7 @@ near-mark m h = let near : m ≤ DEADKEYS = (grind (arith, nat_tests, h)) in ome
 pub mark_name : (m : ℕ) → is_far_mark m ≡ false → IsSpelledName (decimal m)
 mark_name m h = (number_name m (near-mark m h)).named
 
--- characters
+-- a scalar value that is not zero and not the sentinel is a character of a keyboard
 pub character : (c : ℕ) → (scalar c ≡ true) × (c ≢ 0) × (c ≢ SENTINEL) → IsCharacter c
 character c h = record { valid = h.0; not_first = h.1; not_last = h.2 }
 
@@ -61,7 +61,7 @@ unit_character c h =
     record { valid = both.0; not_first = eqb-false c 0 neither.0; not_last = eqb-false c SENTINEL neither.1 }
 
 module _ (names : Names) (keys : All IsKeyName names.keys) where
-  -- elements of stores
+  -- if the elements of a store have spellings, they can be written in a store
   pub elements_spelled : (seen : Seen) (es : List Element) → list_any (is_unspelled_element names) es ≡ false → All (λ e. IsSpellable (unit_item_of_element e)) es
       → AreSpelled section.Store seen (map (back_element names) es)
   elements_spelled seen [] h s = tt
@@ -85,7 +85,7 @@ module _ (names : Names) (keys : All IsKeyName names.keys) where
         elements_spelled (seen_lead seen (item_lead (back_element names (element.Key flags code)))) es parts.1 (All-tail (λ e. IsSpellable (unit_item_of_element e)) (element.Key flags code) es s),
       )
 
-  -- the key of a record
+  -- if the key of a record has a spelling, it can be written as a key
   pub key_as_spelled : (using_keys : Bool) (k : RuleKey) → IsWritableKey using_keys k → is_unspelled_key names k ≡ false → IsSpelledAsKey using_keys (back_key names k)
   key_as_spelled true key.Any can h = absurd can
   key_as_spelled true (key.Char unit) can h = (unit_character unit (not-false (is_nameable unit) h), refl, tt)
@@ -94,7 +94,7 @@ module _ (names : Names) (keys : All IsKeyName names.keys) where
   key_as_spelled false (key.Char unit) can h = absurd can
   key_as_spelled false (key.Virtual flags code) can h = absurd can
 
--- deadkeys up to a number
+-- deadkeys from a number on can be written in a store if their numbers have at most nine digits
 pub marks_spelled : (seen : Seen) (from count : ℕ) → from + count ≤ 10 ^ 9 → AreSpelled section.Store seen (map (λ m. source.Dead (decimal m)) (range_with_len from count))
 marks_spelled seen from zero h = tt
 marks_spelled seen from (suc count) h =

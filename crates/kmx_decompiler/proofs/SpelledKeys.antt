@@ -1,4 +1,4 @@
--- Virtual keys of tables of which no cause holds have names that a source reads.
+-- If tables have no cause, their virtual keys have names that a source reads.
 use Rattle.std.proofs.Common.{◌≡◌, ℕ, zero, suc, ◌-◌, Bool, true, false, not, ◌&&◌, List, [], ◌∷◌, length, Option, None, Some, is_some, refl, sym, ◌∙◌, ap, subst, arith, if◌then◌else◌}
 use Rattle.std.specs.Prelude.{All, nat_eq, nat_lt, bit_and, bit_or, slice_get, unwrap_or, option_map, position, find, filter, filter_map, encode_utf8_all}
 use Rattle.std.specs.List.{list_all}
@@ -10,15 +10,15 @@ use Rattle.std.proofs.lemmas.List.Splits.{slice_split_none}
 use Rattle.std.proofs.lemmas.Option.{none-some}
 use Rattle.kmn_base.specs.declared.keys.TheConstants.{SHIFT_FLAGS}
 use Rattle.kmn_base.specs.Names.{same_name}
-use Rattle.rule_model.specs.Dictionary.{name_in}
-use Rattle.rule_model.specs.Keys.{key_name}
+use Rattle.virtual_keys.specs.Dictionary.{name_in}
+use Rattle.virtual_keys.specs.Keys.{key_name}
 use Rattle.kmn_items.specs.Words.{is_own_key}
 use Rattle.kmn_parser.proofs.SoundKeys.{or-within}
 use Rattle.rule_model.specs.declared.program.KeyName.{KeyName}
 use Rattle.rule_model.specs.declared.tables.Store.{Store}
 use Rattle.rule_model.specs.declared.tables.Tables.{Tables}
 use Rattle.rule_model.specs.Tab.{words, element_char, store_elements, is_dictionary, tab_dictionary, tab_options}
-use Rattle.rule_model.proofs.NamePlaces.{position_cons}
+use Rattle.virtual_keys.proofs.NamePlaces.{position_cons}
 use Rattle.rule_checker.proofs.Lists.{All-distinct, all_true}
 use Rattle.kmn_parser.specs.Names.{is_source_name}
 use Rattle.kmn_parser.specs.Spelled.{IsSpelledName, IsSpelledKey}
@@ -35,7 +35,7 @@ use Rattle.kmn_lines.proofs.TextSizes.{clash}
 abbrev pub IsKeyName : List ℕ → Type 0
 IsKeyName name = is_dictionary_name name ≡ true
 
--- where the first dictionary stands
+-- a store is the first dictionary, at some place
 record FoundAt (stores : List Store) (store : Store) : Type 0 where
   place : ℕ
   found : position is_dictionary stores ≡ Some place
@@ -69,7 +69,7 @@ module _ (tables : Tables) (said : HasNoCause tables) where
       let named : not (list_all is_dictionary_name (dictionary_words store.elements)) ≡ false = (or_parts (not (list_all is_dictionary_name (dictionary_words store.elements))) (are_repeated [] (dictionary_words store.elements)) good).0 in
       all_true is_dictionary_name (dictionary_words store.elements) (not-false (list_all is_dictionary_name (dictionary_words store.elements)) named)
 
-  -- each name of the dictionary is one
+  -- each name of the dictionary is a key name
   pub no_cause_keys : All IsKeyName (tab_dictionary tables.stores)
   unfolding tab_dictionary
   no_cause_keys =
@@ -103,7 +103,7 @@ coded flags code = record { flags = bit_or flags 0x4000; code = code; name = [] 
 abbrev called : List ℕ → ℕ → KeyName
 called name flags = record { flags = bit_or flags 0x4000; code = 0; name = name }
 
--- a virtual key with a name
+-- if a virtual key has a name, it can be written
 pub key_spelled : (names : Names) (flags code : ℕ) → All IsKeyName names.keys → has_key_name names.keys code ≡ true → bit_and flags SHIFT_FLAGS ≡ flags → IsSpelledKey (key_called names flags code)
 key_spelled names flags code good has known = by (nat_lt code 256) has
   where

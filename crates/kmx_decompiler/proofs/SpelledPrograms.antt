@@ -1,4 +1,4 @@
--- The program of tables of which no cause holds is one that a text can say.
+-- If tables have no cause, a text can express their program.
 use Rattle.std.proofs.Common.{◌≡◌, ℕ, zero, suc, ◌+◌, ◌<◌, ◌≤◌, ◌⊎◌, inl, inr, Bool, true, false, ◌||◌, List, [], ◌∷◌, ◌++◌, length, map, Option, None, Some, refl, ◌∙◌, ap, subst, arith, if◌then◌else◌}
 use Rattle.std.specs.Prelude.{All, nat_eq, slice_get, unwrap_or, option_map, find, flat_map, fold, max, not, ◌&&◌}
 use Rattle.std.specs.List.{list_any, list_all, AllByRecursion}
@@ -29,7 +29,7 @@ use Rattle.decompile_program.specs.Names.{written_ids, named_stores}
 use Rattle.decompile_program.specs.Marks.{element_marks, pattern_marks, output_marks, rule_marks, group_marks, store_marks, table_marks, greatest_mark}
 use Rattle.decompile_program.specs.Items.{Names, group_called, back_element}
 use Rattle.kmx_format.specs.Versions.{file_versions, version_text}
-use Rattle.rule_model.specs.Dictionary.{is_nameable}
+use Rattle.virtual_keys.specs.Dictionary.{is_nameable}
 use Rattle.kmn_parser.specs.ProgramLaws.{IsCharacter}
 use Rattle.kmn_parser.specs.Names.{is_inner}
 use Rattle.decompile_program.specs.Back.{back_stores, numbered, stated_marks, stated_key, mark_store, key_store, version_store, back_begins, free_stores, mark_stores, key_stores, front_stores, names_for, written_stores, written_begins, back}
@@ -51,7 +51,7 @@ use Rattle.kmn_lines.proofs.TextSizes.{clash}
 abbrev ansi_begin : Names → ℕ → Tables → BeginDef
 ansi_begin names line tables = record { line = line; unicode = false; group = group_called names tables.start_ansi }
 
--- the deadkeys are near
+-- a deadkey has a number that a source can have
 abbrev IsNear : ℕ → Type 0
 IsNear m = m ≤ DEADKEYS
 
@@ -103,7 +103,7 @@ module _ (tables : Tables) (said : IsSayable tables) where
       (All-append IsNear (flat_map store_marks tables.stores) (flat_map group_marks tables.groups)
       (near-stores 0 tables.stores said.stores) (joined (IsSayableGroup names) IsNear group_marks near-group tables.groups said.groups))
 
--- the system stores that are written have names
+-- each system store that is written has a name
 ids-known : (n : ℕ) (ids : List ℕ) → list_all is_system_id ids ≡ true → list_any (nat_eq n) ids ≡ true → is_system_id n ≡ true
 ids-known n [] known h = absurd (cc)
 ids-known n (id ∷ ids) known h = by (nat_eq n id) refl h (λ g. ids-known n ids (and_parts (is_system_id id) (list_all is_system_id ids) known).1 g)
@@ -133,7 +133,7 @@ module _ (names : Names) (keys : All IsKeyName names.keys) (options : List ℕ) 
     content = λ e. content;
   }
 
-  -- those behind the front
+  -- a store after the front stores has content that can be written
   abbrev IsContent : Store → Type 0
   IsContent store = AreSpelled section.Store unseen (map (back_element names) store.elements)
 
@@ -146,7 +146,7 @@ module _ (names : Names) (keys : All IsKeyName names.keys) (options : List ℕ) 
   stores-spelled named k line (Some name ∷ calls) (store ∷ stores) h c =
       (refl, store-spelled line name store h.0 h.1 c.0, stores-spelled named (k + 1) (line + 1) calls stores h.2 c.1)
 
-  -- the front stores
+  -- a front store that can be written
   abbrev IsFront : (ℕ → StoreDef) → Type 0
   IsFront store = (line : ℕ) → ((store line).line ≡ line) × IsSpelledStore (store line)
 
@@ -188,7 +188,7 @@ module _ (names : Names) (keys : All IsKeyName names.keys) (options : List ℕ) 
         tt,
       )
 
--- the texts of versions can stand in quotes
+-- the texts of versions can be quoted
 nameable-all : (cs : List ℕ) → list_all is_nameable cs ≡ true → All IsCharacter cs
 nameable-all [] h = All-nil IsCharacter
 nameable-all (c ∷ cs) h =

@@ -1,4 +1,4 @@
--- The rules and groups of tables of which no cause holds can be written.
+-- If tables have no cause, their rules and groups can be written.
 use Rattle.std.proofs.Common.{◌≡◌, ℕ, suc, ◌+◌, ◌<◌, ◌≤◌, Bool, true, false, ◌||◌, List, [], ◌∷◌, ◌++◌, length, drop, map, refl, sym, ap, subst, arith, length-drop}
 use Rattle.std.specs.Prelude.{All, nat_eq, nat_lt, slice_get, unwrap_or, filter}
 use Rattle.std.specs.List.{list_any, AllByRecursion}
@@ -120,7 +120,7 @@ module _ (tables : Tables) (can : IsPlayable tables) (said : IsSayable tables) (
   output-spelled output.Beep g h s i = tt
   output-spelled output.Stop g h s i = tt
 
-  -- the system options are those that a source can name
+  -- a system option of an item is one that a source can name
   abbrev HasSystemId : Pat → Type 0
   HasSystemId p = has_system_id p ≡ true
 

@@ -1,5 +1,5 @@
--- Each store of an accepted program comes of a statement: it has the elements of the statement's items, and nothing of
--- the statement is refused.
+-- Each store of an accepted program is built from a statement: it has the elements of the statement's items, and no part of the
+-- statement is refused.
 use Rattle.std.proofs.Common.{◌≡◌, ℕ, Bool, true, false, not, ◌&&◌, ◌||◌, List, [], ◌∷◌, ◌++◌, map, None, refl, sym, ◌∙◌, ap, subst, if◌then◌else◌, append-nil, append_assoc}
 use Rattle.std.specs.Prelude.{All, flat_map, nat_eq}
 use Rattle.std.specs.List.{list_any, AllByRecursion}
@@ -16,11 +16,11 @@ use Rattle.rule_model.specs.declared.program.Program.{Program}
 use Rattle.rule_model.specs.declared.tables.Store.{Store}
 use Rattle.rule_model.specs.Naming.{stores_of, stores_onto, store_of, is_dropped}
 use Rattle.kmn_parser.specs.ProgramLaws.{IsReadStore}
-use Rattle.kmn_names.specs.First.{broken, first_code, first_of}
-use Rattle.kmn_names.specs.declared.stating.Stated.{Stated}
-use Rattle.kmn_names.specs.Names.{stated, is_named, kept_name, store_names, is_store_again}
-use Rattle.kmn_names.specs.Names.{store_refusal as name_refusal, store_item_code as name_item_code, store_code as name_code}
-use Rattle.kmn_names.specs.Known.{Known, known, brought, statement_elements}
+use Rattle.store_table.specs.First.{broken, first_code, first_of}
+use Rattle.store_table.specs.declared.stating.Stated.{Stated}
+use Rattle.store_table.specs.Names.{stated, is_named, kept_name, store_names, is_store_again}
+use Rattle.store_table.specs.Names.{store_refusal as name_refusal, store_item_code as name_item_code, store_code as name_code}
+use Rattle.store_table.specs.Known.{Known, known, brought, statement_elements}
 use Rattle.item_checker.specs.Items.{is_no_character, is_left_out, is_layout_text, is_system_text, is_other_text, puts_option, wants_characters, wants_plain_keys, brings_no_character, brings_no_plain_key, store_item_code, store_head_code, store_code, store_refusal}
 use Rattle.rule_checker.specs.Refused.{IsRead}
 use Rattle.rule_checker.proofs.Unrefused.{none_earlier, none_at_line, none_broken, Stands, none_first}
@@ -30,7 +30,7 @@ use Rattle.kmx_decompiler.specs.Causes.{is_unspelled_system}
 use Rattle.kmx_decompiler.specs.Written.{IsWrittenStore, WasWritten}
 use Rattle.kmx_decompiler.proofs.Conjunctions.{fails-when, second-fails}
 
--- the statement of a store of the file
+-- a store of the file and the statement from which it is built
 pub record IsStatedStore (facts : Known) (s : Store) : Type 0 where
   pub statement : StoreDef
   pub system : s.system ≡ statement.system
@@ -91,14 +91,14 @@ codes-none : (facts : Known) (stores : List StoreDef) → AllByRecursion (Stands
 codes-none facts [] h = tt
 codes-none facts (store ∷ stores) h = (none_at_line store.line (store_code facts store) h.0.1, codes-none facts stores h.1)
 
--- so it is with all stores of the program
+-- if a program is accepted and was written as a source writes it, each of its stores is built from a statement
 pub all_stated : (program : Program) → IsRead program → IsUnrefused program → WasWritten program → All (IsStatedStore (known program)) (stores_of program)
 unfolding known stores_of
 all_stated program read whole written =
     stores-stated (known program) (stated program) [] [] program.stores refl whole.stores refl read.statements.stores written.stores
     (codes-none (known program) program.stores (none_first (store_refusal (known program)) [] program.stores whole.store_items)) (All-nil (IsStatedStore (known program)))
 
--- where characters are wanted of a statement there are characters alone
+-- if a statement must have only characters, its store has only characters
 module _ (facts : Known) (s : Store) (stated : IsStatedStore facts s) where
   abbrev def : StoreDef
   def = stated.statement
@@ -124,7 +124,7 @@ module _ (facts : Known) (s : Store) (stated : IsStatedStore facts s) where
   pub characters_alone : wants ≡ true → list_any is_no_character s.elements ≡ false
   characters_alone want = ap (list_any is_no_character) stated.elements ∙ items-alone def.items want code_parts.1
 
-  -- no cause holds of a system store
+  -- a system store has no cause
   layout : (system : ℕ) → system ≡ 17 → (not (list_any is_no_character s.elements) && not (is_system_text system s.elements)) ≡ false → list_any is_no_character s.elements ≡ false → not (is_layout_text s.elements) ≡ false
   layout system e other alone =
       second-fails (not (list_any is_no_character s.elements)) (not (is_layout_text s.elements)) (λ i. not (alone i))

@@ -1,4 +1,4 @@
--- When nothing of a store statement that is written out of tables is refused.
+-- The conditions under which no part of a store statement that is written out of tables is refused.
 use Rattle.std.proofs.Common.{◌≡◌, ℕ, ◌+◌, ◌<◌, Bool, true, false, not, ◌&&◌, List, [], ◌∷◌, ◌++◌, length, map, None, refl, sym, subst, arith, if◌then◌else◌}
 use Rattle.std.specs.Prelude.{flat_map, nat_eq}
 use Rattle.std.specs.List.{list_any, AllByRecursion, range_with_len}
@@ -12,8 +12,8 @@ use Rattle.rule_model.specs.declared.program.SrcItem.{SrcItem}
 use Rattle.rule_model.specs.declared.program.SrcItem.TheVariants as source
 use Rattle.rule_model.specs.declared.program.StoreDef.{StoreDef}
 use Rattle.kmx_format.specs.Versions.{is_version, version_numbers}
-use Rattle.kmn_names.specs.First.{first_code}
-use Rattle.kmn_names.specs.Known.{Known, brought, statement_elements}
+use Rattle.store_table.specs.First.{first_code}
+use Rattle.store_table.specs.Known.{Known, brought, statement_elements}
 use Rattle.item_checker.specs.Items.{is_option, is_no_character, is_left_out, is_layout_text, is_system_text, is_other_text, puts_option, wants_characters, wants_plain_keys, brings_no_character, brings_no_plain_key, store_item_code, store_head_code, store_code}
 use Rattle.decompile_program.specs.Items.{Names, back_element}
 use Rattle.decompile_program.specs.Names.{written_ids}
@@ -22,7 +22,7 @@ use Rattle.kmx_decompiler.specs.Causes.{is_unspelled_system}
 use Rattle.kmx_decompiler.proofs.UnrefusedRules.{no-else, no-broken}
 
 module _ (known : Known) where
-  -- nothing of a store statement is refused
+  -- no part of a store statement is refused
   abbrev pub IsFineStore : StoreDef → Type 0
   IsFineStore store = store_code known store ≡ None
 
@@ -35,14 +35,14 @@ module _ (known : Known) where
       (and_right (not (list_any is_no_character (statement_elements known store))) (not (is_system_text store.system (statement_elements known store)))
       (not_from_true (is_system_text store.system (statement_elements known store)) text)) refl)) items
 
-  -- the version of a file is one that a source can state
+  -- if the version of a file is valid, a source can state it
   pub version_fine : (version line : ℕ) → is_version version ≡ true → IsFineStore (version_store version line)
   version_fine version line is =
       listed (λ (v : ℕ). IsFineStore (version_store v line))
       version_numbers version
       (refl, (refl, (refl, (refl, (refl, (refl, (refl, (refl, (refl, tt))))))))) is
 
-  -- the stores of deadkeys and keys are no options
+  -- no item of the stores of deadkeys and keys is refused if these stores are not options
   marks-fine : (ms : List ℕ) → first_code (store_item_code known false false) (map (λ m. source.Dead (decimal m)) ms) ≡ None
   marks-fine [] = refl
   marks-fine (m ∷ ms) = marks-fine ms
@@ -125,7 +125,7 @@ module _ (known : Known) where
     layout-fine : (line : ℕ) (name : List ℕ) (es : List Element) → is_layout_text es ≡ true → IsFineStore (written line 17 name es)
     layout-fine line name es h = let layout = layout-text es h in back-fine line 17 name es refl refl layout.0 (λ t. layout.1)
 
-    -- a system store of which no cause holds
+    -- if a system store has no cause, no part of its statement is refused
     abbrev SystemFine : List ℕ → List Element → ℕ → Type 0
     SystemFine name es system = (line : ℕ) → is_unspelled_system (record { system = system; name = name; elements = es }) ≡ false → IsFineStore (written line system name es)
 

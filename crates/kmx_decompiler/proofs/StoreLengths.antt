@@ -1,4 +1,4 @@
--- The lengths of the stores that the statements of a text stand for.
+-- The lengths of the stores that the statements of a text represent.
 use Rattle.std.proofs.Common.{◌≡◌, ℕ, suc, ◌+◌, ◌-◌, Bool, true, false, List, [], ◌∷◌, ◌++◌, length, drop, map, Option, None, Some, is_some, refl, sym, ap, ◌∙◌, arith, length-append, if◌then◌else◌}
 use Rattle.std.specs.Prelude.{All, flat_map, nat_eq, slice_get, unwrap_or, chars}
 use Rattle.std.specs.List.{range_with_len, join_with_byte}
@@ -17,12 +17,12 @@ use Rattle.rule_model.specs.declared.tables.Store.{Store}
 use Rattle.rule_model.specs.declared.tables.Tables.{Tables}
 use Rattle.rule_model.specs.Tab.{tab_dictionary}
 use Rattle.rule_model.specs.Naming.{SourceNames, item_elements, store_of}
-use Rattle.kmx_format.specs.Numbers.{dictionary_stores, value_store}
+use Rattle.compile_laws.specs.Numbers.{dictionary_stores, value_store}
 use Rattle.rule_checker.proofs.Sizes.{space_chars}
 use Rattle.decompile_program.specs.Marks.{greatest_mark}
 use Rattle.decompile_program.specs.Items.{Names, back_element}
 use Rattle.kmx_format.specs.Versions.{version_text}
-use Rattle.kmx_format.proofs.Dictionary.{space_text}
+use Rattle.compile_laws.proofs.Dictionary.{space_text}
 use Rattle.decompile_program.specs.Back.{back_stores, numbered, stated_marks, stated_key, mark_store, key_store, mark_stores, key_stores, front_stores, free_stores, names_for, written_stores}
 use Rattle.decompile_text.proofs.WholeTexts.{first_left, one_less}
 use Rattle.kmx_decompiler.specs.Counting.{some_length, called_lengths, spaced_size, joined_length}
@@ -32,7 +32,7 @@ abbrev pub length_of : Store → ℕ
 length_of store = length store.elements
 
 module _ (names : SourceNames) where
-  -- the lengths of the stores of statements that put no other store
+  -- the lengths of the stores of statements that do not insert other stores
   abbrev pub lengths : List StoreDef → List ℕ
   lengths stores = map length_of (map (store_of names []) stores)
 
@@ -61,7 +61,7 @@ module _ (names : SourceNames) where
       by true = h line
       by false = λ j. all j ∷ h (line + 1) j
 
-  -- the version, the deadkeys and the keys
+  -- the lengths of the front stores: the version, the deadkeys and the custom keys
   pub front_lengths : (tables : Tables)
       → lengths (numbered 1 (front_stores tables)) ≡ length (version_text tables.version) ∷ (some_length (greatest_mark tables) ++ some_length (length (tab_dictionary tables.stores)))
   front_lengths tables =
@@ -70,7 +70,7 @@ module _ (names : SourceNames) where
       λ j. singles names source.Char (λ c. refl) (version_text tables.version) j
       ∷ mark-length (1 + 1) (greatest_mark tables) marks (key_stores tables) (some_length (length (tab_dictionary tables.stores))) (λ line. key-length line keys (tab_dictionary tables.stores)) j
 
-  -- the stores of the file, by what they are called
+  -- the lengths of the stores of the file that the text contains, by what they are called
   abbrev listed : List (Option (List ℕ)) → List Store → List ℕ
   listed calls [] = []
   listed calls (store ∷ stores) = (if is_some (unwrap_or (slice_get calls 0) None) then length store.elements ∷ [] else []) ++ listed (drop 1 calls) stores
@@ -93,7 +93,7 @@ module _ (names : SourceNames) where
       let here : slice_get calls 0 ≡ slice_get all n = ap (λ (left : List (Option (List ℕ))). slice_get left 0) e ∙ first_left all n in
       λ j. (if is_some (unwrap_or (here j) None) then length store.elements ∷ [] else []) ++ from_number all (n + 1) (drop 1 calls) stores (ap (drop 1) e ∙ one_less all n) j
 
-  -- all statements of the text
+  -- the lengths of the stores of all statements of the text
   pub written_lengths : (tables : Tables)
       → lengths (written_stores tables)
       ≡ (length (version_text tables.version) ∷ (some_length (greatest_mark tables) ++ some_length (length (tab_dictionary tables.stores)))) ++ called_lengths (names_for tables).stores 0 tables.stores
@@ -103,7 +103,7 @@ module _ (names : SourceNames) where
       ∙ (λ j. front_lengths tables j
       ++ (back-listed (names_for tables) (1 + length (front_stores tables)) calls tables.stores ∙ from_number calls 0 calls tables.stores refl) j)
 
--- the names of a dictionary, joined by spaces
+-- the names of a dictionary that are joined by spaces have one character less than the spaced size
 joined-size : (name : List ℕ) (names : List (List ℕ)) → All IsUtf8 (name ∷ names) → length (chars (join_with_byte 32 (name ∷ names))) + 1 ≡ spaced_size (name ∷ names)
 joined-size name [] utf8 = let here = counted-characters name (All-head IsUtf8 name [] utf8) in omega (arith, here)
 joined-size name (next ∷ names) utf8 =
@@ -121,7 +121,7 @@ joined-size name (next ∷ names) utf8 =
       length-append (chars (32 ∷ [])) (chars (join_with_byte 32 (next ∷ names))),
     )
 
--- the store of the dictionary, and those of values
+-- the length of the store of the dictionary, and the lengths of the stores of values
 pub dictionary_length : (names : List (List ℕ)) → All IsUtf8 names → map length_of (dictionary_stores names) ≡ joined_length names
 dictionary_length [] utf8 = refl
 dictionary_length (name ∷ names) utf8 =

@@ -24,7 +24,7 @@ use Rattle.kmn_parser.specs.Spelled.{IsStoreName}
 use Rattle.kmn_parser.proofs.Words.{none-or}
 use Rattle.decompile_program.specs.Names.{numbered_name}
 
--- a byte of a word, which begins no number, and no name of a system store
+-- a byte of a word that does not begin a number or the name of a system store
 pub record IsTame (byte : ℕ) : Type 0 where
   pub low : 48 ≤ byte
   pub high : byte < 117
@@ -76,7 +76,7 @@ module _ (b : ℕ) (bytes : List ℕ) (t : AllByRecursion IsTame (b ∷ bytes)) 
       ∙ cond-false (is_unequal b (first_or_end bytes)) _ _ not-unequal
       ∙ none-or (single b) kind.Word plain_alone
 
--- it is no start of U+0000 or U+FFFF
+-- such a byte does not begin U+0000 or U+FFFF
 allowed-here : (b : ℕ) (bytes : List ℕ) → IsTame b → begins_forbidden (b ∷ bytes) ≡ false
 unfolding begins_forbidden
 allowed-here b bytes t =
@@ -142,7 +142,7 @@ tame-digits : (ds : List ℕ) → AllDigits 10 ds → AllByRecursion IsTame ds
 tame-digits [] h = tt
 tame-digits (d ∷ ds) h = let range = digit_from_value d h.0 in (tame-digit d range.0 range.1, tame-digits ds h.1)
 
--- the number of a deadkey, and a name from a letter on
+-- the number of a deadkey, and a letter followed by a number, are names
 pub number_name : (n : ℕ) → n < 10 ^ 9 → IsStoreName (decimal n)
 number_name n small =
     let numeral = decimal_is_IsNumeral n (omega arith) in

@@ -1,4 +1,4 @@
--- What is counted of tables is what the program has that they are written out as.
+-- The counts of tables are the numbers of stores and elements that the program of the tables compiles to.
 use Rattle.std.proofs.Common.{◌≡◌, ℕ, List, [], ◌∷◌, ◌++◌, length, map, sym, ap, ◌∙◌, append_assoc}
 use Rattle.std.specs.Prelude.{All, sum}
 use Rattle.std.specs.Str.{IsUtf8}
@@ -12,7 +12,7 @@ use Rattle.rule_model.specs.Tab.{tab_dictionary}
 use Rattle.rule_model.specs.Naming.{names_of, stores_of}
 use Rattle.kmx_format.specs.Writable.{elements_of}
 use Rattle.kmx_format.specs.Playable.{IsPlayable}
-use Rattle.kmx_format.specs.Numbers.{dictionary_stores, value_store, values_of, compiled_stores}
+use Rattle.compile_laws.specs.Numbers.{dictionary_stores, value_store, values_of, compiled_stores}
 use Rattle.decompile_program.specs.Marks.{greatest_mark}
 use Rattle.kmx_format.specs.Versions.{version_text}
 use Rattle.decompile_program.specs.Back.{names_for, written_stores, back}

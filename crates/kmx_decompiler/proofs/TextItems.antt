@@ -1,4 +1,4 @@
--- A text has four bytes and more for each item of a rule.
+-- A text has at least four bytes for each item of a rule.
 use Rattle.std.proofs.Common.{◌≡◌, ℕ, suc, ◌+◌, ◌*◌, ◌≤◌, Bool, List, [], ◌∷◌, ◌++◌, length, map, Option, None, Some, ap, arith, length-append}
 use Rattle.std.specs.Prelude.{flat_map}
 use Rattle.std.specs.List.{sum_by}
@@ -23,7 +23,7 @@ use Rattle.kmn_parser.specs.Programs.{rule_line, group_lines, program_text}
 use Rattle.kmn_parser.specs.Spelled.{IsSpelledItem, item_lead, seen_lead, AreSpelled, IsSpelledKind, AreSpelledRules, AreSpelledGroups, IsSpelled}
 use Rattle.kmn_parser.proofs.Lengths.{sheet_append, sheet_length, printed_append, least_length, item_long}
 
--- the items of a rule of a source besides its key
+-- the number of items of a rule of a source, not counting its key
 abbrev pub stated_size : RuleDef → ℕ
 stated_size rule = length rule.context + length rule.output
 

@@ -20,7 +20,7 @@ use Rattle.kmx_decompiler.specs.Laws.{NamesAreText}
 high_scalar : (c : ℕ) → 0xE000 ≤ c → c < 0x11_0000 → scalar c ≡ true
 high_scalar c from below = rw (le-ltb c 0xD800 (omega arith), le-leb 0xE000 c from, lt-ltb c 0x11_0000 below)
 
--- a unit that stands alone is a character, or U+FFFD stands for it
+-- a unit that is not part of a surrogate pair is a character, or U+FFFD replaces it
 lone-scalar : (u : ℕ) → u < 65536 → scalar (unwrap_or (lone_unit_char u) 0xFFFD) ≡ true
 lone-scalar u small = elim (cases_lt u 0xD800) [
   | inl low ↦ ap (λ o. scalar (unwrap_or o 0xFFFD)) (lone_unit_char_low u low) ∙ low_scalar u low
@@ -41,7 +41,7 @@ pair-scalar u v h =
     let below2 : v < 0xE000 = ltb-true _ _ low.1 in
     high_scalar (surrogate_pair_char u v) (omega (arith, from, below, from2, below2)) (omega (arith, from, below, from2, below2))
 
--- units of 16 bits stand for characters
+-- units of 16 bits represent characters
 units-scalar : (units : List ℕ) → AllByRecursion (λ unit. unit < 65536) units → scalars (utf16_lossy_chars units) ≡ true
 unfolding utf16_chars
 units-scalar [] h = refl

@@ -20,7 +20,7 @@ use Rattle.rule_model.specs.declared.tables.Group.{Group}
 use Rattle.rule_model.specs.declared.tables.Tables.{Tables}
 use Rattle.rule_model.specs.Tab.{distinct_onto}
 use Rattle.rule_model.specs.Naming.{rule_items}
-use Rattle.kmx_format.specs.Numbers.{item_values, values_of}
+use Rattle.compile_laws.specs.Numbers.{item_values, values_of}
 use Rattle.decompile_program.specs.Items.{Names, value_called, back_pattern, back_output, back_key, some_items}
 use Rattle.decompile_program.specs.Back.{back_rule, back_rules, back_statement, match_line, nomatch_line, back_group, back_groups, names_for, written_stores, written_begins, back}
 use Rattle.decompile_program.specs.WrittenOut.{pattern_values, output_values, rule_values, group_values, table_values}

@@ -1,4 +1,4 @@
--- The text of a file compiles to a file that takes its steps; nothing stands against the text of a compiled file but its size.
+-- The text of a file compiles to a file that takes its steps, and a file that a source compiles to has a text unless it is too large.
 use Rattle.std.proofs.Common.{◌≡◌, ℕ, ◌≤◌, false, List, [], length, Some, None, Result, Ok, Err, refl, sym, ap, ◌∙◌, subst, nat_lt, arith}
 use Rattle.std.proofs.lemmas.Bool.Decides.{nat_tests}
 use Rattle.kmn_base.specs.declared.limits.TheConstants.{FILE_BYTES}
@@ -14,10 +14,10 @@ use Rattle.rule_checker.specs.Refused.{checked}
 use Rattle.kmx_format.specs.File.{file_of}
 use Rattle.kmx_format.specs.TablesOf.{tables_of}
 use Rattle.kmx_format.specs.Writable.{IsFile}
-use Rattle.kmn_compiler.specs.Excess.{excess as file_excess}
-use Rattle.kmx_format.specs.Compiles.{Compiles}
-use Rattle.kmx_format.specs.Ordered.{compiled_tables}
-use Rattle.kmx_format.proofs.Ordered.{program_compiles}
+use Rattle.kmx_writer.specs.Excess.{excess as file_excess}
+use Rattle.compile_laws.specs.Compiles.{Compiles}
+use Rattle.compile_laws.specs.Ordered.{compiled_tables}
+use Rattle.compile_laws.proofs.Ordered.{program_compiles}
 use Rattle.kmn_parser.specs.Programs.{program_text}
 use Rattle.decompile_program.specs.Back.{back}
 use Rattle.kmx_decompiler.specs.Excess.{excess as text_excess}
@@ -29,14 +29,14 @@ use Rattle.kmn_compiler.specs.Source.{CompilesTo}
 use Rattle.kmn_compiler.specs.declared.compiling.Compiled.{Compiled}
 use Rattle.kmx_decompiler.specs.RoundTrips.{CompiledFilesHaveTexts, TakesStepsOf, TextsCompile}
 
--- a file within the limits, without a picture, passes none of them
+-- a file within the limits, without a picture, exceeds none of them
 passes_no_limit : (tables : Tables) → IsFile (file_of tables []) → file_excess tables [] ≡ None
 passes_no_limit tables file =
     let size = file.file_size in
     let small : nat_lt FILE_BYTES (length (file_of tables [])) ≡ false = grind (arith, nat_tests) in
     rw small refl
 
--- a source that is accepted as a program whose tables fit in a file, and take the steps of bytes, compiles to such a file
+-- if a source is accepted as a program whose tables fit in a file and take the steps of bytes, it compiles to such a file
 module _ (bytes : List ℕ) (program : Program)
     (fits : (tables : Tables) → Compiles program tables → IsFile (file_of tables []))
     (keeps : (tables : Tables) → Compiles program tables → (events : List Event) → trace (tab tables) events ≡ trace (tab (tables_of bytes)) events) where

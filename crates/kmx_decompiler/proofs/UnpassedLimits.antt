@@ -1,4 +1,4 @@
--- Limits that all statements of a program keep together are passed at none of them.
+-- If all statements of a program together are within the limits, no statement exceeds a limit.
 use Rattle.std.proofs.Common.{◌≡◌, ℕ, ◌+◌, ◌≤◌, Bool, true, false, ◌||◌, List, [], ◌∷◌, ◌++◌, length, map, None, refl, sym, ◌∙◌, ap, subst, arith, append-nil, append_assoc, length-append, if◌then◌else◌}
 use Rattle.std.specs.Prelude.{nat_lt, flat_map, sum}
 use Rattle.std.specs.List.{list_any, AllByRecursion}
@@ -14,8 +14,8 @@ use Rattle.kmn_base.specs.Names.{same_name}
 use Rattle.rule_model.specs.declared.program.GroupDef.{GroupDef}
 use Rattle.rule_model.specs.Tab.{distinct_onto}
 use Rattle.rule_model.specs.Naming.{mark_names, key_names}
-use Rattle.kmn_names.specs.First.{broken, first_of}
-use Rattle.kmn_names.specs.Known.{Known}
+use Rattle.store_table.specs.First.{broken, first_of}
+use Rattle.store_table.specs.Known.{Known}
 use Rattle.rule_checker.specs.Limits.{Statement, line_of, items_of, values_of_statement, records_of_statement, statement_size, names_size, dictionary_size, sizes, mark_count, all_records, is_long_context, is_long_output, have_many_elements, are_many_stores, have_many_marks, have_many_records, are_many_groups, limit_code, statement_refusal, group_refusal}
 use Rattle.rule_checker.proofs.FirstPassed.{sum_append}
 use Rattle.rule_checker.proofs.Gathered.{distinct_append}
@@ -26,7 +26,7 @@ record Begins {X : Type 0} (front whole : List X) : Type 0 where
   more : List X
   is : whole ≡ front ++ more
 
--- what is kept once each of more begins with what is kept of less
+-- the distinct elements of a longer list begin with the distinct elements of its beginning
 distinct-more : {X : Type 0} (same : X → X → Bool) (ys seen : List X) → Begins seen (distinct_onto same seen ys)
 distinct-more same [] seen = record { more = []; is = sym (append-nil seen) }
 distinct-more {X} same (y ∷ ys) seen = by (list_any (λ x. same x y) seen) (distinct-more same ys seen) (distinct-more same ys (seen ++ y ∷ []))
@@ -40,7 +40,7 @@ distinct-begins : {X : Type 0} (same : X → X → Bool) (xs ys : List X) → Be
 distinct-begins same xs ys =
     let more = distinct-more same ys (distinct_onto same [] xs) in record { more = more.more; is = distinct_append same [] xs ys ∙ more.is }
 
--- sizes that are no more than others: in count, in sum, and each within the limit where all of the others are
+-- sizes that are not more than others in count and in sum, and are all within the limit if all of the others are
 record IsWithin (few many : List ℕ) : Type 0 where
   count : length few ≤ length many
   total : sum few ≤ sum many
@@ -62,7 +62,7 @@ within-both a b c d one two = record {
       list_any-append (nat_lt STORE_ELEMENTS) a c ∙ (λ i. one.each parts.0 i || two.each parts.1 i);
 }
 
--- the key dictionary
+-- the size of joined key names is the sum of their sizes
 names-more : (front more : List (List ℕ)) → names_size (front ++ more) ≡ names_size front + names_size more
 names-more [] more = omega arith
 names-more (name ∷ front) more = let rest = names-more front more in omega (arith, rest)
@@ -103,7 +103,7 @@ sizes-within known few many b =
     (within-both (dictionary_size (distinct_onto same_name [] (flat_map key_names (flat_map items_of few)))) (dictionary_size (distinct_onto same_name [] (flat_map key_names (flat_map items_of many)))) _ _
     (dictionary-within _ _ names) (within-begins _ _ (map-begins length _ _ values)))
 
--- all limits kept by all statements together
+-- all statements together are within all limits
 pub record KeepsLimits (known : Known) (all : List Statement) : Type 0 where
   pub elements : have_many_elements (sizes known all) ≡ false
   pub stores : length (sizes known all) ≤ STORES

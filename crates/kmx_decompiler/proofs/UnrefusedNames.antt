@@ -17,9 +17,9 @@ use Rattle.rule_model.specs.declared.tables.Tables.{Tables}
 use Rattle.rule_model.specs.Tab.{tab_dictionary}
 use Rattle.kmx_format.specs.TablesOf.{tables_of}
 use Rattle.kmx_format.specs.Playable.{IsPlayable}
-use Rattle.kmn_names.specs.declared.stating.Stated.{Stated}
-use Rattle.kmn_names.specs.First.{broken, first_code, first_of}
-use Rattle.kmn_names.specs.Names.{is_named, kept_name, store_names, group_names, stated, is_begun, begins_no_group, is_store_again, begin_code, begin_refusal, store_item_code, store_code, store_refusal, group_refusal, names_refusal}
+use Rattle.store_table.specs.declared.stating.Stated.{Stated}
+use Rattle.store_table.specs.First.{broken, first_code, first_of}
+use Rattle.store_table.specs.Names.{is_named, kept_name, store_names, group_names, stated, is_begun, begins_no_group, is_store_again, begin_code, begin_refusal, store_item_code, store_code, store_refusal, group_refusal, names_refusal}
 use Rattle.decompile_program.specs.Names.{named_stores, free_names}
 use Rattle.decompile_program.specs.Marks.{greatest_mark}
 use Rattle.decompile_program.specs.Items.{Names, store_called, group_called}
@@ -27,7 +27,7 @@ use Rattle.kmx_format.specs.Versions.{version_text}
 use Rattle.decompile_program.specs.Back.{back_stores, back_groups, back_begins, numbered, stated_marks, stated_key, mark_store, key_store, mark_stores, key_stores, front_stores, free_stores, names_for, written_stores, written_begins, written_groups, back}
 use Rattle.decompile_program.specs.WrittenOut.{is_ordinary, CanBeWrittenOut}
 use Rattle.decompile_program.proofs.Apart.{Differs, AreFree, AreApart, own_name, later, free-differs, names_apart, same-turned, source-some}
-use Rattle.rule_model.proofs.NamePlaces.{same_name-self}
+use Rattle.virtual_keys.proofs.NamePlaces.{same_name-self}
 use Rattle.decompile_program.proofs.Free.{AreDistinct, free_names-free, free_names-count}
 use Rattle.decompile_program.proofs.Groups.{group_name, groups_apart, names_taken, group_count}
 use Rattle.decompile_program.proofs.Good.{IsNamed, groups_good}
@@ -46,7 +46,7 @@ use Rattle.kmx_decompiler.proofs.KnownNames.{no_rule_unknown}
 use Rattle.kmx_decompiler.proofs.UnrefusedRules.{no-else, no-earlier, no-line, no-broken}
 use Rattle.kmn_lines.proofs.TextSizes.{clash}
 
--- free names aren't empty, and the first two are told apart
+-- free names are not empty, and the first two differ
 pub some-at : (taken : List (List ℕ)) (i : ℕ) (names : List (List ℕ)) → AreFree taken names → i < length names → same_name (unwrap_or (slice_get names i) []) [] ≡ false
 some-at taken i [] f less = absurd (omega arith)
 some-at taken zero (name ∷ names) f less = f.0.some
@@ -64,7 +64,7 @@ have-names named k (Some name ∷ calls) [] h = tt
 have-names named k (None ∷ calls) (store ∷ stores) h = have-names named (k + 1) calls stores h.1
 have-names named k (Some name ∷ calls) (store ∷ stores) h = ((λ o. source-some name (h.0 o).named.read), have-names named (k + 1) calls stores h.2)
 
--- stores in front of others, none of which is refused behind stores of these names
+-- stores before others, none of which is refused for its name after stores with these names
 abbrev HasNoFault : Stated → StoreDef → Type 0
 HasNoFault stated store = (before : List (List ℕ)) → first_code (store_item_code stated before) store.items ≡ None
 
@@ -105,7 +105,7 @@ no-other : (a x : List ℕ) → same_name x [] ≡ false → same_name x a ≡ f
 no-other a x some other =
     named-cons [] (a ∷ []) x ∙ or_from (same_name x []) (is_named (a ∷ []) x) some (named-cons a [] x ∙ or_from (same_name x a) (is_named [] x) other (named-none x))
 
--- the stores of deadkeys and keys behind the version
+-- the stores of deadkeys and keys after the version are not refused, and their names differ from the names that come later
 abbrev IsFront : Stated → List (Option (List ℕ)) → List (List ℕ) → List StoreDef → Type 0
 IsFront stated calls names front = AreFine stated names front × AllByRecursion (Later calls) (store_names front)
 
@@ -127,7 +127,7 @@ mark-front stated calls line count a b keys some l marked = by (nat_eq count 0) 
         let rest = key-front stated calls ([] ∷ a ∷ []) (line + 1) b keys (no-other a b some parts.1) l in
         ((no-empty a parts.0, (λ before. marks-fine stated before (range_with_len 1 count)), rest.0), (parts.2, rest.1))
 
--- names of groups that are told apart
+-- if names are distinct and differ from the names before them, each of them differs from all names before it
 apart-from : (before names : List (List ℕ)) → AreDistinct names → AllByRecursion (λ b. Differs b names) before → ApartFrom before names
 apart-from before [] d h = tt
 apart-from before (x ∷ names) d h = (none-before before h, apart-from (before ++ x ∷ []) names d.1 (all_join (λ b. Differs b names) before (x ∷ []) (tails before h) (d.0, tt)))
@@ -153,7 +153,7 @@ module _ (tables : Tables) (can : IsPlayable tables) (said : IsSayable tables) (
   pub apart : AreApart names.stores
   apart = names_apart (named_stores tables) taken (drop front_count (free_stores tables)) [] 0 tables.stores (drop-free taken front_count (free_stores tables) (free-all tables can)) (behind-size tables can) (all-taken tables.stores)
 
-  -- a front name that is used is told apart from those behind
+  -- a free name that a front store uses differs from the names of the stores after it
   pub fresh-later : (i : ℕ) → i < front_count → Later names.stores (unwrap_or (slice_get (free_stores tables) i) [])
   fresh-later i less some =
       let fresh = fresh-at taken i front_count (free_stores tables) (free-all tables can) (let size = free-size tables can in let few = front-few tables in omega (arith, size, few, less)) less in
@@ -198,7 +198,7 @@ module _ (tables : Tables) (can : IsPlayable tables) (said : IsSayable tables) (
       (stores_apart stated names (1 + length (front_stores tables)) front names.stores tables.stores (have-names (named_stores tables) 0 names.stores tables.stores calls) apart
       ((λ some. clash (same_name [] []) (same_name-self []) some), more.1))
 
-  -- what items name is stated
+  -- the program states each store that an item names
   store-known : (n : ℕ) → IsNamed tables n → is_named (store_names (written_stores tables)) (store_called names n) ≡ true
   store-known n a =
       ap (λ (all : List (List ℕ)). is_named all (store_called names n)) (flat_map-append kept_name front behind)
@@ -225,7 +225,7 @@ module _ (tables : Tables) (can : IsPlayable tables) (said : IsSayable tables) (
       (free_names-free 103 [] (map group_name tables.groups) (length tables.groups) (omega (arith, l, few)))
       (let c = free_names-count (103 ∷ []) (map group_name tables.groups) (length tables.groups) (omega (arith, l, few)) in omega (arith, c)) (names_taken tables.groups)
 
-  -- begins
+  -- the begin statements
   abbrev unicode_begin : ℕ → BeginDef
   unicode_begin line = record { line = line; unicode = true; group = group_called names tables.start_unicode }
 
@@ -256,7 +256,7 @@ module _ (tables : Tables) (can : IsPlayable tables) (said : IsSayable tables) (
       (begin-fine stated [] (unicode_begin line) refl (known tables.start_unicode can.start_unicode))
       (ansi-fine stated line (nat_eq tables.start_ansi 0xFFFF_FFFF) refl known)
 
-  -- the names of the program
+  -- no name of the program is refused
   pub no_name_refused : names_refusal (back tables) ≡ None
   unfolding names_refusal back
   no_name_refused =

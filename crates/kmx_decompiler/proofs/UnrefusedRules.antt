@@ -1,5 +1,4 @@
--- No item of a rule that is written out of playable tables is refused: offsets point at what they must, and no key is past
--- U+FFFF.
+-- No item of a rule that is written out of playable tables is refused: offsets point at what they must, and no key is above U+FFFF.
 use Rattle.std.proofs.Common.{◌≡◌, ℕ, zero, suc, ◌+◌, ◌^◌, ◌<◌, ◌≤◌, Bool, true, false, List, [], ◌∷◌, ◌++◌, length, take, drop, map, Option, None, Some, is_some, refl, sym, ◌∙◌, subst, arith, append-nil, append_assoc}
 use Rattle.std.specs.Prelude.{All, nat_eq, nat_lt, slice_get, slice_index_or, unwrap_or, IsSomeAnd}
 use Rattle.std.specs.List.{AllByRecursion}
@@ -28,13 +27,13 @@ use Rattle.kmx_format.specs.Writable.{is_any, PointsTo, PointsBack, PointsInto, 
 use Rattle.rule_model.specs.Patterns.{is_matched}
 use Rattle.kmx_format.specs.TablesOf.{tables_of}
 use Rattle.kmx_format.specs.Playable.{IsPlayable, IsPlayableGroup}
-use Rattle.kmn_names.specs.First.{broken, first_code, at_line, earlier, first_of}
-use Rattle.kmn_names.specs.Known.{Known, known}
+use Rattle.store_table.specs.First.{broken, first_code, at_line, earlier, first_of}
+use Rattle.store_table.specs.Known.{Known, known}
 use Rattle.item_checker.specs.Items.{is_pattern_item, is_any_item, passes, points_to, is_key_place, misses_pattern, misses_any, is_far, index_code, context_at_code, context_item_code, context_code, key_code, key_index_code, rule_output_code, match_output_code, rule_code, rule_refusal, rules_refusal}
 use Rattle.decompile_program.specs.Items.{Names, store_called, back_pattern, back_output, back_key, some_items}
 use Rattle.decompile_program.specs.Back.{back_rule, back_rules, back_statement, match_line, nomatch_line, back_group, back_groups, names_for, written_stores, written_begins, back}
 
--- refusals that there aren't
+-- if two parts have no refusal, both together have none
 pub no-else : {A : Type 0} (a b : Option A) → a ≡ None → b ≡ None → option_or a b ≡ None
 no-else None b e f = f
 no-else (Some x) b e f = absurd (cc)
@@ -51,7 +50,7 @@ pub no-broken : (code : Code) (b : Bool) (rows : List (Code × Bool)) → b ≡ 
 no-broken code true rows e f = absurd (cc)
 no-broken code false rows e f = f
 
--- nothing is refused of statements that are refused behind no others
+-- if each statement of a list is not refused, whatever precedes it, no statement of the list is refused
 pub none_of_all : {X : Type 0} (refusal : List X → X → Option Refusal) (P : X → Type 0) → ((before : List X) (x : X) → P x → refusal before x ≡ None)
     → (before xs : List X) → AllByRecursion P xs → first_of refusal before xs ≡ None
 none_of_all refusal P each before [] h = refl
@@ -198,7 +197,7 @@ module _ (names : Names) where
       by output.Beep e = refl
       by output.Stop e = refl
 
-  -- a rule none of whose items is refused
+  -- no item of a rule is refused
   abbrev IsFine : Known → RuleDef → Type 0
   IsFine known rule = rule_code known rule.kind rule ≡ None
 
@@ -245,7 +244,7 @@ module _ (names : Names) where
         groups-fine known stores count (line + 1 + length (back_group names line name group).rules) (drop 1 called) groups (All-tail (IsPlayableGroup stores count) group groups h),
       )
 
-  -- whatever is known of the program, none of its rules is refused for an item
+  -- whatever is known about the program, none of its rules is refused for an item
   pub no_rule_refused : (known : Known) (stores count line : ℕ) (called : List (List ℕ)) (groups : List Group) → All (IsPlayableGroup stores count) groups
       → first_of (rules_refusal known) [] (back_groups names line called groups) ≡ None
   no_rule_refused known stores count line called groups can =

@@ -1,4 +1,4 @@
--- No store that is written out of tables is refused for what it is or for an item.
+-- No store that is written out of tables is refused, as a whole or for an item.
 use Rattle.std.proofs.Common.{◌≡◌, ℕ, zero, suc, ◌+◌, ◌<◌, Bool, true, false, List, [], ◌∷◌, length, Option, None, Some, refl, sym, ap, subst, arith}
 use Rattle.std.specs.Prelude.{nat_eq, slice_get, unwrap_or}
 use Rattle.std.specs.List.{list_any, AllByRecursion}
@@ -13,8 +13,8 @@ use Rattle.rule_model.specs.Tab.{tab_dictionary, tab_options}
 use Rattle.kmx_format.specs.TablesOf.{tables_of}
 use Rattle.kmx_format.specs.Playable.{IsPlayable}
 use Rattle.kmn_parser.specs.Spelled.{IsStoreName}
-use Rattle.kmn_names.specs.First.{first_of}
-use Rattle.kmn_names.specs.Known.{Known, known}
+use Rattle.store_table.specs.First.{first_of}
+use Rattle.store_table.specs.Known.{Known, known}
 use Rattle.item_checker.specs.Items.{is_option, is_no_character, store_code, store_refusal, items_refusal}
 use Rattle.decompile_program.specs.Names.{named_stores, written_ids}
 use Rattle.decompile_program.specs.Marks.{greatest_mark}
@@ -37,7 +37,7 @@ use Rattle.kmx_decompiler.proofs.UnrefusedNames.{apart, fresh-later, one-mark, m
 use Rattle.kmx_decompiler.proofs.UnrefusedRules.{no-earlier, no-line, none_of_all, spelled_rules_stand}
 use Rattle.kmn_lines.proofs.TextSizes.{clash}
 
--- the name by which a list of calls has a number
+-- the name at a number in a list of calls
 abbrev called_at : List (Option (List ℕ)) → ℕ → List ℕ
 called_at calls n = unwrap_or (unwrap_or (slice_get calls n) None) []
 
@@ -48,7 +48,7 @@ each-at x (Some y ∷ calls) zero some h = h.0
 each-at x (None ∷ calls) (suc n) some h = each-at x calls n some h
 each-at x (Some y ∷ calls) (suc n) some h = each-at x calls n some h.1
 
--- names that are told apart, at two numbers
+-- if names are distinct, the names at two different numbers differ
 apart-behind : (y x : List ℕ) (calls : List (Option (List ℕ))) (i : ℕ) → (same_name y [] ≡ false → EachApart y calls) → slice_get calls i ≡ Some (Some x) → same_name x [] ≡ false
     → same_name x y ≡ false
 apart-behind [] x calls i h at some = some
@@ -79,7 +79,7 @@ apart-at (Some y ∷ calls) (suc i) zero x h at some e = apart-behind y x calls 
 apart-at (None ∷ calls) (suc i) (suc j) x h at some e = apart-at calls i j x h at some (one-less i j e)
 apart-at (Some y ∷ calls) (suc i) (suc j) x h at some e = apart-at calls i j x h.1 at some (one-less i j e)
 
--- stores of which nothing is refused, wherever they stand
+-- if no written store is refused on any line, none of the store statements is refused
 module _ (known : Known) (names : Names) where
   abbrev FineCall : List ℕ → Store → Type 0
   FineCall name store =
@@ -104,7 +104,7 @@ module _ (tables : Tables) (can : IsPlayable tables) (said : IsSayable tables) (
   abbrev called : Names
   called = names_for tables
 
-  -- the names of the stores in front are no option's
+  -- if a name differs from all names of stores, it is not the name of an option, so front stores are not options
   front-apart : (x : List ℕ) → same_name x [] ≡ false → EachApart x called.stores → is_option all x ≡ false
   front-apart x some h = not_option tables x (λ n option. each-at x called.stores n some h)
 
@@ -127,7 +127,7 @@ module _ (tables : Tables) (can : IsPlayable tables) (said : IsSayable tables) (
       let join = front-size tables in
       front-apart name some (fresh-later tables can said out texts (length (mark_stores tables)) (omega (arith, join, more)) some)
 
-  -- a store that is used as an option has characters alone
+  -- a store that is used as an option has only characters
   option-fine : (n : ℕ) (name : List ℕ) (store : Store) → slice_get called.stores n ≡ Some (Some name) → slice_get tables.stores n ≡ Some store → same_name name [] ≡ false
       → is_option all name ≡ true → list_any is_no_character store.elements ≡ false
   option-fine n name store at there some used = by (list_any (nat_eq n) (tab_options tables)) refl

@@ -1,8 +1,8 @@
--- Nothing is refused of the program of a file's text, where no store that it compiles to has too many elements.
+-- If no store that the program of a file's text compiles to has too many elements, no part of the program is refused.
 use Rattle.std.proofs.Common.{◌≡◌, ℕ, List, None, refl}
 use Rattle.rule_model.specs.declared.program.Program.{Program}
 use Rattle.rule_model.specs.declared.tables.Tables.{Tables}
-use Rattle.kmn_names.specs.Names.{names_refusal}
+use Rattle.store_table.specs.Names.{names_refusal}
 use Rattle.item_checker.specs.Items.{items_refusal}
 use Rattle.rule_checker.specs.Limits.{limits_refusal}
 use Rattle.rule_checker.specs.Refused.{start_refusal, refused}
@@ -19,7 +19,7 @@ use Rattle.kmx_decompiler.proofs.UnrefusedNames.{spelled_names_stand}
 use Rattle.kmx_decompiler.proofs.UnrefusedStores.{spelled_items_stand}
 use Rattle.kmx_decompiler.proofs.UnrefusedRules.{no-else}
 
--- it begins
+-- the program has a begin statement for Unicode
 pub started : (tables : Tables) → start_refusal (back tables) ≡ None
 unfolding back
 started tables = refl

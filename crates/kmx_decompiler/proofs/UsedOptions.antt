@@ -1,4 +1,4 @@
--- An option of a file that a program compiles to is the first store of a name that some item uses so.
+-- An option of a file that a program compiles to is the first store with a name that some item uses as an option.
 use Rattle.std.proofs.Common.{◌≡◌, ℕ, zero, suc, Bool, true, false, ◌||◌, List, [], ◌∷◌, ◌++◌, cond, Option, Some, None, refl, sym, ◌∙◌, ap, if◌then◌else◌}
 use Rattle.std.specs.Prelude.{All, filter, find, flat_map, nat_eq, option_map, option_to_list, position, take}
 use Rattle.std.specs.List.{list_any, AllByRecursion}
@@ -15,17 +15,17 @@ use Rattle.rule_model.specs.declared.program.Program.{Program}
 use Rattle.rule_model.specs.declared.tables.Store.{Store}
 use Rattle.rule_model.specs.Naming.{stores_of, rule_items, all_rules}
 use Rattle.rule_model.specs.Src.{pattern_uses, output_uses, rule_uses, group_uses, numbers_named, src_options, is_plain, is_on_match, is_on_nomatch}
-use Rattle.rule_model.proofs.NamePlaces.{position_cons}
-use Rattle.kmn_names.specs.Names.{is_named}
-use Rattle.kmn_names.specs.Known.{known, option_named, rule_options}
-use Rattle.rule_model.proofs.NamePlaces.{some_place}
+use Rattle.virtual_keys.proofs.NamePlaces.{position_cons}
+use Rattle.store_table.specs.Names.{is_named}
+use Rattle.store_table.specs.Known.{known, option_named, rule_options}
+use Rattle.virtual_keys.proofs.NamePlaces.{some_place}
 use Rattle.item_checker.specs.Items.{is_option}
 use Rattle.kmn_parser.specs.Spelled.{IsSpelledName}
 use Rattle.decompile_program.proofs.Choosing.{all_parts, all_join, all_split, all_weaker, all_both}
 use Rattle.kmx_decompiler.specs.Written.{IsWrittenItem, IsWrittenRule, WasWritten}
 use Rattle.kmx_decompiler.proofs.GroupRules.{rules_of}
 
--- what holds of all that is gathered
+-- if all gathered names of each item have a property, all gathered names of the items have it
 module _ (P : List ℕ → Type 0) where
   gathered : {X : Type 0} (f : X → List (List ℕ)) (xs : List X) → AllByRecursion (λ x. AllByRecursion P (f x)) xs → AllByRecursion P (flat_map f xs)
   gathered f [] h = tt
@@ -93,7 +93,7 @@ module _ (P : List ℕ → Type 0) where
       groups-have groups
       (all_weaker (λ (rule : RuleDef). AllByRecursion P (rule_options rule)) HasUses rule-has (flat_map rules_of groups) (all_split P rule_options (flat_map rules_of groups) h))
 
--- the names of options are those of a source
+-- the options that a written item names have names of a source
 item-spelled : (item : SrcItem) → IsWrittenItem item → AllByRecursion IsSpelledName (option_named item)
 item-spelled (source.Equal store value) ok = (ok.0, tt)
 item-spelled (source.Unequal store value) ok = (ok.0, tt)
@@ -112,7 +112,7 @@ rules-spelled [] ok = tt
 rules-spelled (rule ∷ rules) ok =
     all_join IsSpelledName (rule_options rule) (flat_map rule_options rules) (items-spelled (rule_items rule) (All-head IsWrittenRule rule rules ok).items) (rules-spelled rules (All-tail IsWrittenRule rule rules ok))
 
--- each name of a list is among them
+-- all names that are the same as a name are among names
 abbrev IsAmong : List (List ℕ) → List ℕ → Type 0
 IsAmong names a = (x : List ℕ) → same_name x a ≡ true → list_any (same_name x) names ≡ true
 
@@ -123,7 +123,7 @@ all-among (a ∷ names) = (
   all_weaker (IsAmong names) (IsAmong (a ∷ names)) (λ b h x e. or_right (same_name x a) (list_any (same_name x) names) (h x e)) names (all-among names),
 )
 
--- a name that an item uses as an option: a name of a source, and all that are the same are options
+-- a name that an item uses as an option: it is a name of a source, and all names that are the same are options
 pub record IsUsedName (program : Program) (a : List ℕ) : Type 0 where
   pub named : IsSpelledName a
   pub option : (x : List ℕ) → same_name x a ≡ true → is_option (known program) x ≡ true
@@ -136,7 +136,7 @@ all-used program written =
     (all_weaker (λ (a : List ℕ). IsSpelledName a × IsAmong options a) (IsUsedName program) (λ a h. record { named = h.0; option = λ x e. some_place (same_name x) options ∙ h.1 x e }) options
     (all_both IsSpelledName (IsAmong options) options (rules-spelled (all_rules program) written.rules) (all-among options)))
 
--- the name by which an option is used
+-- an option is the first store with a name that an item uses as an option
 pub record IsUsed (program : Program) (n : ℕ) : Type 0 where
   pub name : List ℕ
   pub used : IsUsedName program name
@@ -162,7 +162,7 @@ pub option_used : (program : Program) → WasWritten program → (n : ℕ) → l
 unfolding src_options
 option_used program written n h = found-used program n (flat_map group_uses program.groups) (all-used program written) h
 
--- no store before a first place passes
+-- no element before the first place that passes a test passes it
 pub none_before : {X : Type 0} (p : X → Bool) (xs : List X) (k : ℕ) → position p xs ≡ Some k → AllByRecursion (λ x. p x ≡ false) (take k xs)
 none_before p [] k e = absurd (none-some k e)
 none_before p (x ∷ xs) k e = by (p x) refl (position p xs) refl k (sym (position_cons p x xs) ∙ e) (λ j at. none_before p xs j at)

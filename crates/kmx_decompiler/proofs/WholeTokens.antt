@@ -1,4 +1,4 @@
--- The tokens of a source that no rule of tokens refuses stand whole in texts that end no line.
+-- If no token rule refuses a source, each of its tokens is the whole of a text that does not end a line.
 use Rattle.std.proofs.Common.{◌≡◌, ℕ, zero, suc, ◌+◌, ◌-◌, ◌<◌, Bool, true, false, not, ◌&&◌, if◌then◌else◌, List, [], ◌∷◌, length, take, drop, map, Option, None, refl, sym, ◌∙◌, ap, subst, arith, length-drop, length-append, inl, inr}
 use Rattle.std.specs.Prelude.{All}
 use Rattle.std.specs.List.{list_all}
@@ -24,7 +24,7 @@ use Rattle.kmn_parser.proofs.SoundTokens.{IsSoundToken, HasTexts, HasSoundTokens
 use Rattle.kmn_parser.specs.Names.{is_inner}
 use Rattle.kmx_decompiler.proofs.RetakenTokens.{token_alone}
 
--- ---- parts end no line
+-- ---- parts do not end a line
 
 module _ (source : List ℕ) where
   abbrev IsInner : Part → Type 0
@@ -84,9 +84,9 @@ module _ (source : List ℕ) where
       let parts = parts_are_texts source k d less in
       subst (All IsInner) (sym parts.2) (opening-inner _ _ _ parts.0 parts.1)
 
--- ---- tokens stand whole
+-- ---- tokens are whole texts
 
--- a text that is one token, which no rule of tokens refuses and which ends no line
+-- a text that is one token, which no token rule refuses and which does not end a line
 pub record IsWhole (sort : TokenKind) (text : List ℕ) : Type 0 where
   pub is : sort ≡ token_kind text
   pub faultless : token_fault text ≡ None
@@ -145,7 +145,7 @@ line-whole : (source : List ℕ) (line : Logical) → HasInnerParts source line 
 unfolding line_tokens line_refusal
 line-whole source line inner none = parts-whole source (parts_in source line) inner (no-refusal line.first_line (parts_fault source (parts_in source line)) none)
 
--- a token that stands whole, and is sound
+-- a token that is sound and the whole of its text
 pub record IsWholeToken (token : LineToken) : Type 0 where
   pub sound : IsSoundToken token
   pub whole : IsWhole token.kind token.text
@@ -168,6 +168,6 @@ lines-both source (line ∷ lines) sound inner none =
     (both-all (with_text source) (line_tokens source line) (All-head (HasSoundTokens source) line lines sound) (line-whole source line (All-head (HasInnerParts source) line lines inner) both.0))
     (lines-both source lines (All-tail (HasSoundTokens source) line lines sound) (All-tail (HasInnerParts source) line lines inner) both.1)
 
--- the tokens of all lines stand whole
+-- if no token rule refuses a source, the tokens of all its lines are whole
 pub lines_whole : (source : List ℕ) → All (HasTexts source) (logicals source) → tokens_refusal source (logicals source) ≡ None → All (HasWholeTokens source) (logicals source)
 lines_whole source texts none = lines-both source (logicals source) (lines-sound source (logicals source) texts none) (lines-inner source) none

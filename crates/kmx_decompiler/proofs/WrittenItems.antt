@@ -1,4 +1,4 @@
--- The items that are read of whole tokens are written as a source writes them, and a context has them in order.
+-- Items that are read from whole tokens are items as a source writes them, and a context has them in order.
 use Rattle.std.proofs.Common.{◌≡◌, ℕ, zero, suc, ◌+◌, ◌≤◌, Bool, true, false, not, ◌&&◌, ◌||◌, if◌then◌else◌, List, [], ◌∷◌, ◌++◌, length, take, drop, map, Option, None, Some, Result, Ok, Err, refl, sym, ◌∙◌, ap, subst, arith, length-append}
 use Rattle.std.specs.Prelude.{All, filter, nat_lt, nat_eq}
 use Rattle.std.specs.List.{list_all, list_any}
@@ -141,7 +141,7 @@ item-written : (place : Where) (seen : Seen) (last at : ℕ) (tokens : List Line
 unfolding read_item
 item-written place seen last at tokens ok = form-written place seen last at (lead_of tokens) tokens ok
 
--- the items of a section
+-- the items that are read in a section are items as a source writes them, unless they are refused
 abbrev pub AllWritten : Result (List SrcItem) TokenRefusal → Type 0
 AllWritten (Ok items) = All IsWrittenItem items
 AllWritten (Err found) = Unit {0}
@@ -162,7 +162,7 @@ items_written place seen last zero at (token ∷ tokens) ok =
     (item-written place seen last at (token ∷ tokens) ok)
     (λ taken. items_written place taken.seen last taken.more (at + 1) tokens (All-tail IsWholeToken token tokens ok))
 
--- the key of a rule
+-- the key that is read is a key as a source writes it, unless it is refused
 abbrev pub KeyWritten : Result SrcItem TokenRefusal → Type 0
 KeyWritten (Ok item) = IsWrittenItem item
 KeyWritten (Err found) = Unit {0}
@@ -185,7 +185,7 @@ abbrev nuls : Bool → ℕ
 nuls true = 1
 nuls false = 0
 
--- items that stand behind what was seen, and what is seen behind them
+-- items that come after what was seen, and what is seen after them
 record AreInOrder (seen after : Seen) (items : List SrcItem) : Type 0 where
   stand : list_all stands_in_context items ≡ true
   order : has_late_item seen.pattern items ≡ false
@@ -196,7 +196,7 @@ abbrev TakenInOrder : Seen → Result Taken TokenRefusal → Type 0
 TakenInOrder seen (Ok taken) = AreInOrder seen taken.seen taken.items
 TakenInOrder seen (Err found) = Unit {0}
 
--- a pattern may stand anywhere
+-- a pattern item, which is allowed anywhere in a context
 record IsPatternAlone (item : SrcItem) : Type 0 where
   stands : stands_in_context item ≡ true
   pattern : is_pattern_item item ≡ true
@@ -210,7 +210,7 @@ pattern-order seen item is = record {
   count = let none : length (filter is_nul_item (item ∷ [])) ≡ 0 = ap (λ (b : Bool). length (if b then item ∷ [] else [])) is.nul in omega (arith, none);
 }
 
--- a condition, where no pattern was seen
+-- a condition, which is allowed if no pattern was seen
 record IsConditionAlone (item : SrcItem) : Type 0 where
   stands : stands_in_context item ≡ true
   pattern : is_pattern_item item ≡ false
@@ -328,7 +328,7 @@ item-order : (seen : Seen) (last at : ℕ) (tokens : List LineToken) → TakenIn
 unfolding read_item
 item-order seen last at tokens = lead-order seen last at tokens (lead_of tokens)
 
--- the items of a context behind what was seen
+-- the items of a context after what was seen
 record IsContextBehind (seen : Seen) (items : List SrcItem) : Type 0 where
   stand : list_all stands_in_context items ≡ true
   order : has_late_item seen.pattern items ≡ false
@@ -376,7 +376,7 @@ context-order seen last zero at (token ∷ tokens) =
     then-order seen (read_item section.Context seen last at (token ∷ tokens)) (λ (taken : Taken). read_items section.Context taken.seen last taken.more (at + 1) tokens)
     (item-order seen last at (token ∷ tokens)) (λ taken. context-order taken.seen last taken.more (at + 1) tokens)
 
--- the context of a rule
+-- the context that is read is a context as a source writes it, unless it is refused
 abbrev pub ContextWritten : Result (List SrcItem) TokenRefusal → Type 0
 ContextWritten (Ok items) = IsWrittenContext items
 ContextWritten (Err found) = Unit {0}

@@ -1,4 +1,4 @@
--- Names, values and keys that are read of whole tokens are such as a text can say.
+-- A text can express each name, value and key that is read from whole tokens.
 use Rattle.std.proofs.Common.{◌≡◌, ℕ, zero, suc, ◌+◌, ◌-◌, ◌<◌, ◌==◌, Bool, true, false, not, ◌&&◌, ◌||◌, if◌then◌else◌, List, [], ◌∷◌, ◌++◌, length, take, drop, Option, None, Some, is_some, option_map, unwrap_or, refl, sym, ◌∙◌, ap, subst, arith, inl, inr}
 use Rattle.std.specs.Prelude.{All, IsUtf8, chars, nat_eq, nat_lt, nat_le, slice_get}
 use Rattle.std.specs.List.{list_all, list_any}
@@ -11,7 +11,7 @@ use Rattle.std.proofs.lemmas.Str.{IsUtf8-from_is_utf8, is_utf8-from_IsUtf8, enco
 use lib.Utf8.{encode, encodes}
 use Rattle.kmn_base.specs.declared.codes.Code.{Code}
 use Rattle.kmn_base.specs.Bytes.{is_quote}
-use Rattle.rule_model.specs.Keys.{key_codes, key_code, key_name}
+use Rattle.virtual_keys.specs.Keys.{key_codes, key_code, key_name}
 use Rattle.kmn_lines.specs.Bytes.{first_or_end}
 use Rattle.kmn_lines.specs.Tokens.{single, is_unequal, quoted_size, starts_number, token_size, token_kind, token_fault}
 use Rattle.kmn_lines.specs.declared.token.TokenKind.{TokenKind}
@@ -43,7 +43,7 @@ or-none : (at : ℕ) (code : Option Code) (later : Option TokenRefusal) → or_f
 or-none at None later e = (refl, e)
 or-none at (Some code) later e = absurd (cc)
 
--- the token that fills a place of a form
+-- the token at a place of a form, which fits the slot there
 pub record IsFilled (wanted : Slot) (n : ℕ) (tokens : List LineToken) : Type 0 where
   pub token : LineToken
   pub at : slice_get tokens n ≡ Some token
@@ -77,14 +77,14 @@ name_spelled token ok wordy named =
           (and_from (is_name text) (list_all is_inner text) named ok.whole.inner)));
     }
 
--- the name at a place of a form
+-- if a form is not broken, the word at a place for a name is a name of a source
 pub named_at : (last at n : ℕ) (slots : List Slot) (tokens : List LineToken) → All IsWholeToken tokens → broken last at slots tokens ≡ None → slice_get slots n ≡ Some slot.Name → IsSpelledName (text_at n tokens)
 named_at last at n slots tokens ok whole there =
     let here = filled last at n slots tokens slot.Name whole there in
     let test = and_parts (is_wordy here.token.kind) (is_name here.token.text) (unless-none _ _ here.fits) in
     subst IsSpelledName (sym (text_is n tokens here.token here.at)) (name_spelled here.token (all_at IsWholeToken tokens ok n here.token here.at) test.0 test.1)
 
--- the name of an ordinary store at a place of a form
+-- if a form is not broken, the word at a place for a store is a name of a source, unless it is the name of a system store
 pub store_at : (last at n : ℕ) (slots : List Slot) (tokens : List LineToken) → All IsWholeToken tokens → broken last at slots tokens ≡ None → slice_get slots n ≡ Some slot.StoreName
     → is_system_name (text_at n tokens) ≡ false → IsSpelledName (text_at n tokens)
 store_at last at n slots tokens ok whole there ordinary =
@@ -118,7 +118,7 @@ no-character k small bs utf8 h = by (Has k (chars bs)) refl
     by true e = clash (Has k bs) (ap (Has k) (sym (encodes-chars bs utf8)) ∙ has-byte k small (chars bs) e) h
     by false e = refl
 
--- characters of bytes that end no line end none
+-- if the bytes of characters do not end a line, the characters do not end a line
 inner-characters : (cs : List ℕ) → list_all is_inner (encodes cs) ≡ true → list_all is_inner cs ≡ true
 inner-characters [] h = refl
 inner-characters (c ∷ cs) h =
@@ -205,7 +205,7 @@ value-spelled token ok quote =
     })
     (λ e. value-none)
 
--- the value at a place of a form
+-- if a form is not broken, the text at a place for a value is a value that a source can have
 pub value_at : (last at n : ℕ) (slots : List Slot) (tokens : List LineToken) → All IsWholeToken tokens → broken last at slots tokens ≡ None → slice_get slots n ≡ Some slot.Value
     → IsSpelledValue (quoted (text_at n tokens))
 value_at last at n slots tokens ok whole there =

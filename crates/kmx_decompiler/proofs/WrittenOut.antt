@@ -1,4 +1,4 @@
--- Tables of which no cause holds can be written out.
+-- If tables have no cause, they can be written out.
 use Rattle.std.proofs.Common.{◌≡◌, ℕ, zero, suc, ◌+◌, ◌<◌, Bool, true, false, not, ◌&&◌, ◌||◌, List, [], ◌∷◌, ◌++◌, length, Option, None, Some, refl, arith}
 use Rattle.std.specs.Prelude.{All, flat_map, nat_eq, bit_and, slice_get, is_some}
 use Rattle.std.specs.List.{list_any, list_all, AllByRecursion}
@@ -34,7 +34,7 @@ use Rattle.kmx_decompiler.specs.Unspelled.{unspelled}
 use Rattle.kmx_decompiler.proofs.Sayable.{sayable, IsSayableRule, IsSayableGroup, AreSayable, sayable-at, HasNoCause, IsSayable, without_cause}
 use Rattle.kmx_decompiler.proofs.Conjunctions.{second-fails}
 
--- what each item gives of which a test doesn't hold, and whose numbers are in range
+-- if `g` returns numbers with a property for each item that fails a test and is in range, it does so for a list of such items
 pub gathered : {X : Type 0} (test : X → Bool) (s g : X → List ℕ) (Q P : ℕ → Type 0) → ((x : X) → All Q (s x) → test x ≡ false → All P (g x))
     → (xs : List X) → All Q (flat_map s xs) → list_any test xs ≡ false → All P (flat_map g xs)
 gathered test s g Q P each [] q h = All-nil P
@@ -43,29 +43,29 @@ gathered test s g Q P each (x ∷ xs) q h =
     let ranges = All-append_parts Q (s x) (flat_map s xs) q in
     All-append P (g x) (flat_map g xs) (each x ranges.0 parts.0) (gathered test s g Q P each xs ranges.1 parts.1)
 
--- the same where no range is asked for
+-- if `g` returns numbers with a property for each item that fails a test, it does so for a list of such items
 pub tested : {X : Type 0} (test : X → Bool) (g : X → List ℕ) (P : ℕ → Type 0) → ((x : X) → test x ≡ false → All P (g x)) → (xs : List X) → list_any test xs ≡ false → All P (flat_map g xs)
 tested test g P each [] h = All-nil P
 tested test g P each (x ∷ xs) h =
     let parts = or_parts (test x) (list_any test xs) h in All-append P (g x) (flat_map g xs) (each x parts.0) (tested test g P each xs parts.1)
 
--- and what each of a list gives of which a property holds
+-- if `g` returns numbers with a property for each item with another property, it does so for a list of such items
 pub joined : {X : Type 0} (R : X → Type 0) (P : ℕ → Type 0) (g : X → List ℕ) → ((x : X) → R x → All P (g x)) → (xs : List X) → AllByRecursion R xs → All P (flat_map g xs)
 joined R P g each [] h = All-nil P
 joined R P g each (x ∷ xs) h = All-append P (g x) (flat_map g xs) (each x h.0) (joined R P g each xs h.1)
 
--- two properties of each of a list
+-- if all items of a list have each of two properties, each item has both
 pub zipped : {X : Type 0} (R S : X → Type 0) (xs : List X) → AllByRecursion R xs → All S xs → AllByRecursion (λ (x : X). R x × S x) xs
 zipped R S [] r s = tt
 zipped R S (x ∷ xs) r s = ((r.0, All-head S x xs s), zipped R S xs r.1 (All-tail S x xs s))
 
--- a number in range that is no system store's is an ordinary one's
+-- if the store of a number in range is not a system store, it is an ordinary store
 ordinary : (stores : List Store) (n : ℕ) → n < length stores → is_system_store (slice_get stores n) ≡ false → is_ordinary (slice_get stores n) ≡ true
 ordinary [] n less h = absurd (omega arith)
 ordinary (x ∷ stores) zero less h = not-false (nat_eq x.system 0) h
 ordinary (x ∷ stores) (suc n) less h = ordinary stores n (omega arith) h
 
--- characters alone
+-- if a list has no element that is not a character, all its elements are characters
 no-others : (elements : List Element) → list_any is_no_character elements ≡ false → list_all (λ (e : Element). is_some (element_char e)) elements ≡ true
 no-others [] h = refl
 no-others (element.Char c ∷ elements) h = no-others elements h
@@ -232,7 +232,7 @@ module _ (tables : Tables) where
       All-append IsNamedKey (store_keys store) (flat_map store_keys stores)
       (elements-keyed store.elements (store-parts k store h.0).elements) (stores-keyed (k + 1) stores h.1)
 
--- each number of a list is among its numbers
+-- a number is in a list
 abbrev pub Among : List ℕ → ℕ → Type 0
 Among xs n = list_any (nat_eq n) xs ≡ true
 
@@ -243,7 +243,7 @@ all-among (x ∷ xs) =
     (All-weaker (Among xs) (Among (x ∷ xs)) (λ n e. or_right (nat_eq n x) (list_any (nat_eq n) xs) e) xs (all-among xs))
 
 module _ (tables : Tables) (said : HasNoCause tables) where
-  -- what holds of an option's store
+  -- the store of an option is an ordinary one, is called by its own name, and has only characters
   option-facts : (n : ℕ) (store : Store) → Among (tab_options tables) n → slice_get tables.stores n ≡ Some store
       → (nat_eq store.system 0 ≡ true) × (store_called (names_for tables) n ≡ store.name) × (list_any is_no_character store.elements ≡ false)
   option-facts n store among at =
@@ -278,7 +278,7 @@ module _ (tables : Tables) (said : HasNoCause tables) where
         values = joined (SaidGroup tables) (IsCharacters tables) group_values (group-valued tables) tables.groups both;
       }
 
--- the same where besides nothing is too large
+-- if tables have no cause and their text is not too large, the store of an option has these properties
 pub option-parts : (tables : Tables) → IsSayable tables → (n : ℕ) (store : Store) → Among (tab_options tables) n → slice_get tables.stores n ≡ Some store
     → (nat_eq store.system 0 ≡ true) × (store_called (names_for tables) n ≡ store.name) × (list_any is_no_character store.elements ≡ false)
 option-parts tables said = option-facts tables (without_cause tables said)

@@ -1,4 +1,4 @@
--- A program that is read from a source was written as a source writes it.
+-- A program that is read from a source is a program as a source writes it.
 use Rattle.std.proofs.Common.{◌≡◌, ℕ, ◌+◌, ◌-◌, ◌⊎◌, inl, inr, Bool, true, false, not, if◌then◌else◌, nat_lt, List, [], ◌∷◌, ◌++◌, length, take, drop, codes, Option, None, Some, Result, Ok, Err, refl, sym, ◌∙◌, ap, subst, arith, append-nil}
 use Rattle.std.specs.Prelude.{All, IsUtf8, chars, flat_map, option_to_list}
 use Rattle.std.specs.Str.{is_utf8}
@@ -50,12 +50,12 @@ use Rattle.kmx_decompiler.proofs.WrittenNames.{store_at}
 use Rattle.kmx_decompiler.proofs.WrittenItems.{AllWritten, items_written, KeyWritten, key_written, ContextWritten, context_written}
 use Rattle.kmx_decompiler.proofs.GroupRules.{rules_of}
 
--- a store whose name, if it has one, is that of an ordinary store
+-- a store that has no name or the name of an ordinary store
 record IsNamedStore (store : StoreDef) : Type 0 where
   name : (store.name ≡ []) ⊎ IsStoreName store.name
   items : All IsWrittenItem store.items
 
--- what a statement brings
+-- a statement as a source writes it
 abbrev IsWrittenStatement : Statement → Type 0
 IsWrittenStatement (statement.Store store) = IsNamedStore store
 IsWrittenStatement (statement.Group group) = group.rules ≡ []
@@ -264,7 +264,7 @@ whole-written source =
     (λ short. cond_both (not (is_utf8 source)) _ _ WholeWritten (λ other. tt)
     (λ text. text-written source (IsUtf8-from_is_utf8 source (not-false (is_utf8 source) text))))
 
--- an ordinary store that was read has a name
+-- if a store was read and is an ordinary one, it has a name
 named-store : (store : StoreDef) → IsNamedStore store → IsReadStore store → IsWrittenStore store
 named-store store ok read = record {
   name = λ ordinary. by ok.name (read.named ordinary);

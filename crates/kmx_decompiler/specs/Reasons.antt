@@ -1,11 +1,11 @@
--- The text of why a file has none.
+-- The printed form of the reason why a file has no text.
 use Rattle.std.specs.Prelude.{ℕ, List, [], ◌∷◌, codes}
 use Rattle.std.specs.List.{concat}
 use Rattle.std.specs.Fmt.{decimal}
 use Rattle.kmx_decompiler.specs.declared.no_spelling.NoSpelling.{NoSpelling}
 use Rattle.kmx_decompiler.specs.declared.no_spelling.NoSpelling.TheVariants.{Order, Unspelled, TooLarge, TooManyStores, TooManyElements}
 
--- the record that stands out of order, the place of what no source can say, or what would be too much
+-- the record that is out of order, the place of what no source can express, or the number that is too large
 unfoldable pub reason_text : NoSpelling → List ℕ
 reason_text (Order group rule) = concat (codes "X1 group " ∷ decimal group ∷ codes " rule " ∷ decimal rule ∷ [])
 reason_text (Unspelled at) = concat (codes "X2 at " ∷ decimal at ∷ [])

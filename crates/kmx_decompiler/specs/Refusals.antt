@@ -1,4 +1,4 @@
--- What a refusal of the decompiler tells.
+-- The reason in a refusal of the decompiler.
 use Rattle.std.specs.Prelude.{ℕ, nat_lt, if◌then◌else◌, Option, Some, None}
 use Rattle.kmn_base.specs.declared.limits.TheConstants.{STORES, ALL_ELEMENTS}
 use Rattle.kmx_decompiler.specs.declared.no_spelling.NoSpelling.{NoSpelling}
@@ -6,12 +6,12 @@ use Rattle.kmx_decompiler.specs.declared.no_spelling.NoSpelling.TheVariants as s
 use Rattle.kmx_decompiler.specs.declared.refusals.DecompileError.{DecompileError}
 use Rattle.kmx_decompiler.specs.declared.refusals.DecompileError.TheVariants.{Refused, Memory}
 
--- an error that is no want of memory is a reason of which something holds
+-- the reason of an error has a property, unless the error is `Memory`
 abbrev pub IsRefusal : DecompileError → (NoSpelling → Type 0) → Type 0
 IsRefusal (Refused why) holds = holds why
 IsRefusal Memory holds = Unit {0}
 
--- so many stores or elements are too many
+-- the refusal of a number of stores or elements that is too large, if any
 abbrev pub too_many : (stores elements : ℕ) → Option NoSpelling
 too_many stores elements =
     if nat_lt STORES stores then Some (spelling.TooManyStores stores)

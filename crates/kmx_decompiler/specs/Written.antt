@@ -1,4 +1,4 @@
--- What a source writes: names, values and keys as they stand in its lines, and contexts in order.
+-- The programs that a source can write: names, values and keys as they are in its lines, and contexts in order.
 use Rattle.std.specs.Prelude.{◌≡◌, ◌≤◌, Bool, true, false, not, ◌&&◌, ◌||◌, List, [], ◌∷◌, length, filter}
 use Rattle.std.specs.List.{All, list_all}
 use Rattle.rule_model.specs.declared.program.SrcItem.{SrcItem}
@@ -10,7 +10,7 @@ use Rattle.rule_model.specs.Naming.{rule_items, all_rules}
 use Rattle.item_checker.specs.Items.{is_pattern_item}
 use Rattle.kmn_parser.specs.Spelled.{IsSpelledName, IsStoreName, IsSpelledValue, IsSpelledKey}
 
--- an item: what it names has a name of a source, its value can stand in quotes, and its key has a name
+-- an item as a source writes it: a name is a name of a source, a value can be quoted, and a key has a name
 abbrev pub IsWrittenItem : SrcItem → Type 0
 IsWrittenItem (source.Key key) = IsSpelledKey key
 IsWrittenItem (source.Any name) = IsSpelledName name
@@ -26,7 +26,7 @@ IsWrittenItem (source.Save name) = IsSpelledName name
 IsWrittenItem (source.Reset name) = IsSpelledName name
 IsWrittenItem other = Unit {0}
 
--- an item that may stand in a context
+-- whether an item is allowed in a context
 abbrev pub stands_in_context : SrcItem → Bool
 stands_in_context (source.Equal name value) = true
 stands_in_context (source.Unequal name value) = true
@@ -36,7 +36,7 @@ stands_in_context source.Nul = true
 stands_in_context source.OutOfProfile = true
 stands_in_context item = is_pattern_item item
 
--- a condition or `nul` stands behind an item that is matched; the first argument says that one was matched before
+-- whether a condition or `nul` follows an item that is matched; the first argument states whether an earlier item was matched
 abbrev pub has_late_item : Bool → List SrcItem → Bool
 has_late_item matched [] = false
 has_late_item matched (item ∷ items) = (matched && not (is_pattern_item item)) || has_late_item (matched || is_pattern_item item) items
@@ -45,7 +45,7 @@ abbrev pub is_nul_item : SrcItem → Bool
 is_nul_item source.Nul = true
 is_nul_item other = false
 
--- a context: conditions and `nul` before all that is matched, and at most one `nul`
+-- a context as a source writes it: conditions and `nul` precede all items that are matched, and there is at most one `nul`
 pub record IsWrittenContext (context : List SrcItem) : Type 0 where
   pub stand : list_all stands_in_context context ≡ true
   pub order : has_late_item false context ≡ false

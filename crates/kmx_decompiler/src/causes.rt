@@ -1,4 +1,4 @@
-//! What of a key, an element, an item or a context no source can say.
+//! Tests which keys, elements, items and contexts no source can express.
 
 ghost use Rattle.std.specs.Prelude.{◌≡◌, filter_map, option_to_list, slice_get};
 ghost use Rattle.std.specs.List.{list_any};
@@ -14,14 +14,14 @@ use decompile_program::{Called, has_character, named_by_output, named_by_pattern
 use kmn_base::{Element, RuleKey};
 use rule_model::{Out, Pat};
 
-/// Whether a key has a name.
+/// Returns whether a virtual key has a name.
 fn has_key_name(names: &Called<'_>, code: u16) -> bool
     ensures { result ≡ has_key_name names.now.keys code }
 {
     names.key(code).is_some()
 }
 
-/// Whether an element has no spelling.
+/// Returns whether an element has no spelling.
 fn is_unspelled_element(names: &Called<'_>, element: &Element) -> bool
     ensures { result ≡ is_unspelled_element names.now element.now }
 {
@@ -32,7 +32,7 @@ fn is_unspelled_element(names: &Called<'_>, element: &Element) -> bool
     }
 }
 
-/// Whether one of elements has no spelling.
+/// Returns whether at least one of the elements has no spelling.
 pub(crate) fn has_unspelled_element(names: &Called<'_>, elements: &[Element]) -> bool
     ensures { result ≡ list_any (is_unspelled_element names.now) elements.now }
 {
@@ -41,7 +41,7 @@ pub(crate) fn has_unspelled_element(names: &Called<'_>, elements: &[Element]) ->
         .any(|element| is_unspelled_element(names, element))
 }
 
-/// Whether the key of a record has no spelling.
+/// Returns whether the key of a record has no spelling.
 pub(crate) fn is_unspelled_key(names: &Called<'_>, key: &RuleKey) -> bool
     ensures { result ≡ is_unspelled_key names.now key.now }
 {
@@ -52,21 +52,21 @@ pub(crate) fn is_unspelled_key(names: &Called<'_>, key: &RuleKey) -> bool
     }
 }
 
-/// Whether both kinds of quote stand among elements.
+/// Returns whether both kinds of quote are among the elements.
 fn have_both_quotes(elements: &[Element]) -> bool
     ensures { result ≡ have_both_quotes (filter_map element_char elements.now) }
 {
     has_character(elements, '"') && has_character(elements, '\'')
 }
 
-/// Whether elements are no value that a source can have.
+/// Returns whether elements are not a value that a source can have.
 fn is_unspelled_value(elements: &[Element]) -> bool
     ensures { result ≡ is_unspelled_value elements.now }
 {
     has_no_character(elements) || !are_inner(elements) || have_both_quotes(elements)
 }
 
-/// Whether the store of a number has a system id.
+/// Returns whether the store of a number has a system id.
 fn is_system_store(names: &Called<'_>, number: u32) -> bool
     ensures { result ≡ is_system_store (slice_get names.now.elements number) }
 {
@@ -76,7 +76,7 @@ fn is_system_store(names: &Called<'_>, number: u32) -> bool
     }
 }
 
-/// Whether a store that an item names, if any, has a system id.
+/// Returns whether the store that an item names, if any, has a system id.
 fn names_system_store(names: &Called<'_>, store: Option<u32>) -> bool
     ensures { result ≡ names_system_store names.now (option_to_list store) }
 {
@@ -86,7 +86,7 @@ fn names_system_store(names: &Called<'_>, store: Option<u32>) -> bool
     }
 }
 
-/// Whether the value that an item has, if any, has no spelling.
+/// Returns whether the value of an item, if any, has no spelling.
 fn has_unspelled_value(names: &Called<'_>, value: Option<u32>) -> bool
     ensures { result ≡ has_unspelled_value names.now (option_to_list value) }
 {
@@ -96,7 +96,7 @@ fn has_unspelled_value(names: &Called<'_>, value: Option<u32>) -> bool
     }
 }
 
-/// Whether an item of a context has no spelling.
+/// Returns whether an item of a context has no spelling.
 fn is_unspelled_pattern(names: &Called<'_>, pattern: &Pat) -> bool
     ensures { result ≡ is_unspelled_pattern names.now pattern.now }
 {
@@ -105,7 +105,7 @@ fn is_unspelled_pattern(names: &Called<'_>, pattern: &Pat) -> bool
         || has_unspelled_value(names, pattern_value(pattern))
 }
 
-/// Whether an item of an output has no spelling.
+/// Returns whether an item of an output has no spelling.
 fn is_unspelled_output(names: &Called<'_>, output: &Out) -> bool
     ensures { result ≡ is_unspelled_output names.now output.now }
 {
@@ -114,7 +114,7 @@ fn is_unspelled_output(names: &Called<'_>, output: &Out) -> bool
         || has_unspelled_value(names, output_value(output))
 }
 
-/// Whether one of the items of an output has no spelling.
+/// Returns whether at least one item of an output has no spelling.
 pub(crate) fn are_unspelled_outputs(names: &Called<'_>, outputs: &[Out]) -> bool
     ensures { result ≡ list_any (is_unspelled_output names.now) outputs.now }
 {
@@ -123,7 +123,7 @@ pub(crate) fn are_unspelled_outputs(names: &Called<'_>, outputs: &[Out]) -> bool
         .any(|output| is_unspelled_output(names, output))
 }
 
-/// Whether one of the items of a context has no spelling.
+/// Returns whether at least one item of a context has no spelling.
 fn are_unspelled_patterns(names: &Called<'_>, context: &[Pat]) -> bool
     ensures { result ≡ list_any (is_unspelled_pattern names.now) context.now }
 {
@@ -132,7 +132,7 @@ fn are_unspelled_patterns(names: &Called<'_>, context: &[Pat]) -> bool
         .any(|pattern| is_unspelled_pattern(names, pattern))
 }
 
-/// Whether a context has no spelling.
+/// Returns whether a context has no spelling.
 pub(crate) fn is_unspelled_context(names: &Called<'_>, context: &[Pat]) -> bool
     ensures { result ≡ is_unspelled_context names.now context.now }
 {

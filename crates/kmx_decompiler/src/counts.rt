@@ -1,4 +1,4 @@
-//! How many stores, and how many elements of all stores, compiling a text gives.
+//! Counts the stores that a text compiles to, and the elements of all these stores.
 
 ghost use Rattle.std.specs.Prelude.{◌≡◌, ◌+◌, ◌<◌, ◌^◌, ◌∷◌, [], map, length, if◌then◌else◌, All, IfOk};
 ghost use Rattle.std.specs.Str.{IsUtf8};
@@ -22,20 +22,20 @@ use kmx_format::version_text;
 use rule_model::{Store, Tables};
 use std::alloc::Global;
 
-/// So many stores, and so many elements of all of them.
+/// The number of stores, and the number of elements of all these stores.
 #[derive(Clone, Copy)]
 pub(crate) struct WrittenCounts {
     pub(crate) stores: u32,
     pub(crate) elements: u32,
 }
 
-/// No stores.
+/// The counts of no stores.
 const NONE: WrittenCounts = WrittenCounts {
     stores: 0,
     elements: 0,
 };
 
-/// A count with so much more, which stays at the end of its type.
+/// Returns the sum of a count and `more`, or the maximum of the type if the sum is larger.
 fn larger(count: u32, more: usize) -> u32
     ensures { result ≡ capped (count + more) }
 {
@@ -43,7 +43,7 @@ fn larger(count: u32, more: usize) -> u32
 }
 
 impl WrittenCounts {
-    /// One store more, of so many elements.
+    /// Returns the counts with another store, which has `elements` elements.
     fn with(self, elements: usize) -> WrittenCounts
         ensures { result ≡ with_lengths self (elements ∷ []) }
     {
@@ -53,7 +53,7 @@ impl WrittenCounts {
         }
     }
 
-    /// The counts where the store is one of the text's.
+    /// Returns the counts with another store if the text contains it.
     fn with_if(self, is_written: bool, elements: usize) -> WrittenCounts
         ensures { result ≡ with_lengths self (if is_written then elements ∷ [] else []) }
     {
@@ -64,7 +64,7 @@ impl WrittenCounts {
         }
     }
 
-    /// The counts with a store in front, where it has an element.
+    /// Returns the counts with another front store if it has an element.
     fn with_some(self, elements: usize) -> WrittenCounts
         ensures { result ≡ with_lengths self (some_length elements) }
     {
@@ -72,7 +72,7 @@ impl WrittenCounts {
     }
 }
 
-/// The counts with those stores of a file that are called something.
+/// Returns the counts with those stores of a file that the text contains.
 #[tactic(auto, using(crate::proofs::Lengths::with_lengths_append))]
 fn with_stores(counts: WrittenCounts, names: &Called<'_>, stores: &[Store]) -> WrittenCounts
     ensures { result ≡ with_lengths counts (called_lengths names.now.stores 0 stores.now) }
@@ -85,7 +85,7 @@ fn with_stores(counts: WrittenCounts, names: &Called<'_>, stores: &[Store]) -> W
     counts
 }
 
-/// How many characters names have, and one more for each.
+/// Returns the number of characters in the names, plus one for each name.
 fn spaced_size(names: &[Text]) -> usize
     requires { spaced_size names.now < 2 ^ 32 }
     ensures { result ≡ spaced_size names.now }
@@ -97,7 +97,7 @@ fn spaced_size(names: &[Text]) -> usize
     size
 }
 
-/// The counts with the store of the key dictionary, where it has a name.
+/// Returns the counts with the store of the key dictionary if the dictionary contains a name.
 fn with_dictionary(counts: WrittenCounts, keys: &[Text]) -> WrittenCounts
     requires { spaced_size keys.now < 2 ^ 32 }
     ensures { result ≡ with_lengths counts (joined_length keys.now) }
@@ -108,7 +108,7 @@ fn with_dictionary(counts: WrittenCounts, keys: &[Text]) -> WrittenCounts
     }
 }
 
-/// The counts with the stores of values.
+/// Returns the counts with the stores of values.
 #[tactic(auto, using(crate::proofs::Lengths::with_lengths_append))]
 fn with_values(counts: WrittenCounts, values: &WrittenValues) -> WrittenCounts
     ensures { result ≡ with_lengths counts (map length values.now) }
@@ -123,7 +123,7 @@ fn with_values(counts: WrittenCounts, values: &WrittenValues) -> WrittenCounts
     counts
 }
 
-/// What the stores of tables' text come to, by their lengths.
+/// Counts the stores that the text of tables compiles to, and their elements, by the lengths of these stores.
 #[tactic(auto, using(crate::proofs::Lengths::with_lengths_append), unfolding(decompile_program::specs::WrittenOut::table_values))]
 fn count_lengths(
     alloc: Global,
@@ -145,7 +145,7 @@ fn count_lengths(
     Ok(with_values(counts, &values))
 }
 
-/// How many stores, and how many elements of all of them, compiling the text of tables gives.
+/// Counts the stores that the text of tables compiles to, and the elements of all these stores.
 #[tactic(auto, using(crate::proofs::FewCounts::few_characters))]
 pub(crate) fn count_all(
     alloc: Global,
@@ -164,7 +164,7 @@ pub(crate) fn count_all(
     count_lengths(alloc, front, names, tables)
 }
 
-/// The refusal of counts that pass their limit.
+/// Returns the refusal of the first count that is above its limit, if any.
 pub(crate) fn passed(counts: WrittenCounts) -> Option<NoSpelling>
     ensures { result ≡ too_many counts.stores counts.elements }
 {

@@ -28,7 +28,7 @@ use kmx_verifier::Verified;
 use rule_model::Tables;
 use std::alloc::Global;
 
-/// The text of tables, unless it or what compiling it gives is too large.
+/// Returns the text of tables, unless the text or what it compiles to is too large.
 #[tactic(auto, using(crate::proofs::Refusing::larger_text, crate::proofs::Refusing::text_within))]
 fn text_within(
     alloc: Global,
@@ -58,7 +58,7 @@ fn text_within(
     }
 }
 
-/// The text of a file, whose tables these are, where its records are in order.
+/// Returns the text of a file with these tables, whose records are in order.
 #[tactic(auto, using(crate::proofs::Refusing::few_stores, crate::proofs::Refusing::few_groups, crate::proofs::Refusing::few_keys, crate::proofs::Refusing::unspelled_excess))]
 fn text_in_order(alloc: Global, bytes: &[u8], tables: &Tables) -> Result<Text, DecompileError>
     requires tables { tables.now ≡ tables_of bytes.now }
@@ -80,8 +80,9 @@ fn text_in_order(alloc: Global, bytes: &[u8], tables: &Tables) -> Result<Text, D
     }
 }
 
-/// The source of a valid file: the text of the program that its tables go back to, one statement to a line. It is refused
-/// exactly for why the file has no text that a source could be, and else only for want of memory.
+/// Returns the source of a valid file: the text of the program that its tables decompile to, with one statement on each line.
+///
+/// Errors: `Refused` with the reason exactly when the file has no text that is a source; `Memory` if an allocation fails.
 #[tactic(auto, using(crate::proofs::Refusing::few_groups, crate::proofs::Refusing::few_rules, crate::proofs::Refusing::unspelled_order))]
 pub fn decompile(alloc: Global, file: &Verified<'_>) -> Result<Text, DecompileError>
     ensures text { IfOk result (λ text. text ≡ program_text (back (tables_of file.now))) }

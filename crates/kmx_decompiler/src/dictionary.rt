@@ -1,4 +1,4 @@
-//! The names in a key dictionary, and whether a source could have them.
+//! Tests whether a source can have the names in a key dictionary.
 
 ghost use Rattle.std.specs.Prelude.{◌≡◌, ◌++◌, [], ◌∷◌, false, IfOk};
 ghost use Rattle.std.specs.List.{list_any};
@@ -13,9 +13,9 @@ use decompile_program::is_source_name;
 use indexed_tables::{element_text, first_word};
 use kmn_base::{Element, Memory};
 use kmn_items::is_own_key;
-use kmn_names::NameTable;
 use std::alloc::Global;
 use std::str;
+use store_table::NameTable;
 
 #[tactic(auto, using(crate::proofs::DictionaryWords::is_text, crate::proofs::DictionaryWords::is_no_text))]
 fn is_utf8(text: &[u8]) -> bool
@@ -27,14 +27,14 @@ fn is_utf8(text: &[u8]) -> bool
     }
 }
 
-/// Whether a name is one of a `T_` or a `U_` key that a source can have.
+/// Returns whether a name is the name of a custom key (`T_` or `U_`) that a source can have.
 fn is_dictionary_name(name: &[u8]) -> bool
     ensures { result ≡ is_dictionary_name name.now }
 {
     is_own_key(name) && is_source_name(name) && is_utf8(name)
 }
 
-/// Whether a name is among names.
+/// Returns whether a name is among the known names.
 #[tactic(auto, using(crate::proofs::DictionaryWords::named_is))]
 fn is_known(known: &NameTable, name: &[u8]) -> bool
     ensures { result ≡ list_any (λ other. same_name other name.now) known.now }
@@ -42,7 +42,7 @@ fn is_known(known: &NameTable, name: &[u8]) -> bool
     known.has(name)
 }
 
-/// Appends a word to names, and answers whether it may not stand behind them. An empty word is none.
+/// Returns whether a word is not allowed after the known names, and appends it if it is allowed. Ignores an empty word.
 fn add_word(known: &mut NameTable, word: &[u8]) -> Result<bool, Memory>
     ensures unfit { IfOk result (λ unfit. unfit ≡ are_unfit (not_empty (word.now ∷ [])) known.old) }
     ensures known { IfOk result (λ unfit. unfit ≡ false → known.new ≡ known.old ++ not_empty (word.now ∷ [])) }
@@ -57,7 +57,7 @@ fn add_word(known: &mut NameTable, word: &[u8]) -> Result<bool, Memory>
     Ok(false)
 }
 
-/// Whether the words of a text are not all names of keys, each once.
+/// Returns whether one of the words of a text is not the name of a custom key or repeats an earlier word.
 #[tactic(auto, using(crate::proofs::DictionaryWords::one_word_more))]
 fn are_unfit(alloc: Global, text: &[u8]) -> Result<bool, Memory>
     ensures { IfOk result (λ unfit. unfit ≡ are_unfit (words text.now) []) }
@@ -74,7 +74,7 @@ fn are_unfit(alloc: Global, text: &[u8]) -> Result<bool, Memory>
     Ok(false)
 }
 
-/// Whether the content of a dictionary has no spelling.
+/// Returns whether the content of a dictionary has no spelling.
 #[tactic(auto, using(crate::proofs::DictionaryWords::unfit_is_unspelled))]
 pub(crate) fn is_unspelled_dictionary(alloc: Global, elements: &[Element]) -> Result<bool, Memory>
     ensures { IfOk result (λ unspelled. unspelled ≡ is_unspelled_dictionary elements.now) }

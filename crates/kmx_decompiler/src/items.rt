@@ -1,9 +1,9 @@
-//! What is asked of elements and items by themselves.
+//! Tests of elements, items and contexts that do not depend on the tables.
 
 ghost use Rattle.std.specs.Prelude.{◌≡◌, bit_and, false, filter, filter_map, length, nat_eq, option_to_list};
 ghost use Rattle.std.specs.List.{list_all, list_any};
 ghost use Rattle.kmn_parser.specs.Names.{is_inner};
-ghost use Rattle.rule_model.specs.Dictionary.{is_nameable};
+ghost use Rattle.virtual_keys.specs.Dictionary.{is_nameable};
 ghost use Rattle.rule_model.specs.Tab.{element_char};
 ghost use Rattle.rule_model.specs.Patterns.{is_nul};
 ghost use Rattle.item_checker.specs.Items.{is_no_character};
@@ -15,49 +15,49 @@ use kmn_base::texts::is_forbidden;
 use kmn_base::{Element, SHIFT_FLAGS};
 use rule_model::{Out, Pat};
 
-/// Whether a deadkey's number is past those of a source.
+/// Returns whether the number of a deadkey is larger than a source can have.
 pub(crate) fn is_far_mark(mark: u16) -> bool
     ensures { result ≡ is_far_mark mark }
 {
     DEADKEYS < usize::from(mark)
 }
 
-/// Whether each flag is one that a word stands for.
+/// Returns whether each of the flags is one that a source can express.
 pub(crate) fn are_shift_flags(flags: u16) -> bool
     ensures { result ≡ nat_eq (bit_and flags SHIFT_FLAGS) flags }
 {
     flags & SHIFT_FLAGS == flags
 }
 
-/// Whether a unit is a character that a keyboard may have.
+/// Returns whether a unit is a character that a keyboard can have.
 pub(crate) fn is_nameable(unit: u16) -> bool
     ensures { result ≡ is_nameable unit }
 {
     !is_forbidden(u32::from(unit)) && !(0xD800..0xE000).contains(&unit)
 }
 
-/// Whether an element is no character.
+/// Returns whether an element is not a character.
 fn is_no_character(element: &Element) -> bool
     ensures { result ≡ is_no_character element.now }
 {
     !matches!(element, Element::Char(_))
 }
 
-/// Whether one of elements is no character.
+/// Returns whether at least one of the elements is not a character.
 pub(crate) fn has_no_character(elements: &[Element]) -> bool
     ensures { result ≡ list_any is_no_character elements.now }
 {
     elements.iter().any(|element| is_no_character(element))
 }
 
-/// Whether a character ends no line.
+/// Returns whether a character does not end a line.
 fn is_inner(character: char) -> bool
     ensures { result ≡ is_inner character }
 {
     character != '\n' && character != '\r'
 }
 
-/// Whether no character among elements ends a line.
+/// Returns whether no character among the elements ends a line.
 pub(crate) fn are_inner(elements: &[Element]) -> bool
     ensures { result ≡ list_all is_inner (filter_map element_char elements.now) }
 {
@@ -80,7 +80,7 @@ pub(crate) fn is_far_pattern(pattern: &Pat) -> bool
     }
 }
 
-/// The store whose elements an item of a context has as its value.
+/// Returns the store that contains the value of an item of a context, if the item has a value.
 pub(crate) fn pattern_value(pattern: &Pat) -> Option<u32>
     ensures { option_to_list result ≡ pattern_values pattern.now }
 {
@@ -102,7 +102,7 @@ pub(crate) fn is_far_output(output: &Out) -> bool
     }
 }
 
-/// The store whose elements an item of an output has as its value.
+/// Returns the store that contains the value of an item of an output, if the item has a value.
 pub(crate) fn output_value(output: &Out) -> Option<u32>
     ensures { option_to_list result ≡ output_values output.now }
 {
@@ -112,7 +112,7 @@ pub(crate) fn output_value(output: &Out) -> Option<u32>
     }
 }
 
-/// Whether a condition or `nul` stands behind an item that is matched.
+/// Returns whether a condition or `nul` follows an item that is matched.
 pub(crate) fn stands_behind_match(context: &[Pat]) -> bool
     ensures { result ≡ stands_behind_match false context.now }
 {
@@ -126,7 +126,7 @@ pub(crate) fn stands_behind_match(context: &[Pat]) -> bool
     false
 }
 
-/// How many `nul` a context has.
+/// Returns the number of `nul` items in a context.
 pub(crate) fn nul_count(context: &[Pat]) -> usize
     ensures { result ≡ length (filter is_nul context.now) }
 {

@@ -6,12 +6,12 @@ pub fn names_are_text()
     ensures { NamesAreText }
 {}
 
-/// The tables of a valid file that has a text can be written out as a program that means the same.
+/// If a valid file has a text, its tables can be written out as a program that means the same.
 pub fn spelled_can_be_written_out()
     ensures { SpelledCanBeWrittenOut }
 {}
 
-/// That program is one that a text can say: so its text is read as it.
+/// A text can express that program, so parsing the program's text returns the program.
 pub fn spelled_is_spelled()
     ensures { SpelledIsSpelled }
 {}
@@ -27,19 +27,19 @@ pub fn spelled_rules_stand()
     ensures { SpelledRulesStand }
 {}
 
-/// No store and no rule of the program of a file that has a text is refused for an item, or for what it is.
+/// If a file has a text, no store and no rule of its program is refused for an item, and no store is refused as a whole.
 #[tactic(auto, using(crate::proofs::Accepted::program_items_stand))]
 pub fn spelled_items_stand()
     ensures { SpelledItemsStand }
 {}
 
-/// A checker accepts the text, and reads it as that program.
+/// A checker accepts the text and reads it as that program.
 #[tactic(auto, using(crate::proofs::Accepted::text_is_accepted))]
 pub fn text_is_accepted()
     ensures { TextIsAccepted }
 {}
 
-/// The file of the tables that the text compiles to, with no picture, is within the limits of a file.
+/// The file of the tables that the text compiles to, without a bitmap, is within the limits of a file.
 #[tactic(auto, using(crate::proofs::Fitting::text_fits))]
 pub fn text_fits()
     ensures { TextFits }
@@ -68,7 +68,7 @@ pub fn compiled_has_no_causes()
     ensures { CompiledHasNoCauses }
 {}
 
-/// So nothing stands against the text of such a file but its size.
+/// Such a file has a text, unless the text or what it compiles to is too large.
 #[tactic(auto, using(crate::proofs::CompiledSources::compiled_lacks_no_text))]
 pub fn compiled_lacks_no_text()
     ensures { CompiledLacksNoText }

@@ -1,14 +1,17 @@
-//! The source of a compiled file, or why it has none; what holds of the text where it has one, and the way there and back.
+//! Decompiles the valid files of `kmx_verifier`: `decompile` returns the source that `decompile_program` and `decompile_text` define
+//! for the tables of a file, or the reason why the file has none, and laws state that the source keeps the meaning and compiles again.
 //!
-//! It stands on `kmx_verifier`, whose `Verified` lends the bytes of a valid file and copies out its tables, on `decompile_program` and
-//! `decompile_text`, which make the text of its tables, on `kmn_parser` and `rule_checker` for its laws on the language and the
-//! checker, and on `kmn_compiler` for what a compilation answers. `specs/Unspelled` says why a file has no text that a source could
-//! be. The layer above calls `decompile`: the text exactly, or just that reason, which it prints by `NoSpelling` (`specs/Reasons`).
+//! Depends on `kmx_verifier`, whose `Verified` returns the bytes of a valid file and copies its tables; `decompile_program` and
+//! `decompile_text`, which create the text of the tables; `kmn_parser` and `rule_checker`, for the laws on the language and the
+//! checker; and `kmn_compiler`, which specifies the result of a compilation. `specs/Unspelled` defines the reason why a file has no
+//! text that is a source. The layer above calls `decompile`, which returns exactly the text or exactly that reason, and prints the
+//! reason with `NoSpelling` (`specs/Reasons`).
 //!
-//! The laws in `laws`: the text of a file is accepted, compiles to a file within the limits and means what the file means, and what a
-//! source compiles to has a text but for its size; `specs/Written` says what of a program that was read this takes. Those in
-//! `round_trips`: the text that a decompiler gives of a valid file compiles, but for want of memory, to a file that takes the same
-//! steps, and the only compiled files that a decompiler refuses are those of too large a text.
+//! Laws in `laws`: a checker accepts the text of a file, and the text compiles to a file within the limits that means the same. A file
+//! that a source compiles to has a text, unless it is too large. `specs/Written` states which properties of a parsed program this needs.
+//!
+//! Laws in `round_trips`: if a valid file has a text, compiling the text returns a file that takes the same steps, or runs out of
+//! memory. A decompiler refuses a file that a source compiles to only if the text, or what it compiles to, is too large.
 #![tactic(auto)]
 
 mod causes;

@@ -1,19 +1,19 @@
-//! Why a file has no text that a source could be.
+//! The reasons why a file has no text that is a source.
 
 use std::fmt;
 
-/// Why a file has no text. Groups and records count from 0, places are bytes of the file.
+/// The reason why a file has no text. Groups and records are counted from 0, and positions are byte offsets in the file.
 #[derive(Clone, Copy, Debug)]
 pub enum NoSpelling {
     /// X1: the record of this number in this group has a longer context than the record before it.
     Order { group: u32, rule: u32 },
-    /// X2: what stands at this place of a key record, or in the string whose offset stands there, has no spelling.
+    /// X2: the key of the record at this byte offset, or the string whose offset is stored there, has no spelling.
     Unspelled { at: u32 },
     /// X3: the text would have this number of bytes.
     TooLarge { size: u64 },
-    /// X3: compiling the text would give this number of stores.
+    /// X3: the text would compile to this number of stores.
     TooManyStores { stores: u32 },
-    /// X3: compiling the text would give this number of elements in all stores.
+    /// X3: the text would compile to stores with this number of elements in total.
     TooManyElements { elements: u32 },
 }
 

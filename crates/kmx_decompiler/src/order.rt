@@ -1,4 +1,4 @@
-//! Records whose context is longer than that of the record before.
+//! Finds the first record whose context is longer than the context of the record before it.
 
 ghost use Rattle.std.specs.Prelude.{◌≡◌, ◌<◌, ◌^◌, All, length};
 ghost use Rattle.kmx_decompiler.specs.Unspelled.{longer_behind, first_longer, disorder};
@@ -6,8 +6,8 @@ ghost use Rattle.kmx_decompiler.specs.Unspelled.{longer_behind, first_longer, di
 use crate::NoSpelling;
 use rule_model::{Group, Rule};
 
-/// The number of the first of records, which count from 1, that has a longer context than the one before it. The length of
-/// the context before them all is given.
+/// Returns the number of the first record that has a longer context than the record before it, if any. The records are counted
+/// from 1, and `previous` is the length of the context before the first of them.
 fn longer_behind(previous: usize, rules: &[Rule]) -> Option<u32>
     requires { length rules.now < 2 ^ 32 }
     ensures { result ≡ longer_behind 1 previous rules.now }
@@ -22,7 +22,7 @@ fn longer_behind(previous: usize, rules: &[Rule]) -> Option<u32>
     None
 }
 
-/// The number of the first record that has a longer context than the one before it.
+/// Returns the number of the first record that has a longer context than the record before it, if any. Records are counted from 0.
 fn first_longer(rules: &[Rule]) -> Option<u32>
     requires { length rules.now < 2 ^ 32 }
     ensures { result ≡ first_longer rules.now }
@@ -33,7 +33,7 @@ fn first_longer(rules: &[Rule]) -> Option<u32>
     }
 }
 
-/// The first record of all groups with a longer context than the one before it.
+/// Returns the refusal of the first record of all groups that has a longer context than the record before it, if any.
 pub(crate) fn disorder(groups: &[Group]) -> Option<NoSpelling>
     requires groups { length groups.now < 2 ^ 32 }
     requires rules { All (λ group. length group.rules < 2 ^ 32) groups.now }

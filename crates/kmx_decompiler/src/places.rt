@@ -1,4 +1,4 @@
-//! The least place of what no source can say.
+//! Finds the least byte offset of what no source can express.
 
 ghost use Rattle.std.specs.Prelude.{◌≡◌, ◌+◌, ◌*◌, ◌<◌, ◌^◌, [], ◌∷◌, IfOk, None, length, position};
 ghost use Rattle.rule_model.specs.Tab.{is_dictionary, tab_options};
@@ -22,12 +22,12 @@ use kmx_format::places::{
     STORE_ELEMENTS_AT, STORES_AT,
 };
 use kmx_format::sizes::{GROUP_BYTES, RULE_BYTES, STORE_BYTES};
-use kmx_parts::word_at;
+use kmx_view::word_at;
 use rule_model::system::KEY_DICTIONARY;
 use rule_model::{Group, Rule, Store, Tables};
 use std::alloc::Global;
 
-/// The lesser of the least place and another, where a cause stands there.
+/// Returns the lesser of the least place so far and another, which counts only if it has a cause.
 fn lesser(least: Option<u32>, place: u32, cause: bool) -> Option<u32>
     ensures { result ≡ lesser (at_cause place cause) least }
 {
@@ -40,7 +40,7 @@ fn lesser(least: Option<u32>, place: u32, cause: bool) -> Option<u32>
     }
 }
 
-/// The lesser of the least place and those of a record that stands at a place.
+/// Returns the least place so far, including the causes of a record that begins at a place.
 #[tactic(auto, using(crate::proofs::LeastPlaces::lesser_append))]
 fn in_rule(names: &Called<'_>, least: Option<u32>, place: u32, rule: &Rule) -> Option<u32>
     requires { place + RULE_BYTES < 2 ^ 32 }
@@ -54,7 +54,7 @@ fn in_rule(names: &Called<'_>, least: Option<u32>, place: u32, rule: &Rule) -> O
     lesser(least, place + RULE_CONTEXT_AT as u32, context)
 }
 
-/// The same of records that stand from a place on.
+/// Returns the least place so far, including the causes of successive records that begin at a place.
 fn in_rules(names: &Called<'_>, least: Option<u32>, place: u32, rules: &[Rule]) -> Option<u32>
     requires { place + RULE_BYTES * length rules.now < 2 ^ 32 }
     ensures { result ≡ lesser (rule_causes names.now place rules.now) least }
@@ -68,7 +68,7 @@ fn in_rules(names: &Called<'_>, least: Option<u32>, place: u32, rules: &[Rule]) 
     least
 }
 
-/// The same of a group that stands at a place.
+/// Returns the least place so far, including the causes of a group whose record begins at a place.
 #[tactic(auto, using(crate::proofs::LeastPlaces::lesser_append))]
 fn in_group(
     bytes: &[u8],
@@ -89,7 +89,7 @@ fn in_group(
     in_rules(names, least, rules, group.rules.as_slice())
 }
 
-/// The same of groups that stand from a place on.
+/// Returns the least place so far, including the causes of groups whose records begin at a place.
 fn in_groups(
     bytes: &[u8],
     names: &Called<'_>,
@@ -109,7 +109,7 @@ fn in_groups(
     least
 }
 
-/// The number of the store that has the key dictionary: of several the first.
+/// Returns the number of the store that contains the key dictionary: the first one if there are several.
 fn dictionary_number(stores: &[Store]) -> Option<usize>
     ensures { result ≡ position is_dictionary stores.now }
 {
@@ -118,7 +118,7 @@ fn dictionary_number(stores: &[Store]) -> Option<usize>
         .position(|store| store.system == KEY_DICTIONARY)
 }
 
-/// Whether a number is another, if there is one.
+/// Returns whether another number is present and equal to this one.
 fn is_number(number: usize, other: Option<usize>) -> bool
     ensures { result ≡ is_number number other }
 {
@@ -128,7 +128,7 @@ fn is_number(number: usize, other: Option<usize>) -> bool
     }
 }
 
-/// The least place of stores that stand from a place on.
+/// Returns the least place of the causes of stores whose records begin at a place.
 #[tactic(auto, using(crate::proofs::LeastPlaces::lesser_append))]
 fn in_stores(
     alloc: Global,
@@ -158,7 +158,7 @@ fn in_stores(
     Ok(least)
 }
 
-/// The least place of a file, whose tables these are, of what no source can say.
+/// Returns the least place in a file with these tables that has a cause, if any.
 pub(crate) fn least_cause(
     alloc: Global,
     bytes: &[u8],

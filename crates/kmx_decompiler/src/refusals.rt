@@ -2,10 +2,10 @@ use crate::NoSpelling;
 use kmn_base::Memory;
 use thiserror::Error;
 
-/// Why a file was not decompiled.
+/// The reason why a file was not decompiled.
 #[derive(Clone, Copy, Debug, Error)]
 pub enum DecompileError {
-    /// It has no text that a source could be.
+    /// The file has no text that is a source.
     #[error("refused {0}")]
     Refused(NoSpelling),
     #[error("out of memory")]

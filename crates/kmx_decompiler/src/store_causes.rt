@@ -1,4 +1,4 @@
-//! What of a store no source can say.
+//! Tests which stores no source can express.
 
 ghost use Rattle.std.specs.Prelude.{◌≡◌, ◌<◌, ◌&&◌, ◌||◌, IfOk, length, nat_eq};
 ghost use Rattle.std.specs.List.{list_any};
@@ -16,7 +16,7 @@ use rule_model::Store;
 use rule_model::system::{BITMAP, MNEMONIC_LAYOUT};
 use std::alloc::Global;
 
-/// A store with its number, and whether it is the dictionary.
+/// A store with its number, and whether it is the key dictionary.
 #[derive(Clone, Copy)]
 pub(crate) struct NumberedStore<'a> {
     pub(crate) number: u32,
@@ -24,7 +24,7 @@ pub(crate) struct NumberedStore<'a> {
     pub(crate) is_dictionary: bool,
 }
 
-/// Whether the store of a number, which is used as an option, has no spelling.
+/// Returns whether the store of a number, which is used as an option, has no spelling.
 fn is_unspelled_option(names: &Called<'_>, number: u32, store: &Store) -> bool
     ensures { result ≡ is_unspelled_option names.now number store.now }
 {
@@ -33,7 +33,7 @@ fn is_unspelled_option(names: &Called<'_>, number: u32, store: &Store) -> bool
         || has_no_character(store.elements.as_slice())
 }
 
-/// Whether elements are the text `0`.
+/// Returns whether elements are the text `0`.
 fn is_layout_text(elements: &[Element]) -> bool
     ensures { result ≡ is_layout_text elements.now }
 {
@@ -43,7 +43,7 @@ fn is_layout_text(elements: &[Element]) -> bool
     }
 }
 
-/// Whether a system store has no spelling.
+/// Returns whether a system store has no spelling.
 fn is_unspelled_system(store: &Store) -> bool
     ensures { result ≡ is_unspelled_system store.now }
 {
@@ -51,7 +51,7 @@ fn is_unspelled_system(store: &Store) -> bool
         || (store.system == MNEMONIC_LAYOUT && !is_layout_text(store.elements.as_slice()))
 }
 
-/// Whether some item uses the store of a number as an option.
+/// Returns whether some item uses the store of a number as an option.
 #[tactic(auto, using(crate::proofs::OptionStores::is_option), unfolding(rule_model::specs::Tab::tab))]
 fn is_option(indexed: &IndexedTables<'_>, number: u32) -> bool
     requires { number < length indexed.now.stores }
@@ -60,7 +60,7 @@ fn is_option(indexed: &IndexedTables<'_>, number: u32) -> bool
     indexed.option_number(number).is_some()
 }
 
-/// Whether the store of a number has no spelling, but for the names of a dictionary.
+/// Returns whether the store of a number has no spelling as an option or as a system store.
 fn is_unspelled_otherwise(
     indexed: &IndexedTables<'_>,
     names: &Called<'_>,
@@ -74,7 +74,7 @@ fn is_unspelled_otherwise(
         || is_unspelled_system(store)
 }
 
-/// Whether a store with its number has no spelling.
+/// Returns whether a store with its number has no spelling.
 pub(crate) fn is_unspelled_store(
     alloc: Global,
     indexed: &IndexedTables<'_>,

@@ -1,4 +1,4 @@
-//! The values that conditions and `set` name, each once.
+//! Collects the values that conditions and `set` items name, each once.
 
 ghost use Rattle.std.specs.Prelude.{◌≡◌, [], ◌∷◌, length, flat_map, filter_map, option_to_list, option_copied, slice_get, IfOk, OnOk};
 ghost use Rattle.std.specs.Str.{bytes_eq};
@@ -14,7 +14,7 @@ use rule_model::{Group, Out, Pat, Rule};
 use std::alloc::Global;
 use std::marker::Model;
 
-/// Values of a file, which are found by hash. Contracts see them as the list of their characters.
+/// The values of a file in a hash set. Contracts model them as a list in which each value is the list of its characters.
 #[derive(Drop)]
 pub(crate) struct WrittenValues {
     alloc: Global,
@@ -29,7 +29,7 @@ impl Model for WrittenValues {
     ghost view = { λ values. map (λ value. value.items) values.found.keys };
 }
 
-/// The characters among elements.
+/// Returns the characters among elements.
 fn characters_of(alloc: Global, elements: &[Element]) -> Result<Vec<char>, Memory>
     ensures { IfOk result (λ characters. characters.items ≡ filter_map element_char elements.now) }
 {
@@ -43,7 +43,7 @@ fn characters_of(alloc: Global, elements: &[Element]) -> Result<Vec<char>, Memor
 }
 
 impl WrittenValues {
-    /// No values.
+    /// Creates an empty set of values.
     pub(crate) fn new(alloc: Global) -> WrittenValues
         ensures { result ≡ [] }
     {
@@ -53,14 +53,14 @@ impl WrittenValues {
         }
     }
 
-    /// How many values there are.
+    /// Returns the number of values.
     pub(crate) fn len(&self) -> usize
         ensures { result ≡ length self.now }
     {
         self.found.len()
     }
 
-    /// The value at a place.
+    /// Returns the value at an index.
     pub(crate) fn at(&self, place: usize) -> Option<&[char]>
         ensures { option_copied result ≡ slice_get self.now place }
     {
@@ -68,7 +68,7 @@ impl WrittenValues {
         Some(value.as_slice())
     }
 
-    /// Adds the characters of elements where they are new.
+    /// Adds the characters of elements as a value if the value is new.
     fn add(&mut self, elements: &[Element]) -> Result<(), Memory>
         ensures { OnOk result (self.new ≡ distinct_onto bytes_eq self.old (filter_map element_char elements.now ∷ [])) }
     {
@@ -78,7 +78,7 @@ impl WrittenValues {
     }
 }
 
-/// Adds the value that a store is, where there is one.
+/// Adds the value that a store contains, if a store is given.
 fn add_store(
     values: &mut WrittenValues,
     names: &Called<'_>,
@@ -152,7 +152,7 @@ fn add_group(values: &mut WrittenValues, names: &Called<'_>, group: &Group) -> R
     add_outputs(values, names, group.on_nomatch.as_slice())
 }
 
-/// The values of groups.
+/// Returns the values of groups.
 #[tactic(auto, using(crate::proofs::ValueSets::with_values_append))]
 pub(crate) fn values_of(
     alloc: Global,

@@ -7,7 +7,7 @@ use Rattle.kmn_base.specs.declared.units.UnitItem.{UnitItem}
 use Rattle.kmn_base.specs.declared.units.UnitItem.TheVariants.{Char, Any, Index, Context, Nul, Enter, Stop, Beep, Dead, Key, ContextAt, NotAny, Set, Test, Save, Reset, SystemTest, SetSystem}
 use Rattle.kmn_base.specs.Spelling.{char_units, spelling, IsSpellable}
 use Rattle.kmx_format.specs.FileUnits.{item_units}
-use Rattle.kmx_format.proofs.Results.{items_given_again}
+use Rattle.item_codec.proofs.Results.{items_given_again}
 use Rattle.kmx_format.specs.TablesOf.{items_of}
 
 -- ---- characters

@@ -7,7 +7,7 @@ use Rattle.kmn_base.specs.declared.items.Element.TheVariants as element
 use Rattle.kmn_base.specs.declared.units.UnitItem.{UnitItem}
 use Rattle.kmn_base.specs.declared.units.UnitItem.TheVariants as spelled
 use Rattle.kmn_base.specs.Spelling.{char_units, spelling}
-use Rattle.kmx_format.specs.declared.item_codes.TheConstants.{EQUAL, UNEQUAL}
+use Rattle.item_codec.specs.declared.item_codes.TheConstants.{EQUAL, UNEQUAL}
 use Rattle.rule_model.specs.declared.tables.Pat.{Pat}
 use Rattle.rule_model.specs.declared.tables.Pat.TheVariants as pattern
 use Rattle.rule_model.specs.declared.tables.Out.{Out}

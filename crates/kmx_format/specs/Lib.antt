@@ -2,15 +2,8 @@ pub mod File
 pub mod FileLaws
 pub mod FileUnits
 pub mod Playable
+pub mod Stated
 pub mod TablesOf
 pub mod Versions
 pub mod WorkedFiles
 pub mod Writable
-pub mod Walk
-pub mod ItemLaws
-pub mod Compiles
-pub mod Law
-pub mod Means
-pub mod Numbers
-pub mod Ordered
-pub mod WellNamed

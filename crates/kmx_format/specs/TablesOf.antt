@@ -12,8 +12,8 @@ use Rattle.kmn_base.specs.declared.keys.RuleKey.TheVariants as key
 use Rattle.kmn_base.specs.declared.units.UnitItem.{UnitItem}
 use Rattle.kmn_base.specs.declared.units.UnitItem.TheVariants as spelled
 use Rattle.kmn_base.specs.Spelling.{unit_bytes, whole_units}
-use Rattle.kmx_format.specs.declared.item_codes.TheConstants.{EQUAL, UNEQUAL}
-use Rattle.kmx_format.specs.Walk.{items_given, results_of}
+use Rattle.item_codec.specs.declared.item_codes.TheConstants.{EQUAL, UNEQUAL}
+use Rattle.item_codec.specs.Walk.{items_given, results_of}
 use Rattle.rule_model.specs.declared.tables.Pat.{Pat}
 use Rattle.rule_model.specs.declared.tables.Pat.TheVariants as pattern
 use Rattle.rule_model.specs.declared.tables.Out.{Out}

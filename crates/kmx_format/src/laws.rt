@@ -2,6 +2,7 @@
 
 ghost use Rattle.kmx_format.specs.WorkedFiles.{AreWorkedFiles};
 ghost use Rattle.kmx_format.specs.Playable.{WritableIsPlayableWithNames};
+ghost use Rattle.kmx_format.specs.Stated.{PlacesAreAsStated, SizesAreAsStated};
 ghost use Rattle.kmx_format.specs.FileLaws.{ReadingGivesBack, FilesHaveWritableTables};
 
 /// Reading a file gives back the tables that were written.
@@ -23,4 +24,10 @@ pub fn writable_is_playable_with_names()
 /// The definition of a file gives the bytes of two files that were worked out by hand.
 pub fn worked_files()
     ensures { AreWorkedFiles }
+{}
+
+/// Each word of the header and each field of a record stands where the KMX format has it.
+pub fn places_are_as_stated()
+    ensures places { PlacesAreAsStated }
+    ensures sizes { SizesAreAsStated }
 {}

@@ -5,7 +5,7 @@ ghost use Rattle.kmn_base.specs.declared.units.UnitItem.{UnitItem};
 ghost use Rattle.kmn_base.specs.Spelling.{IsSpellable};
 ghost use Rattle.kmx_format.specs.FileUnits.{unit_item_of_element, unit_item_of_pattern, unit_item_of_output};
 
-use crate::item_codes::{EQUAL, UNEQUAL};
+use item_codec::item_codes::{EQUAL, UNEQUAL};
 use kmn_base::{Element, UnitItem};
 use rule_model::{Out, Pat};
 

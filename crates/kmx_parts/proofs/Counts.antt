@@ -8,7 +8,7 @@ use Rattle.kmn_base.specs.declared.units.BadUnits.{BadUnits}
 use Rattle.kmn_base.specs.Spelling.{unit_bytes, whole_units, fault_at}
 use Rattle.kmn_base.specs.FirstItem.{first_item}
 use Rattle.kmn_base.proofs.Elements.{length-cons_option}
-use Rattle.kmx_format.specs.Walk.{spelled_size, results_at, results_from, results_of, items_given}
+use Rattle.item_codec.specs.Walk.{spelled_size, results_at, results_from, results_of, items_given}
 use Rattle.kmx_format.specs.TablesOf.{items_of}
 
 few_at : (behind : ℕ → List (Result UnitItem BadUnits)) (at most : ℕ) → ((passed : ℕ) → length (behind passed) ≤ most)

@@ -1,2 +1,1 @@
 pub mod ContextItems
-pub mod View

@@ -6,13 +6,13 @@ ghost use Rattle.kmx_format.specs.TablesOf.{tables_of};
 
 use crate::groups::FileGroup;
 use crate::lists::{Groups, Stores};
-use crate::numbers::{half_at, word_at};
 use crate::stores::FileStore;
 use kmx_format::places::{
     GROUP_COUNT_AT, GROUPS_AT, START_ANSI_AT, START_UNICODE_AT, STORE_COUNT_AT, STORES_AT,
     VERSION_AT,
 };
 use kmx_format::sizes::{GROUP_BYTES, STORE_BYTES};
+use kmx_view::{half_at, word_at};
 use std::marker::Model;
 
 /// The tables of a file, read where they lie. Contracts see them as the tables that the bytes have.

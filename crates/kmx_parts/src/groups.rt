@@ -6,7 +6,6 @@ ghost use Rattle.kmx_format.specs.TablesOf.{group_at};
 
 use crate::lists::Rules;
 use crate::names::name_at;
-use crate::numbers::word_at;
 use crate::records::FileRule;
 use crate::walks::Outputs;
 use kmn_base::{Memory, Text};
@@ -14,6 +13,7 @@ use kmx_format::places::{
     GROUP_MATCH_AT, GROUP_NOMATCH_AT, GROUP_RULE_COUNT_AT, GROUP_RULES_AT, GROUP_USING_KEYS_AT,
 };
 use kmx_format::sizes::RULE_BYTES;
+use kmx_view::word_at;
 use std::alloc::Global;
 use std::marker::Model;
 

@@ -5,8 +5,8 @@ ghost use Rattle.kmx_format.specs.TablesOf.{comparison_of, system_comparison_of}
 ghost use Rattle.kmx_parts.specs.ContextItems.{item_of};
 
 use crate::context_item::ContextItem;
+use item_codec::item_codes::{EQUAL, UNEQUAL};
 use kmn_base::{Element, UnitItem};
-use kmx_format::item_codes::{EQUAL, UNEQUAL};
 use rule_model::{Out, Pat};
 
 /// A kind of parts that items of a string are read as.

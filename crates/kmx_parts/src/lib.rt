@@ -1,8 +1,8 @@
 //! The tables of a compiled file, read where they lie: each part is found by its place in the bytes, and a string is
 //! walked item by item. Nothing is copied, and only a name takes memory.
 //!
-//! It stands on `kmx_format`, whose `tables_of` says which tables bytes have and which walks the items of a string. A `KmxView` reads the numbers and strings of any bytes by place, and answers None exactly where a part isn't wholly
-//! in the file (`specs/View`). The layer above makes `FileTables` of bytes, which
+//! It stands on `kmx_view`, which reads numbers and strings by place, on `kmx_format`, whose `tables_of` says which tables bytes
+//! have, and on `item_codec`, which walks the items of a string. The layer above makes `FileTables` of bytes, which
 //! contracts see as their tables, and asks them for stores, groups and key records: each is the one that the tables have
 //! there. What a string spells comes as an iterator, which contracts see as the list of what is left. An item of a context
 //! comes as the `Pat` that tables have, or as a `ContextItem`, which is the same in the numbers of a file.
@@ -14,12 +14,8 @@ mod groups;
 mod kinds;
 mod lists;
 mod names;
-mod numbers;
-mod parts;
 mod records;
 mod stores;
-mod strings;
-mod view;
 mod walks;
 
 pub use context_item::ContextItem;
@@ -27,10 +23,6 @@ pub use file::FileTables;
 pub use groups::FileGroup;
 pub use kinds::StringPart;
 pub use lists::{Groups, Rules, Stores};
-pub use numbers::{half_at, word_at};
-pub use parts::{GroupRef, RuleRef, StoreRef};
 pub use records::FileRule;
 pub use stores::FileStore;
-pub use strings::{ended_string, string_bytes};
-pub use view::KmxView;
 pub use walks::{ContextItems, Elements, Outputs, Patterns, StringParts};

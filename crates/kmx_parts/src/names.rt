@@ -4,8 +4,8 @@ ghost use Rattle.std.specs.Prelude.{◌≡◌, IfOk};
 ghost use Rattle.kmn_base.specs.Spelling.{whole_units};
 ghost use Rattle.kmx_format.specs.TablesOf.{name_at};
 
-use crate::strings::string_bytes;
 use kmn_base::{Memory, Seq, Text};
+use kmx_view::string_bytes;
 use std::alloc::Global;
 
 /// The whole units of bytes.

@@ -5,10 +5,10 @@ ghost use Rattle.kmn_base.specs.declared.limits.TheConstants.{FILE_BYTES};
 ghost use Rattle.kmx_format.specs.TablesOf.{key_of, rule_at};
 ghost use Rattle.kmx_parts.specs.ContextItems.{pattern_of};
 
-use crate::numbers::{half_at, word_at};
 use crate::walks::{ContextItems, Outputs, Patterns};
 use kmn_base::RuleKey;
 use kmx_format::places::{RULE_CONTEXT_AT, RULE_FLAGS_AT, RULE_LINE_AT, RULE_OUTPUT_AT};
+use kmx_view::{half_at, word_at};
 use std::marker::Model;
 
 /// A key record of a file, read where it stands.

@@ -5,10 +5,10 @@ ghost use Rattle.kmn_base.specs.declared.limits.TheConstants.{FILE_BYTES};
 ghost use Rattle.kmx_format.specs.TablesOf.{store_at};
 
 use crate::names::name_at;
-use crate::numbers::word_at;
 use crate::walks::Elements;
 use kmn_base::{Memory, Text};
 use kmx_format::places::{STORE_ELEMENTS_AT, STORE_NAME_AT};
+use kmx_view::word_at;
 use std::alloc::Global;
 use std::marker::Model;
 

@@ -7,9 +7,9 @@ ghost use Rattle.kmx_format.specs.TablesOf.{string_at, items_of};
 
 use crate::context_item::ContextItem;
 use crate::kinds::StringPart;
-use crate::strings::string_bytes;
+use item_codec::{Items, items_of};
 use kmn_base::Element;
-use kmx_format::{Items, items_of};
+use kmx_view::string_bytes;
 use rule_model::{Out, Pat};
 use std::marker::{Model, PhantomData};
 
@@ -33,7 +33,7 @@ pub type Outputs<'a> = StringParts<'a, Out>;
 impl<'a, T: StringPart> Model for StringParts<'a, T> {
     ghost use Rattle.std.specs.Prelude.{List};
     ghost use Rattle.std.specs.List.{filter_map};
-    ghost use Rattle.kmx_format.specs.Walk.{items_given};
+    ghost use Rattle.item_codec.specs.Walk.{items_given};
 
     ghost Value = { List T };
 
@@ -42,7 +42,7 @@ impl<'a, T: StringPart> Model for StringParts<'a, T> {
 
 impl<'a, T: StringPart> StringParts<'a, T> {
     /// No parts.
-    #[tactic(auto, unfolding(kmx_format::specs::Walk::results_of))]
+    #[tactic(auto, unfolding(item_codec::specs::Walk::results_of))]
     pub fn none() -> StringParts<'a, T>
         ensures { result ≡ [] }
     {
@@ -75,7 +75,7 @@ impl<'a, T: StringPart> Iterator for StringParts<'a, T> {
 
     ghost remaining = { item_count (λ parts. parts) };
 
-    #[tactic(auto, unfolding(kmx_format::specs::Walk::results_of))]
+    #[tactic(auto, unfolding(item_codec::specs::Walk::results_of))]
     fn next(&mut self) -> Option<T> {
         while let Some(read) = self.items.next() {
             let Ok(item) = read else {

@@ -1,11 +1,11 @@
--- Where the length and the arrays have no fault, the records stand in the file.
+-- If the length and the arrays have no fault, the records are within the file.
 use Rattle.std.proofs.Common.{◌≡◌, ℕ, ◌+◌, ◌*◌, ◌≤◌, ◌⊎◌, false, not, ◌&&◌, List, length, None, arith}
 use Rattle.std.specs.Prelude.{nat_lt}
 use Rattle.kmn_base.specs.declared.limits.TheConstants.{FILE_BYTES}
 use Rattle.kmn_base.proofs.Options.{option_or-none}
 use Rattle.kmx_format.specs.TablesOf.{word_at}
 use Rattle.kmx_verifier.specs.FaultOf.{size_fault, arrays_fault}
-use Rattle.kmx_parts.specs.View.{is_within, store_count, group_count}
+use Rattle.kmx_view.specs.View.{is_within, store_count, group_count}
 use Rattle.kmx_verifier.proofs.Sound.{broken-none}
 
 pub size_fits : (bytes : List ℕ) → size_fault bytes ≡ None → length bytes ≤ FILE_BYTES

@@ -5,8 +5,8 @@ use Rattle.std.specs.List.{cons_option, All, list_any, filter_map, flat_map}
 use Rattle.std.proofs.lemmas.List.Elements.{All-nil, All-head, All-tail, All-append, All-cons, All-weaker}
 use Rattle.std.proofs.lemmas.List.{length-map}
 use Rattle.std.proofs.lemmas.Bool.{not-true, and_parts}
-use Rattle.kmx_format.specs.Walk.{items_given, results_of}
-use Rattle.kmx_format.proofs.Results.{items_have_one_spelling}
+use Rattle.item_codec.specs.Walk.{items_given, results_of}
+use Rattle.item_codec.proofs.Results.{items_have_one_spelling}
 use Rattle.kmn_base.specs.declared.limits.TheConstants.{CONTEXT_ITEMS}
 use Rattle.kmn_base.specs.declared.units.UnitItem.{UnitItem}
 use Rattle.kmn_base.specs.declared.units.UnitItem.TheVariants as spelled
@@ -22,7 +22,7 @@ use Rattle.rule_model.specs.Patterns.{is_matched}
 use Rattle.kmx_verifier.specs.declared.faults.StringKind.{StringKind}
 use Rattle.kmx_verifier.specs.declared.faults.StringKind.TheVariants as of
 use Rattle.kmx_verifier.specs.declared.faults.Target.{Target}
-use Rattle.kmx_parts.specs.View.{store_count, group_count}
+use Rattle.kmx_view.specs.View.{store_count, group_count}
 use Rattle.kmx_verifier.specs.Items as target
 use Rattle.kmx_verifier.specs.Items.{target_at, may_stand, stores_named, groups_named, target_of, points_right}
 use Rattle.kmx_verifier.specs.FaultOf.{walk_fault, context_fault}
@@ -32,7 +32,7 @@ use Rattle.kmx_verifier.proofs.Sound.{walk_readable, walk_stands, context_readab
 filter_map_some : {X Y : Type 0} (f : X → Option Y) (x : X) (xs : List X) (y : Y) → f x ≡ Some y → filter_map f (x ∷ xs) ≡ y ∷ filter_map f xs
 filter_map_some f x xs y h = ap (λ o. cons_option o (filter_map f xs)) h
 
--- items that are all read are what they are read as
+-- if each item is read as a value that converts back to it, the values of a list convert back to the list
 read_all : {X : Type 0} (there : X → UnitItem) (again : UnitItem → Option X) (P : UnitItem → Type 0)
     → ((item : UnitItem) → P item → (x : X) × (again item ≡ Some x) × (there x ≡ item))
     → (items : List UnitItem) → All P items → map there (filter_map again items) ≡ items
@@ -59,11 +59,11 @@ items_all : (bytes : List ℕ) (kind : StringKind) (targets : List Target) (item
 items_all bytes kind targets [] h = All-nil (ItemStands bytes kind targets)
 items_all bytes kind targets (item ∷ items) h = All-cons (ItemStands bytes kind targets) item items h.0 (items_all bytes kind targets items h.1)
 
--- an item that may stand in a string of a kind and has a spelling
+-- an item is allowed in a string of a kind and has a spelling
 abbrev MayStand : StringKind → UnitItem → Type 0
 MayStand kind item = (may_stand kind item ≡ true) × IsSpellable item
 
--- what the units of a string without a fault are read as
+-- the values that are read from the units of a string without a fault
 pub record Contents {X : Type 0} (there : X → UnitItem) (bytes : List ℕ) (kind : StringKind) (targets : List Target) (units : List ℕ) (xs : List X) : Type 0 where
   pub spellable : All (λ x. IsSpellable (there x)) xs
   pub stand : All (λ x. ItemStands bytes kind targets (there x)) xs
@@ -98,7 +98,7 @@ pub outputs_read : (bytes : List ℕ) (targets : List Target) (at : ℕ) (units 
     → Contents unit_item_of_output bytes of.Output targets units (filter_map output_of_unit_item (items_of units))
 outputs_read bytes targets at units small h = contents unit_item_of_output output_of_unit_item of.Output (λ item s. output_again item s.0 s.1) bytes targets at units small h
 
--- what may stand in a match output may stand in any
+-- if an item is allowed in a match output, it is allowed in every output
 match_is_output : (item : UnitItem) → may_stand of.Match item ≡ true → may_stand of.Output item ≡ true
 match_is_output (spelled.Char c) h = h
 match_is_output (spelled.Any store) h = h
@@ -124,11 +124,11 @@ pub match_outputs_read : (bytes : List ℕ) (at : ℕ) (units : List ℕ) → Ar
 match_outputs_read bytes at units small h =
     contents unit_item_of_output output_of_unit_item of.Match (λ item s. output_again item (match_is_output item s.0) s.1) bytes [] at units small h
 
--- a number is that of a system option where it is so counted from 1, as a file does
+-- two ids of system options are equal if and only if they are equal when counted from 1, as a file does
 counted : (id number : ℕ) → nat_eq (id + 1) (number + 1) ≡ nat_eq id number
 counted id number = grind arith
 
--- each output may stand in one, but for sets of system options that no file can set
+-- an output is allowed in an output string if and only if it does not set a system option that no file can set
 pub output_stands : (o : Out) → may_stand of.Output (unit_item_of_output o) ≡ sets_system_id o
 output_stands (output.Char c) = refl
 output_stands (output.Mark mark) = refl
@@ -144,7 +144,7 @@ output_stands output.Nul = refl
 output_stands output.Beep = refl
 output_stands output.Stop = refl
 
--- the outputs of a match are those of them that need no context
+-- an output is allowed in a match output if and only if it needs no context and does not set a system option that no file can set
 pub stands_alone : (o : Out) → may_stand of.Match (unit_item_of_output o) ≡ (not (needs_context o) && sets_system_id o)
 stands_alone (output.Char c) = refl
 stands_alone (output.Mark mark) = refl
@@ -210,7 +210,7 @@ outputs_groups bytes kind targets outputs h =
     (All-weaker (λ o. ItemStands bytes kind targets (unit_item_of_output o)) (λ o. All (λ group. group < group_count bytes) (groups_of_output o))
     (λ o s. output_groups (store_count bytes) (group_count bytes) o s.named) outputs h)
 
--- and the system options that outputs set can be set
+-- if outputs have no fault, a file can set the system options that they set
 pub outputs_systems : (bytes : List ℕ) (targets : List Target) (outputs : List Out) → All (λ o. ItemStands bytes of.Output targets (unit_item_of_output o)) outputs
     → All (λ o. sets_system_id o ≡ true) outputs
 outputs_systems bytes targets outputs h =
@@ -224,7 +224,7 @@ match_systems bytes targets outputs h =
 
 -- ---- contexts
 
--- each pattern may stand in a context, but for conditions on system options that no file can ask for
+-- a pattern is allowed in a context if and only if it is not a condition on a system option that no file can test
 pub pattern_stands : (p : Pat) → may_stand of.Context (unit_item_of_pattern p) ≡ has_system_id p
 pattern_stands (pattern.Any store) = refl
 pattern_stands (pattern.NotAny store) = refl
@@ -238,7 +238,7 @@ pattern_stands (pattern.Mark mark) = refl
 pattern_stands (pattern.ContextAt offset) = refl
 pattern_stands pattern.Nul = refl
 
--- a context's items are all patterns
+-- if a context has no fault, all its items are patterns
 pub patterns_again : (bytes : List ℕ) (before : List Target) (items : List UnitItem) → ContextStands bytes before items → All IsSpellable items
     → map unit_item_of_pattern (filter_map pattern_of_unit_item items) ≡ items
 patterns_again bytes before [] h s = refl
@@ -289,7 +289,7 @@ pattern_of (pattern.Mark mark) h = refl
 pattern_of (pattern.ContextAt offset) h = refl
 pattern_of pattern.Nul h = absurd (cc)
 
--- what offsets can point at, of the items of a context as tables have them
+-- the targets of the patterns of a context
 abbrev pub targets_of : List Pat → List Target
 targets_of before = map target_of (map unit_item_of_pattern before)
 
@@ -328,7 +328,7 @@ pub targets_more : (before : List Pat) (p : Pat) → targets_of before ++ target
 targets_more [] p = refl
 targets_more (q ∷ before) p = ap (λ (targets : List Target). target_of (unit_item_of_pattern q) ∷ targets) (targets_more before p)
 
--- each item of a context points back
+-- if a context has no fault, each of its items points back
 pub context_points : (bytes : List ℕ) (before context : List Pat) → ContextStands bytes (targets_of before) (map unit_item_of_pattern context)
     → (place : ℕ) (d : Pat) → place < length context → PointsBack (before ++ take place context) (slice_index_or context place d)
 context_points bytes before [] h place d below = absurd (omega arith)
@@ -338,7 +338,7 @@ context_points bytes before (p ∷ context) h (suc place) d below =
     (context_points bytes (before ++ p ∷ []) context
     (subst (λ targets. ContextStands bytes targets (map unit_item_of_pattern context)) (targets_more before p) h.1) place d (omega arith))
 
--- the stores that a context names are below the count
+-- if a context has no fault, the stores that it names are below the count
 pub context_stores : (bytes : List ℕ) (targets : List Target) (context : List Pat) → ContextStands bytes targets (map unit_item_of_pattern context)
     → All (λ store. store < store_count bytes) (flat_map stores_of_pattern context)
 context_stores bytes targets [] h = grind arith
@@ -347,7 +347,7 @@ context_stores bytes targets (p ∷ context) h =
     (pattern_stores (store_count bytes) (group_count bytes) p h.0.named)
     (context_stores bytes (targets ++ target_of (unit_item_of_pattern p) ∷ []) context h.1)
 
--- and the system options that it asks for can be asked for
+-- if a context has no fault, a file can test the system options that it tests
 pub context_systems : (bytes : List ℕ) (targets : List Target) (context : List Pat) → ContextStands bytes targets (map unit_item_of_pattern context)
     → All (λ p. has_system_id p ≡ true) context
 context_systems bytes targets [] h = All-nil (λ p. has_system_id p ≡ true)
@@ -355,7 +355,7 @@ context_systems bytes targets (p ∷ context) h =
     All-cons (λ q. has_system_id q ≡ true) p context (sym (pattern_stands p) ∙ h.0.stands)
     (context_systems bytes (targets ++ target_of (unit_item_of_pattern p) ∷ []) context h.1)
 
--- what a context without a fault is read as: it can be played, and is spelled by its items
+-- the patterns that are read from a context without a fault are writable and convert back to its items
 pub record ContextRead (bytes units : List ℕ) (context : List Pat) : Type 0 where
   pub writable : IsWritableContext (store_count bytes) context
   pub again : map unit_item_of_pattern context ≡ items_of units
@@ -383,7 +383,7 @@ context_read bytes units at small h few =
       again = same;
     }
 
--- an item of an output points into the context
+-- if the offset of an output points at an allowed target, it points into the context
 pub points_into : (context : List Pat) (o : Out) → points_right (targets_of context) (unit_item_of_output o) ≡ true → PointsInto context o
 points_into context (output.Index store offset) h = index_points context offset h
 points_into context (output.ContextAt offset) h = context_at_points context offset h

@@ -1,10 +1,10 @@
--- A walk over the items of a context, as a loop does it.
+-- A scan of the items of a context, as a loop does it.
 use Rattle.std.proofs.Common.{◌≡◌, ℕ, ◌+◌, ◌<◌, ◌≤◌, List, [], ◌∷◌, ◌++◌, length, map, Option, None, Some, refl, sym, ◌∙◌, ap, arith, append_assoc}
 use Rattle.std.specs.Prelude.{Ok}
 use Rattle.std.specs.List.{All}
 use Rattle.std.specs.Option.{option_or}
 use Rattle.kmn_base.specs.declared.units.UnitItem.{UnitItem}
-use Rattle.kmx_format.specs.Walk.{spelled_size, items_given, results_of}
+use Rattle.item_codec.specs.Walk.{spelled_size, items_given, results_of}
 use Rattle.kmx_verifier.specs.declared.contexts.TheConstants.{OFFSET_REACH}
 use Rattle.kmx_verifier.specs.declared.faults.Fault.{Fault}
 use Rattle.kmx_verifier.specs.declared.faults.VerifyError.{VerifyError}
@@ -14,10 +14,10 @@ use Rattle.kmx_verifier.specs.declared.faults.Target.{Target}
 use Rattle.kmx_verifier.specs.Items.{target_of, reached}
 use Rattle.kmx_verifier.specs.FaultOf.{item_fault, context_fault, IsRefusal}
 use Rattle.kmx_verifier.proofs.Reach.{reached-more, length-reached}
-use Rattle.kmx_format.proofs.ItemSizes.{sizes, sizes_within}
-use Rattle.kmx_format.proofs.Results.{Results}
+use Rattle.item_codec.proofs.Sizes.{sizes, sizes_within}
+use Rattle.item_codec.proofs.Results.{Results}
 
--- a walk from a place on, after some items, whose answer and targets are those of the whole walk
+-- a scan from a place on, after some items, has the result and the targets of the whole scan
 pub record ContextWalksOn (bytes : List ℕ) (answer : Option Fault) (total : List Target) (end at : ℕ) (targets : List Target) (results : Results) : Type 0 where
   pub before : List Target
   pub is_reached : targets ≡ reached before
@@ -30,7 +30,7 @@ pub context_starts : (bytes string : List ℕ) (end at : ℕ) → All (λ byte. 
 unfolding reached
 context_starts bytes string end at h within = record { before = []; is_reached = refl; fault = refl; all = refl; room = omega (arith, sizes_within string h, within) }
 
--- so many targets at most are kept
+-- at most `OFFSET_REACH` targets are kept
 pub context_few : (bytes : List ℕ) (answer : Option Fault) (total : List Target) (end at : ℕ) (targets : List Target) (results : Results)
     → ContextWalksOn bytes answer total end at targets results → length targets ≤ OFFSET_REACH
 context_few bytes answer total end at targets results h = omega (arith, ap length h.is_reached, length-reached h.before)
@@ -50,7 +50,7 @@ context_goes_on bytes answer total end at targets more item results h none is =
       room = omega (arith, h.room);
     }
 
--- an item that has a fault ends the walk
+-- if an item has a fault, the scan ends with it
 pub context_stops : (bytes : List ℕ) (answer : Option Fault) (total : List Target) (end at : ℕ) (targets : List Target) (item : UnitItem) (results : Results) (error : VerifyError)
     → ContextWalksOn bytes answer total end at targets (Ok item ∷ results)
     → ((before : List Target) → targets ≡ reached before → IsRefusal error (λ found. item_fault bytes of.Context before item at ≡ Some found))

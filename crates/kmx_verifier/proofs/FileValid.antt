@@ -1,4 +1,4 @@
--- The file of tables that a file can have is valid.
+-- The file that is written for writable tables is valid.
 use Rattle.std.proofs.Common.{◌≡◌, ℕ, ◌+◌, ◌*◌, ◌^◌, ◌<◌, ◌≤◌, ◌⊎◌, Bool, true, false, not, ◌&&◌, ◌||◌, nat_eq, nat_lt, List, [], ◌∷◌, ◌++◌, length, map, None, refl, sym, ap, ap₂, subst, ◌∙◌, inl, inr, arith, length-append, lit<, bit_and, le-leb, ne_eqb}
 use Rattle.std.specs.List.{All, flat_map}
 use Rattle.std.proofs.lemmas.List.Elements.{All-head, All-tail}
@@ -21,7 +21,7 @@ use Rattle.kmx_format.proofs.FileStands.{StandsAt, end_within, front, back, same
 use Rattle.kmx_format.proofs.FileRecords.{key_flags-small, offset_of-le, length-store_record, length-rule_record, length-rule_records, rule_records-append}
 use Rattle.kmx_format.proofs.FileGroups.{flag-read, flag-small, length-group_record}
 use Rattle.kmx_format.proofs.FileLaw.{Parts, parts, length-store_records, length-group_records, start-small, version-small}
-use Rattle.kmx_parts.specs.View.{is_within, store_count, group_count}
+use Rattle.kmx_view.specs.View.{is_within, store_count, group_count}
 use Rattle.kmx_verifier.specs.declared.faults.StringKind.TheVariants as of
 use Rattle.kmx_verifier.specs.declared.faults.Target.{Target}
 use Rattle.kmx_verifier.specs.Items.{target_of}
@@ -40,7 +40,7 @@ flags_known true Any h = absurd h
 flags_known true (Char unit) h = refl
 flags_known true (Virtual flags code) h = ap (λ n. not (nat_eq n flags)) h.1 ∙ ap not (eq-eqb flags flags refl)
 
--- an array that has records stands at its offset
+-- if an array is within the file, its offset has no fault
 array_fits : {X : Type 0} (xs : List X) (bytes : List ℕ) (place size : ℕ) → place + size * length xs ≤ length bytes
     → (nat_lt 0 (length xs) && not (is_within bytes (offset_of xs place) (size * length xs))) ≡ false
 array_fits [] bytes place size h = refl
@@ -129,7 +129,7 @@ module _ (bytes : List ℕ) (small : length bytes < 2 ^ 32) where
       (back bytes at (rule_record place rule) (rule_records behind rules) fields))
       (back bytes place (rule_strings rule) (flat_map rule_strings rules) strings))
 
-  -- the key records of a group, which an empty group has at no place
+  -- if the key records of a group are in the file, they have no fault at their offset, which is 0 for an empty group
   rules_clean_at : (using_keys : Bool) (at place : ℕ) (rules : List Rule) → 0 < place → All (IsWritableRule (store_count bytes) (group_count bytes) using_keys) rules
       → StandsAt bytes at (rule_records place rules) → StandsAt bytes place (flat_map rule_strings rules) → records_fault bytes using_keys (offset_of rules at) (length rules) ≡ None
   rules_clean_at using_keys at place [] positive writable fields strings = refl

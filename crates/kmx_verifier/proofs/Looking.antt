@@ -1,4 +1,4 @@
--- Files with the same bytes where a step looks have the same first fault.
+-- If two files have the same bytes wherever a step reads, they have the same first fault.
 use Rattle.std.proofs.Common.{◌≡◌, ℕ, zero, suc, ◌+◌, ◌*◌, ◌-◌, ◌≤◌, Bool, true, false, not, ◌&&◌, ◌||◌, nat_eq, nat_lt, List, [], ◌∷◌, ◌++◌, length, map, take, drop, get_or, length-drop, bit_and, None, refl, sym, ap, ap₂, ◌∙◌, subst, arith}
 use Rattle.std.specs.Prelude.{Ok, Err, nat_le, if◌then◌else◌}
 use Rattle.std.specs.List.{All, list_any}
@@ -12,11 +12,11 @@ use Rattle.kmn_base.specs.declared.keys.TheConstants.{SHIFT_FLAGS}
 use Rattle.kmn_base.specs.declared.limits.TheConstants.{FILE_NAME_UNITS, CONTEXT_ITEMS, OUTPUT_ITEMS, STORES, GROUPS, RECORDS, PICTURE_BYTES, FILE_BYTES}
 use Rattle.kmn_base.specs.declared.units.UnitItem.{UnitItem}
 use Rattle.kmn_base.proofs.Elements.{All-append_parts}
-use Rattle.kmx_format.specs.Walk.{spelled_size, results_of}
+use Rattle.item_codec.specs.Walk.{spelled_size, results_of}
 use Rattle.kmx_format.specs.TablesOf.{word_at, before_zero, string_at, items_of, uses_keys_at}
 use Rattle.kmx_format.specs.Versions.{is_version}
-use Rattle.kmx_format.proofs.Results.{Results}
-use Rattle.kmx_parts.specs.View.{has_zero, is_ended, store_count, group_count}
+use Rattle.item_codec.proofs.Results.{Results}
+use Rattle.kmx_view.specs.View.{has_zero, is_ended, store_count, group_count}
 use Rattle.kmx_verifier.specs.declared.faults.StringKind.{StringKind}
 use Rattle.kmx_verifier.specs.declared.faults.StringKind.TheVariants as of
 use Rattle.kmx_verifier.specs.declared.faults.Target.{Target}
@@ -27,7 +27,7 @@ use Rattle.kmx_verifier.specs.Looked.{Range, string_range, header_looked, stores
 -- ---- bytes that are the same
 
 module _ (bytes other : List ℕ) (same_length : length bytes ≡ length other) where
-  -- bytes within a range that is the same
+  -- if two files have the same bytes in a range, they have the same bytes in each part of it
   same_part : (range : Range) (d n : ℕ) → d + n ≤ range.size → IsSameAt bytes other range
       → take n (drop (range.place + d) bytes) ≡ take n (drop (range.place + d) other)
   same_part range d n within same =
@@ -44,13 +44,13 @@ module _ (bytes other : List ℕ) (same_length : length bytes ≡ length other) 
   same_word range d within same =
       ap₂ (λ (size : ℕ) (ys : List ℕ). if nat_le (range.place + d + 4) size then from_le_bytes w32 ys else 0) same_length (same_part range d 4 within same)
 
-  -- the same of a place that is so far from the range's
+  -- if two files have the same bytes in a range, they have the same word at each place within it
   word_same : (range : Range) (d place : ℕ) → range.place + d ≡ place → d + 4 ≤ range.size → IsSameAt bytes other range → word_at bytes place ≡ word_at other place
   word_same range d place at within same = subst (λ (p : ℕ). word_at bytes p ≡ word_at other p) at (same_word range d within same)
 
 -- ---- strings that are the same
 
--- the first two bytes and the others
+-- if two lists have the same beginning of two bytes or more, their first two bytes are equal, and so are the others
 two_same : (a b c d k : ℕ) (xs ys : List ℕ) → take (suc (suc k)) (a ∷ b ∷ xs) ≡ take (suc (suc k)) (c ∷ d ∷ ys) → (a ≡ c) × (b ≡ d) × (take k xs ≡ take k ys)
 two_same a b c d k xs ys h = (ap (λ (l : List ℕ). get_or l 0 0) h, ap (λ (l : List ℕ). get_or l 1 0) h, ap (drop 2) h)
 

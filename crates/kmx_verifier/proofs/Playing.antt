@@ -16,7 +16,7 @@ use Rattle.kmx_format.specs.Versions.{is_version}
 use Rattle.kmx_format.specs.Writable.{elements_of, needs_context, PointsInto, IsWritableMatchOutput, IsWritableKey, IsWritableRule}
 use Rattle.kmx_format.specs.Playable.{IsPlayableStore, IsPlayableGroup, IsPlayable}
 use Rattle.kmx_format.proofs.FileLaw.{version-small}
-use Rattle.kmx_parts.specs.View.{store_count, group_count}
+use Rattle.kmx_view.specs.View.{store_count, group_count}
 use Rattle.kmx_verifier.specs.declared.faults.StringKind.{StringKind}
 use Rattle.kmx_verifier.specs.declared.faults.StringKind.TheVariants as of
 use Rattle.kmx_verifier.specs.declared.faults.Target.{Target}
@@ -28,7 +28,7 @@ use Rattle.kmx_format.proofs.SmallNumbers.{word_at-small, half_at-small, half_at
 use Rattle.kmx_verifier.proofs.Sound.{broken-none, broken_by-none, ItemStands}
 use Rattle.kmx_verifier.proofs.Contents.{Contents, elements_read, outputs_read, match_outputs_read, acts_alone, outputs_stores, outputs_groups, outputs_systems, match_systems, targets_of, ContextRead, context_read, points_into}
 
--- a string without a fault: its walk has none, and its items aren't too many
+-- if a string has no fault, the scan of its items finds none, and it does not have too many items
 string_walk : (bytes : List ℕ) (kind : StringKind) (targets : List Target) (place : ℕ) (too_many : ℕ → Bool) → string_fault bytes kind targets place too_many ≡ None
     → (walk_fault bytes kind targets (word_at bytes place) (read_at bytes (word_at bytes place)) ≡ None) × (too_many (item_count bytes (word_at bytes place)) ≡ false)
 string_walk bytes kind targets place too_many h =
@@ -57,7 +57,7 @@ key_playable false code flags small h = tt
 key_playable true code flags small h =
     key_by_flags (nat_eq flags 0) code flags (some flags) small (eqb-true (bit_and flags SHIFT_FLAGS) flags (not-false (nat_eq (bit_and flags SHIFT_FLAGS) flags) h))
 
--- as many records are read as there are
+-- reading a number of records results in that number of entries
 pub length-stores_from : (bytes : List ℕ) (place count : ℕ) → length (stores_from bytes place count) ≡ count
 length-stores_from bytes place zero = refl
 length-stores_from bytes place (suc count) = ap suc (length-stores_from bytes (place + 12) count)

@@ -1,4 +1,4 @@
--- Targets so far as offsets reach.
+-- The targets that offsets can reach.
 use Rattle.std.proofs.Common.{◌≡◌, ◌≢◌, length-append, ℕ, zero, suc, ◌<◌, ◌≤◌, min, not, List, [], ◌∷◌, ◌++◌, length, map, take, None, refl, sym, ◌∙◌, ap, arith}
 use Rattle.std.specs.Prelude.{slice_get}
 use Rattle.std.specs.Option.{option_or}
@@ -18,7 +18,7 @@ take-more zero xs x = refl
 take-more (suc n) [] x = refl
 take-more {X} (suc n) (y ∷ xs) x = ap (λ (ys : List X). y ∷ ys) (take-more n xs x)
 
--- what is left away stays away
+-- omitting the targets past the reach before a target is appended does not change the reached targets
 pub reached-more : (targets : List Target) (t : Target) → reached (reached targets ++ t ∷ []) ≡ reached (targets ++ t ∷ [])
 unfolding reached
 reached-more targets t = take-more 65535 targets t
@@ -27,7 +27,7 @@ pub length-reached : (targets : List Target) → length (reached targets) ≤ OF
 unfolding reached
 length-reached targets = omega (arith, length-take 65535 targets)
 
--- one target more, where offsets reach it and where they don't
+-- a target that is appended is kept if offsets reach it, and omitted if they don't
 pub reached_all : (targets : List Target) (t : Target) → length targets ≤ OFFSET_REACH → length targets ≢ OFFSET_REACH → targets ++ t ∷ [] ≡ reached (targets ++ t ∷ [])
 unfolding reached
 reached_all targets t few some = sym (take_all 65535 (targets ++ t ∷ []) (omega (arith, few, some, length-append targets (t ∷ []))))
@@ -36,7 +36,7 @@ pub reached_full : (targets : List Target) (t : Target) → length targets ≡ O
 unfolding reached
 reached_full targets t full = sym (take_at targets (t ∷ []) 65535 full)
 
--- where few items are reached, they are all
+-- if at most `CONTEXT_ITEMS` targets are reached, they are the targets of all items
 pub few_reached : (targets : List Target) (items : List UnitItem) → targets ≡ reached (map target_of items) → length targets ≤ CONTEXT_ITEMS
     → (targets ≡ map target_of items) × (length items ≤ CONTEXT_ITEMS)
 unfolding reached
@@ -45,7 +45,7 @@ few_reached targets items is few =
     let all : length (map target_of items) ≤ CONTEXT_ITEMS = omega (arith, count, few) in
     (is ∙ take_all 65535 (map target_of items) (omega (arith, all)), omega (arith, all, length-map items target_of))
 
--- where many are, there are as many
+-- if more than `CONTEXT_ITEMS` targets are reached, there are more than `CONTEXT_ITEMS` items
 pub many_reached : (targets : List Target) (items : List UnitItem) → targets ≡ reached (map target_of items) → CONTEXT_ITEMS < length targets
     → CONTEXT_ITEMS < length items
 unfolding reached
@@ -84,7 +84,7 @@ points_right-reached targets (SetSystem system value) h = refl
 points_right-reached targets (Save store) h = refl
 points_right-reached targets (Reset store) h = refl
 
--- an item has the same fault where the targets past the reach are left away
+-- if the offset of an item is a unit, omitting the targets past the reach does not change the fault of the item
 pub item_reached : (bytes : List ℕ) (kind : StringKind) (targets : List Target) (item : UnitItem) (at : ℕ) → HasSmallOffset item
     → item_fault bytes kind (reached targets) item at ≡ item_fault bytes kind targets item at
 item_reached bytes kind targets item at h =

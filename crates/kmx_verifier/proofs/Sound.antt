@@ -1,4 +1,4 @@
--- What holds of a string whose walk finds no fault.
+-- The properties of a string in which the scan finds no fault.
 use Rattle.std.proofs.Common.{◌≡◌, ℕ, ◌+◌, ◌-◌, ◌<◌, ◌⊎◌, Bool, true, false, List, [], ◌∷◌, ◌++◌, map, None, Some, refl, sym, ◌∙◌, ap, inl, inr, arith}
 use Rattle.std.specs.Prelude.{Ok, Err}
 use Rattle.std.proofs.lemmas.Bool.{not-false}
@@ -8,12 +8,12 @@ use Rattle.kmn_base.specs.declared.units.UnitItem.{UnitItem}
 use Rattle.kmn_base.specs.declared.units.UnitItem.TheVariants.{Char, Any, Index, Context, Nul, Enter, Stop, Beep, Dead, Key, ContextAt, NotAny, Set, Test, SystemTest, SetSystem, Save, Reset}
 use Rattle.kmn_base.specs.Spelling.{IsSpellable}
 use Rattle.kmn_base.proofs.Options.{option_or-none}
-use Rattle.kmx_format.specs.Walk.{spelled_size, items_given}
+use Rattle.item_codec.specs.Walk.{spelled_size, items_given}
 use Rattle.rule_model.specs.declared.tables.Pat.{Pat}
 use Rattle.rule_model.specs.declared.tables.Out.{Out}
 use Rattle.kmx_format.specs.FileUnits.{unit_item_of_element, unit_item_of_pattern, unit_item_of_output}
 use Rattle.kmx_format.specs.TablesOf.{element_of_unit_item, comparison_of, system_comparison_of, pattern_of_unit_item, output_of_unit_item}
-use Rattle.kmx_format.proofs.Results.{Results}
+use Rattle.item_codec.proofs.Results.{Results}
 use Rattle.kmx_verifier.specs.declared.faults.StringKind.{StringKind}
 use Rattle.kmx_verifier.specs.declared.faults.StringKind.TheVariants as of
 use Rattle.kmx_verifier.specs.declared.faults.Target.{Target}
@@ -46,7 +46,7 @@ item_stands bytes kind targets item at h =
       points = not-false _ (broken-none _ at _ third.0);
     }
 
--- items without a fault, where offsets point into a context
+-- items without a fault, whose offsets point into a context
 abbrev pub ItemsStand : List ℕ → StringKind → List Target → List UnitItem → Type 0
 ItemsStand bytes kind targets [] = Unit {0}
 ItemsStand bytes kind targets (item ∷ items) = ItemStands bytes kind targets item × ItemsStand bytes kind targets items
@@ -56,7 +56,7 @@ abbrev pub ContextStands : List ℕ → List Target → List UnitItem → Type 0
 ContextStands bytes before [] = Unit {0}
 ContextStands bytes before (item ∷ items) = ItemStands bytes of.Context before item × ContextStands bytes (before ++ target_of item ∷ []) items
 
--- a string whose walk finds no fault is wholly readable
+-- if the scan of a string finds no fault, the whole string is readable
 pub walk_readable : (bytes : List ℕ) (kind : StringKind) (targets : List Target) (at : ℕ) (results : Results)
     → walk_fault bytes kind targets at results ≡ None → results ≡ map Ok (items_given results)
 walk_readable bytes kind targets at [] h = refl
@@ -85,7 +85,7 @@ context_stands bytes before at (Err bad ∷ results) h = absurd (cc)
 context_stands bytes before at (Ok item ∷ results) h =
     (item_stands bytes of.Context before item at (option_or-none _ _ h).0, context_stands bytes (before ++ target_of item ∷ []) (at + spelled_size item) results (option_or-none _ _ h).1)
 
--- an item that may stand in a store is an element, spelled so
+-- if an item is allowed in a store and has a spelling, it is read as an element that converts back to it
 pub element_again : (item : UnitItem) → may_stand of.Store item ≡ true → IsSpellable item
     → (e : Element) × (element_of_unit_item item ≡ Some e) × (unit_item_of_element e ≡ item)
 element_again (Char c) h s = (_, refl, refl)
@@ -110,7 +110,7 @@ element_again (Reset store) h s = absurd (cc)
 less_one : (n : ℕ) → 0 < n → n - 1 + 1 ≡ n
 less_one n h = omega arith
 
--- a comparison that is spelled
+-- if a comparison has a spelling, it is read as a pattern that converts back to it
 comparison_again : (store comparison value : ℕ) → 0 < store → 0 < value → (comparison ≡ 1) ⊎ (comparison ≡ 2)
     → (p : Pat) × (comparison_of store comparison value ≡ Some p) × (unit_item_of_pattern p ≡ Test store comparison value)
 comparison_again store comparison value s v (inl one) =
@@ -118,7 +118,7 @@ comparison_again store comparison value s v (inl one) =
 comparison_again store comparison value s v (inr two) =
     (_, ap (λ c. comparison_of store c value) two, ap (λ n. Test n 2 (value - 1 + 1)) (less_one store s) ∙ ap (Test store 2) (less_one value v) ∙ ap (λ c. Test store c value) (sym two))
 
--- the same of a system option
+-- if a comparison with a system option has a spelling, it is read as a pattern that converts back to it
 system_comparison_again : (system comparison value : ℕ) → 0 < system → 0 < value → (comparison ≡ 1) ⊎ (comparison ≡ 2)
     → (p : Pat) × (system_comparison_of system comparison value ≡ Some p) × (unit_item_of_pattern p ≡ SystemTest system comparison value)
 system_comparison_again system comparison value s v (inl one) =
@@ -126,7 +126,7 @@ system_comparison_again system comparison value s v (inl one) =
 system_comparison_again system comparison value s v (inr two) =
     (_, ap (λ c. system_comparison_of system c value) two, ap (λ n. SystemTest n 2 (value - 1 + 1)) (less_one system s) ∙ ap (SystemTest system 2) (less_one value v) ∙ ap (λ c. SystemTest system c value) (sym two))
 
--- an item that may stand in a context is a pattern, spelled so
+-- if an item is allowed in a context and has a spelling, it is read as a pattern that converts back to it
 pub pattern_again : (item : UnitItem) → may_stand of.Context item ≡ true → IsSpellable item
     → (p : Pat) × (pattern_of_unit_item item ≡ Some p) × (unit_item_of_pattern p ≡ item)
 pattern_again (Char c) h s = (_, refl, refl)
@@ -148,7 +148,7 @@ pattern_again (SetSystem system value) h s = absurd (cc)
 pattern_again (Save store) h s = absurd (cc)
 pattern_again (Reset store) h s = absurd (cc)
 
--- an item that may stand in an output is one, spelled so
+-- if an item is allowed in an output and has a spelling, it is read as an output that converts back to it
 pub output_again : (item : UnitItem) → may_stand of.Output item ≡ true → IsSpellable item
     → (o : Out) × (output_of_unit_item item ≡ Some o) × (unit_item_of_output o ≡ item)
 output_again (Char c) h s = (_, refl, refl)

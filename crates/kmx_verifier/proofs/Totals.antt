@@ -1,4 +1,4 @@
--- Records one after the other with a running total, as a loop does them.
+-- Records that are checked in order with a running total, as a loop does it.
 use Rattle.std.proofs.Common.{◌≡◌, ℕ, suc, ◌+◌, ◌*◌, ◌-◌, ◌<◌, Option, None, Some, sym, ◌∙◌, ap, arith}
 use Rattle.std.specs.Option.{option_or}
 use Rattle.kmx_verifier.specs.declared.faults.Fault.{Fault}
@@ -6,7 +6,7 @@ use Rattle.kmx_verifier.specs.declared.faults.VerifyError.{VerifyError}
 use Rattle.kmx_verifier.specs.declared.faults.VerifyError.TheVariants.{Refused, Memory}
 use Rattle.kmx_verifier.specs.FaultOf.{IsRefusal}
 
--- one record more, which has no fault
+-- if a record has no fault, the records after it have the same result
 pub total_more : (fault : ℕ → ℕ → Option Fault) (counted : ℕ → ℕ) (size : ℕ) (faults : ℕ → ℕ → ℕ → Option Fault)
     → ((before place count : ℕ) → faults before place (suc count) ≡ option_or (fault before place) (faults (before + counted place) (place + size) count))
     → (before place count i : ℕ) (answer : Option Fault)
@@ -23,7 +23,7 @@ total_more fault counted size faults unfolds before place count i answer below n
     ∙ ap (λ p. faults (before + counted here) p (count - (i + 1))) behind in
     sym step ∙ so_far
 
--- one record that has a fault
+-- if a record has a fault, the result is this fault
 pub total_stops : (fault : ℕ → ℕ → Option Fault) (counted : ℕ → ℕ) (size : ℕ) (faults : ℕ → ℕ → ℕ → Option Fault)
     → ((before place count : ℕ) → faults before place (suc count) ≡ option_or (fault before place) (faults (before + counted place) (place + size) count))
     → (before place count i : ℕ) (answer : Option Fault) (found : Fault)
@@ -36,7 +36,7 @@ total_stops fault counted size faults unfolds before place count i answer found 
     sym so_far ∙ ap (faults before here) next ∙ unfolds before here (count - (i + 1))
     ∙ ap (λ f. option_or f (faults (before + counted here) (here + size) (count - (i + 1)))) is
 
--- the same of an error
+-- if an error refuses a record for its fault, it refuses all the records for the same fault
 pub refusal_stops : (fault : ℕ → ℕ → Option Fault) (counted : ℕ → ℕ) (size : ℕ) (faults : ℕ → ℕ → ℕ → Option Fault)
     → ((before place count : ℕ) → faults before place (suc count) ≡ option_or (fault before place) (faults (before + counted place) (place + size) count))
     → (before place count i : ℕ) (answer : Option Fault) (error : VerifyError)

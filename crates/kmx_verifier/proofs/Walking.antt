@@ -1,4 +1,4 @@
--- A walk over the items of a string, as a loop does it.
+-- A scan of the items of a string, as a loop does it.
 use Rattle.std.proofs.Common.{◌≡◌, ℕ, ◌+◌, ◌/◌, ◌<◌, ◌≤◌, List, [], ◌∷◌, length, Option, None, refl, sym, ◌∙◌, ap, arith, append-nil}
 use Rattle.std.specs.Prelude.{Ok}
 use Rattle.std.specs.List.{All}
@@ -7,15 +7,15 @@ use Rattle.kmn_base.specs.declared.units.UnitItem.{UnitItem}
 use Rattle.kmn_base.specs.Spelling.{unit_bytes}
 use Rattle.kmn_base.proofs.UnitBytes.{length-unit_bytes}
 use Rattle.kmn_base.proofs.Spelling.{spellings_are_short}
-use Rattle.kmx_format.specs.Walk.{spelled_size, items_given, results_of}
-use Rattle.kmx_format.proofs.ItemSizes.{sizes, sizes_within}
-use Rattle.kmx_format.proofs.Results.{Results}
+use Rattle.item_codec.specs.Walk.{spelled_size, items_given, results_of}
+use Rattle.item_codec.proofs.Sizes.{sizes, sizes_within}
+use Rattle.item_codec.proofs.Results.{Results}
 use Rattle.kmx_verifier.specs.declared.faults.Fault.{Fault}
 use Rattle.kmx_verifier.specs.declared.faults.StringKind.{StringKind}
 use Rattle.kmx_verifier.specs.declared.faults.Target.{Target}
 use Rattle.kmx_verifier.specs.FaultOf.{item_fault, walk_fault}
 
--- a walk from a place on, after so many items, whose answer is that of the whole walk
+-- a scan from a place on, after a number of items, has the result of the whole scan
 pub record WalksOn (bytes : List ℕ) (kind : StringKind) (targets : List Target) (answer : Option Fault) (total end at count : ℕ) (results : Results) : Type 0 where
   pub fault : walk_fault bytes kind targets at results ≡ answer
   pub counted : count + length (items_given results) ≡ total
@@ -28,7 +28,7 @@ pub walk_starts : (bytes : List ℕ) (kind : StringKind) (targets : List Target)
 walk_starts bytes kind targets string end at h within =
     record { fault = refl; counted = omega arith; room = omega (arith, sizes_within string h, within); few = omega arith }
 
--- one item more, which has no fault
+-- if the next item has no fault, the scan continues after it
 pub walks_on : (bytes : List ℕ) (kind : StringKind) (targets : List Target) (answer : Option Fault) (total end at count : ℕ) (item : UnitItem) (results : Results)
     → item_fault bytes kind targets item at ≡ None
     → WalksOn bytes kind targets answer total end at count (Ok item ∷ results)
@@ -40,6 +40,6 @@ walks_on bytes kind targets answer total end at count item results none h = reco
   few = omega (arith, h.few, (spellings_are_short item).0);
 }
 
--- units have two bytes
+-- half the length of a string in bytes is its number of units
 pub string_halved : (string units : List ℕ) → string ≡ unit_bytes units → length string / 2 ≡ length units
 string_halved string units is = omega (arith, ap length is, length-unit_bytes units [], ap length (append-nil (unit_bytes units)))

@@ -1,4 +1,4 @@
--- Strings of tables that a file can have, where they stand in the file, have no fault.
+-- If the strings of writable tables are in the file, they have no fault.
 use Rattle.std.proofs.Common.{◌≡◌, ℕ, zero, suc, ◌+◌, ◌<◌, Bool, true, false, ◌&&◌, ◌||◌, nat_eq, nat_lt, List, [], ◌∷◌, ◌++◌, length, map, take, drop, Option, Some, None, refl, sym, ap, ap₂, subst, ◌∙◌, append_assoc, append-nil, arith, not}
 use Rattle.std.specs.Prelude.{Ok, slice_get, slice_index_or, IsSomeAnd}
 use Rattle.std.specs.List.{All, flat_map, list_any}
@@ -14,8 +14,8 @@ use Rattle.kmn_base.specs.declared.units.UnitItem.{UnitItem}
 use Rattle.kmn_base.specs.Spelling.{char_units, IsSpellable, unit_bytes, whole_units}
 use Rattle.kmn_base.proofs.UnitBytes.{whole_units-unit_bytes}
 use Rattle.kmn_base.proofs.Elements.{All-append_parts}
-use Rattle.kmx_format.specs.Walk.{results_of}
-use Rattle.kmx_format.proofs.Results.{spelled_gives_its_items}
+use Rattle.item_codec.specs.Walk.{results_of}
+use Rattle.item_codec.proofs.Results.{spelled_gives_its_items}
 use Rattle.rule_model.specs.declared.tables.Pat.{Pat}
 use Rattle.rule_model.specs.declared.tables.Pat.TheVariants as pattern
 use Rattle.rule_model.specs.declared.tables.Out.{Out}
@@ -29,7 +29,7 @@ use Rattle.kmx_format.proofs.FileContents.{units-nonzero}
 use Rattle.kmx_format.proofs.FileStands.{StandsAt}
 use Rattle.kmx_format.proofs.FileStrings.{string_at-stands}
 use Rattle.kmx_format.proofs.FileItems.{item_units-nonzero, items_of-item_units}
-use Rattle.kmx_parts.specs.View.{has_zero, is_ended, store_count, group_count}
+use Rattle.kmx_view.specs.View.{has_zero, is_ended, store_count, group_count}
 use Rattle.kmx_verifier.specs.declared.faults.StringKind.{StringKind}
 use Rattle.kmx_verifier.specs.declared.faults.StringKind.TheVariants as of
 use Rattle.kmx_verifier.specs.declared.faults.Target.{Target}
@@ -69,7 +69,7 @@ name_clean bytes word place name positive writable word_is h =
 
 -- ---- items
 
--- a string of items as it is read
+-- what is read of a written string of items
 record Written {X : Type 0} (there : X → UnitItem) (bytes : List ℕ) (offset : ℕ) (xs : List X) : Type 0 where
   ended : is_ended bytes offset ≡ true
   read : read_at bytes offset ≡ map Ok (map there xs)
@@ -99,13 +99,13 @@ string_clean there bytes kind targets word place too_many xs positive spellable 
     (ap (walk_fault bytes kind targets (word_at bytes word)) (ap (read_at bytes) word_is ∙ w.read) ∙ walk_clean bytes kind targets (word_at bytes word) (map there xs) stand))
     (unbroken V15 word _ (ap (λ o. too_many (item_count bytes o)) word_is ∙ ap too_many w.count ∙ few))
 
--- how many items such a string is read as
+-- if a string of items is in the file, the same number of items is read
 pub count_written : {X : Type 0} (there : X → UnitItem) (bytes : List ℕ) (word place : ℕ) (xs : List X)
     → 0 < place → All (λ x. IsSpellable (there x)) xs → word_at bytes word ≡ offset_of (item_units (map there xs)) place → StandsAt bytes place (string (item_units (map there xs)))
     → item_count bytes (word_at bytes word) ≡ length xs
 count_written there bytes word place xs positive spellable word_is h = ap (item_count bytes) word_is ∙ (written there bytes place xs positive spellable h).count
 
--- and which
+-- if a string of items is in the file, the same items are read
 pub items_written : {X : Type 0} (there : X → UnitItem) (bytes : List ℕ) (word place : ℕ) (xs : List X)
     → 0 < place → All (λ x. IsSpellable (there x)) xs → word_at bytes word ≡ offset_of (item_units (map there xs)) place → StandsAt bytes place (string (item_units (map there xs)))
     → items_of (string_at bytes (word_at bytes word)) ≡ map there xs
@@ -190,7 +190,7 @@ matched_back (pattern.SystemEqual id value) h = absurd (cc)
 matched_back (pattern.SystemUnequal id value) h = absurd (cc)
 matched_back pattern.Nul h = absurd (cc)
 
--- an offset that points to an item which passes a test finds its target
+-- if an offset points at an item that passes a test, the target that it finds passes the test for targets
 finds : (test : Pat → Bool) (wanted : Option Target → Bool) → ((p : Pat) → test p ≡ true → wanted (Some (target_of (unit_item_of_pattern p))) ≡ true)
     → (context : List Pat) (place : ℕ) → IsSomeAnd (slice_get context place) (λ p. test p ≡ true) → wanted (slice_get (targets_of context) place) ≡ true
 finds test wanted one [] place h = absurd h

@@ -2,7 +2,7 @@
 use Rattle.std.specs.Prelude.{ℕ, zero, suc, ◌+◌, ◌<◌, ◌||◌, Bool, true, false, nat_eq, List, [], ◌∷◌, Option, Some, None, slice_get, take}
 use Rattle.kmn_base.specs.declared.units.UnitItem.{UnitItem}
 use Rattle.kmn_base.specs.declared.units.UnitItem.TheVariants.{Char, Any, Index, Context, Nul, Enter, Stop, Beep, Dead, Key, ContextAt, NotAny, Set, Test, SystemTest, SetSystem, Save, Reset}
-use Rattle.kmx_format.specs.declared.item_codes.TheConstants.{ANY, BEEP, CONTEXT, CONTEXT_AT, DEAD, ENTER, INDEX, KEY, NOT_ANY, NUL, RESET, SAVE, SET, SET_SYSTEM, STOP, SYSTEM_TEST, TEST}
+use Rattle.item_codec.specs.declared.item_codes.TheConstants.{ANY, BEEP, CONTEXT, CONTEXT_AT, DEAD, ENTER, INDEX, KEY, NOT_ANY, NUL, RESET, SAVE, SET, SET_SYSTEM, STOP, SYSTEM_TEST, TEST}
 use Rattle.rule_model.specs.declared.system.TheConstants.{LAYER, PLATFORM}
 use Rattle.kmx_verifier.specs.declared.contexts.TheConstants.{OFFSET_REACH}
 use Rattle.kmx_verifier.specs.declared.faults.StringKind.{StringKind}
@@ -10,15 +10,15 @@ use Rattle.kmx_verifier.specs.declared.faults.StringKind.TheVariants as of
 use Rattle.kmx_verifier.specs.declared.faults.Target.{Target}
 use Rattle.kmx_verifier.specs.declared.faults.Target.TheVariants as target
 
--- the items that may stand in a store: character, deadkey, extended
+-- the items that are allowed in a store: character, deadkey, extended
 abbrev pub stands_in_store : UnitItem → Bool
 stands_in_store (Char c) = true
 stands_in_store (Dead mark) = true
 stands_in_store (Key flags code) = true
 stands_in_store _ = false
 
--- in a context: character, deadkey, any, notany, index, context(n), if, nul, and a condition on the platform or the layer;
--- a file counts their ids from 1, as it counts stores
+-- the items that are allowed in a context: character, deadkey, any, notany, index, context(n), if, nul, and a condition on the
+-- platform or the layer; a file counts their ids from 1, as it counts stores
 abbrev pub stands_in_context : UnitItem → Bool
 stands_in_context (Char c) = true
 stands_in_context (Dead mark) = true
@@ -31,7 +31,8 @@ stands_in_context (SystemTest system comparison value) = nat_eq system (PLATFORM
 stands_in_context Nul = true
 stands_in_context _ = false
 
--- in a match or nomatch output: character, deadkey, use, set, save, reset, nul, beep, return, and a set of the layer
+-- the items that are allowed in a match or nomatch output: character, deadkey, use, set, save, reset, nul, beep, return, and a
+-- set of the layer
 abbrev pub stands_in_match : UnitItem → Bool
 stands_in_match (Char c) = true
 stands_in_match (Dead mark) = true
@@ -45,7 +46,7 @@ stands_in_match Beep = true
 stands_in_match Stop = true
 stands_in_match _ = false
 
--- in an output: as in match, and index, context, context(n)
+-- the items that are allowed in an output: the items of a match output, and index, context, context(n)
 abbrev pub stands_in_output : UnitItem → Bool
 stands_in_output (Index store offset) = true
 stands_in_output Context = true
@@ -58,7 +59,7 @@ may_stand of.Context item = stands_in_context item
 may_stand of.Output item = stands_in_output item
 may_stand of.Match item = stands_in_match item
 
--- the code behind an item's sentinel, by which a refusal names it; a character has none
+-- the code after an item's sentinel, which a refusal names; 0 for a character, which has no sentinel
 abbrev pub code_of : UnitItem → ℕ
 code_of (Char c) = 0
 code_of (Any store) = ANY
@@ -114,16 +115,16 @@ is_pattern (Some target.Any) = true
 is_pattern (Some target.Pattern) = true
 is_pattern _ = false
 
--- the item of a context at an offset, counted from 1
+-- the target at an offset, counted from 1
 abbrev pub target_at : List Target → ℕ → Option Target
 target_at targets zero = None
 target_at targets (suc place) = slice_get targets place
 
--- of what offsets find so much as they reach: an offset is a unit, and counts from 1
+-- the targets that offsets can reach: an offset is one unit and counts from 1
 unfoldable pub reached : List Target → List Target
 reached targets = take OFFSET_REACH targets
 
--- an offset points where it must: index at an any, context(n) at a pattern
+-- the offset of an item points at an allowed target: index at an any, context(n) at a pattern
 abbrev pub points_right : List Target → UnitItem → Bool
 points_right targets (Index store offset) = is_any (target_at targets offset)
 points_right targets (ContextAt offset) = is_pattern (target_at targets offset)

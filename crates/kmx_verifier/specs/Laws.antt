@@ -1,4 +1,4 @@
--- What "valid" means above its steps.
+-- The laws of valid files, stated without the steps that find a fault.
 use Rattle.std.specs.Prelude.{◌<◌, ℕ, List}
 use Rattle.std.specs.List.{All}
 use Rattle.kmx_format.specs.TablesOf.{tables_of}
@@ -11,6 +11,6 @@ use Rattle.kmx_verifier.specs.FaultOf.{IsValid}
 abbrev pub ValidFilesCanBePlayed : Type 0
 ValidFilesCanBePlayed = (bytes : List ℕ) → All (λ byte. byte < 256) bytes → IsValid bytes → IsPlayable (tables_of bytes)
 
--- the file of tables that a file can have is valid, with any picture, both within their limits
+-- the file that is written for writable tables and any picture is valid, if both are within their limits
 abbrev pub FilesAreValid : Type 0
 FilesAreValid = (bytes : List ℕ) → IsFile bytes → IsValid bytes

@@ -1,11 +1,11 @@
--- Which stores are options, part by part of the tables.
+-- Which stores each part of the tables uses as options.
 use Rattle.std.specs.Prelude.{ℕ, Bool, ◌||◌, nat_eq, List}
 use Rattle.std.specs.List.{list_any}
 use Rattle.rule_model.specs.Tab.{pattern_options, output_options}
 use Rattle.rule_model.specs.declared.tables.Rule.{Rule}
 use Rattle.rule_model.specs.declared.tables.Group.{Group}
 
--- some of the items uses the store as an option
+-- one of the items uses the store as an option
 abbrev pub used_in : {X : Type 0} → (X → List ℕ) → ℕ → List X → Bool
 used_in options store items = list_any (λ item. list_any (nat_eq store) (options item)) items
 

@@ -1,11 +1,11 @@
-//! The key records of a file, with their contexts.
+//! Checks the key records of a file and their contexts.
 
 ghost use Rattle.std.specs.Prelude.{◌≡◌, ◌+◌, ◌*◌, ◌⊎◌, ◌≤◌, ◌<◌, [], ◌∷◌, ◌++◌, List, map, length, None, Some, MatchResult};
 ghost use Rattle.kmn_base.specs.declared.limits.TheConstants.{FILE_BYTES};
 ghost use Rattle.kmx_format.specs.declared.places.TheConstants.{RULE_CONTEXT_AT};
 ghost use Rattle.kmx_format.specs.declared.sizes.TheConstants.{RULE_BYTES};
 ghost use Rattle.kmx_format.specs.TablesOf.{word_at};
-ghost use Rattle.kmx_format.specs.Walk.{results_of, items_given};
+ghost use Rattle.item_codec.specs.Walk.{results_of, items_given};
 ghost use Rattle.kmx_verifier.specs.declared.contexts.TheConstants.{OFFSET_REACH};
 ghost use Rattle.kmx_verifier.specs.declared.faults.Target.{Target};
 ghost use Rattle.kmx_verifier.specs.declared.faults.StringKind.TheVariants.{Context};
@@ -15,18 +15,20 @@ ghost use Rattle.kmx_verifier.specs.FaultOf.{item_fault, context_fault, read_con
 use crate::faults::{Fault, StringKind, Target, VerifyError};
 use crate::items::{check_item, offset_is_unit, spelled_size, spelling_fault, target_of};
 use crate::strings::check_output;
+use item_codec::item_codes::KEY;
+use item_codec::items_of;
 use kmn_base::limits::CONTEXT_ITEMS;
 use kmn_base::{Code, SHIFT_FLAGS, UnitItem};
-use kmx_format::item_codes::KEY;
-use kmx_format::items_of;
 use kmx_format::places::{RULE_CONTEXT_AT, RULE_FLAGS_AT, RULE_OUTPUT_AT};
 use kmx_format::sizes::RULE_BYTES;
-use kmx_parts::{ended_string, word_at};
+use kmx_view::{ended_string, word_at};
 
-/// How many items of a context offsets can reach: an offset is a unit, and counts from 1.
+/// The number of context items that offsets can reach: an offset is one unit and counts from 1.
 const OFFSET_REACH: usize = 65_535;
 
-/// One item more that offsets can point at, where they reach so far.
+/// Appends the target of an item, unless offsets do not reach it.
+///
+/// Errors: `Memory` if an allocation fails.
 #[tactic(auto, using(crate::proofs::Reach::reached_all, crate::proofs::Reach::reached_full))]
 fn add_target(targets: &mut Vec<Target>, item: UnitItem) -> Result<(), VerifyError>
     requires { length targets.old.items ≤ OFFSET_REACH }
@@ -42,7 +44,7 @@ fn add_target(targets: &mut Vec<Target>, item: UnitItem) -> Result<(), VerifyErr
         .map_err(|_| VerifyError::Memory)
 }
 
-/// An item of a context at a place, where `targets` has the items before it so far as offsets reach.
+/// Checks an item of a context at a place. `targets` has the targets of the items before it, as far as offsets reach.
 fn check_context_item(
     bytes: &[u8],
     targets: &[Target],
@@ -55,7 +57,7 @@ fn check_context_item(
     Ok(check_item(bytes, StringKind::Context, targets, item, at)?)
 }
 
-/// The items of a context whose first unit stands at a place; `targets` becomes what offsets can point at in it.
+/// Checks the items of a context whose first unit is at byte offset `at`, and sets `targets` to what offsets can point at in it.
 pub(crate) fn walk_context(
     bytes: &[u8],
     at: u32,
@@ -83,7 +85,7 @@ pub(crate) fn walk_context(
     Ok(())
 }
 
-/// The context whose offset stands at a place; `targets` becomes what offsets can point at in it.
+/// Checks the items of the context whose offset is stored at `place`, and sets `targets` to what offsets can point at in it.
 #[tactic(auto, unfolding(kmx_format::specs::TablesOf::items_of))]
 fn read_context(bytes: &[u8], place: usize, targets: &mut Vec<Target>) -> Result<(), VerifyError>
     requires fits { length bytes.now ≤ FILE_BYTES }
@@ -97,7 +99,7 @@ fn read_context(bytes: &[u8], place: usize, targets: &mut Vec<Target>) -> Result
     }
 }
 
-/// The context whose offset stands at a place, of so many items at most as a context may have.
+/// Checks the context whose offset is stored at `place` and its number of items, and sets `targets` to the targets of its items.
 #[tactic(auto, using(crate::proofs::Reach::few_reached, crate::proofs::Reach::many_reached))]
 fn check_context(bytes: &[u8], place: usize, targets: &mut Vec<Target>) -> Result<(), VerifyError>
     requires fits { length bytes.now ≤ FILE_BYTES }
@@ -111,7 +113,7 @@ fn check_context(bytes: &[u8], place: usize, targets: &mut Vec<Target>) -> Resul
     Ok(())
 }
 
-/// The shift flags of a record.
+/// Checks the shift flags of a key record.
 fn check_flags(bytes: &[u8], using_keys: bool, place: usize) -> Result<(), Fault>
     requires place { place < FILE_BYTES }
     ensures { Tells (flags_fault bytes.now using_keys place) result }
@@ -127,7 +129,7 @@ fn check_flags(bytes: &[u8], using_keys: bool, place: usize) -> Result<(), Fault
     Ok(())
 }
 
-/// The record at a place; `targets` becomes what offsets can point at in its context.
+/// Checks the key record at `place`, and sets `targets` to what offsets can point at in its context.
 pub(crate) fn check_record(
     bytes: &[u8],
     using_keys: bool,
@@ -143,7 +145,8 @@ pub(crate) fn check_record(
     Ok(check_output(bytes, StringKind::Output, targets, place + RULE_OUTPUT_AT)?)
 }
 
-/// The records of a group. `targets` is room to work in: nothing is read of what it has before, or after.
+/// Checks the key records of a group. `targets` is scratch space: its previous content is not read, and callers ignore what it
+/// contains afterwards.
 pub(crate) fn check_records(
     bytes: &[u8],
     using_keys: bool,

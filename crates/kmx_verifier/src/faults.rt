@@ -1,12 +1,12 @@
-//! What is wrong with a file, and the kinds of strings and items that the rules speak of.
+//! The faults of a file, and the kinds of strings and items that the rules distinguish.
 
 ghost use Rattle.std.specs.Prelude.{◌≡◌};
 
 use kmn_base::Code;
 use thiserror::Error;
 
-/// What is wrong with a file: the rule that it breaks, the place in bytes at which it breaks it, and the code that
-/// V14 names, else 0.
+/// A fault of a file: the rule that the file breaks, the byte offset at which it breaks the rule, and the code that V14
+/// names, or 0 for any other rule.
 #[derive(Clone, Copy, Debug, PartialEq, Eq)]
 pub struct Fault {
     pub code: Code,
@@ -15,7 +15,7 @@ pub struct Fault {
 }
 
 impl Fault {
-    /// A fault that names no code of an item.
+    /// Returns a fault that does not name the code of an item.
     pub(crate) fn of(code: Code, at: u32) -> Fault
         ensures code { result.code ≡ code }
         ensures at { result.at ≡ at }
@@ -25,7 +25,7 @@ impl Fault {
     }
 }
 
-/// Why bytes were not opened as a file.
+/// An error of `verify`: the first fault of the file, or a failed allocation.
 #[derive(Debug, Drop, Error)]
 pub enum VerifyError {
     #[error("refused {} at {}", .0.code, .0.at)]
@@ -45,7 +45,7 @@ impl From<Fault> for VerifyError {
     }
 }
 
-/// The strings of a file whose items are looked at.
+/// The kinds of strings whose items are checked.
 #[derive(Clone, Copy, Debug, PartialEq, Eq)]
 pub enum StringKind {
     Store,
@@ -55,8 +55,8 @@ pub enum StringKind {
     Match,
 }
 
-/// What an offset finds in a context: an `any`, another item that is matched, or a condition or `nul`, which offsets
-/// may not point at.
+/// What an offset finds in a context: an `any`, another item that matches text, or a condition or `nul`, at which
+/// offsets are not allowed to point.
 #[derive(Clone, Copy, Debug, PartialEq, Eq)]
 pub enum Target {
     Any,

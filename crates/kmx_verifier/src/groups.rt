@@ -1,4 +1,4 @@
-//! The groups of a file and their key records.
+//! Checks the groups of a file and their key records.
 
 ghost use Rattle.std.specs.Prelude.{◌≡◌, ◌+◌, ◌*◌, ◌⊎◌, ◌≤◌, ◌<◌, length, None, Some, MatchResult};
 ghost use Rattle.kmn_base.specs.declared.limits.TheConstants.{FILE_BYTES, RECORDS};
@@ -16,10 +16,10 @@ use kmx_format::places::{
     GROUP_MATCH_AT, GROUP_NOMATCH_AT, GROUP_RULE_COUNT_AT, GROUP_RULES_AT, GROUP_USING_KEYS_AT,
 };
 use kmx_format::sizes::{GROUP_BYTES, RULE_BYTES};
-use kmx_parts::word_at;
+use kmx_view::word_at;
 
-/// The count of a group's records, with so many records before it, and where they stand; how many records there are
-/// with them.
+/// Checks the number of a group's key records, after `before` records of earlier groups, and that they are within the file.
+/// Returns the number of records so far.
 fn check_records_place(bytes: &[u8], before: usize, place: usize) -> Result<usize, Fault>
     requires fits { length bytes.now ≤ FILE_BYTES }
     requires place { place + GROUP_BYTES ≤ FILE_BYTES }
@@ -40,7 +40,7 @@ fn check_records_place(bytes: &[u8], before: usize, place: usize) -> Result<usiz
     Ok(before + count)
 }
 
-/// The name, match and nomatch of a group.
+/// Checks the name, match and nomatch of a group.
 fn check_group_strings(bytes: &[u8], place: usize) -> Result<(), Fault>
     requires fits { length bytes.now ≤ FILE_BYTES }
     requires place { place + GROUP_BYTES ≤ FILE_BYTES }
@@ -51,8 +51,8 @@ fn check_group_strings(bytes: &[u8], place: usize) -> Result<(), Fault>
     check_output(bytes, StringKind::Match, &[], place + GROUP_NOMATCH_AT)
 }
 
-/// The group whose record stands at a place, with so many records before it; how many records there are with its own.
-/// `targets` is room to work in.
+/// Checks the group whose record is at `place`, after `before` key records of earlier groups, and returns the number of key
+/// records so far. `targets` is scratch space.
 fn check_group(
     bytes: &[u8],
     before: usize,
@@ -79,7 +79,7 @@ fn check_group(
     Ok(count)
 }
 
-/// The groups. `targets` is room to work in.
+/// Checks `count` groups, whose records begin at `place`. `targets` is scratch space.
 pub(crate) fn check_groups(
     bytes: &[u8],
     place: u32,

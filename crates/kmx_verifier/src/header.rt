@@ -1,7 +1,7 @@
-//! The length, the header and the arrays.
+//! Checks the length, the header and the arrays of a file.
 
 ghost use Rattle.std.specs.Prelude.{◌≡◌, ◌<◌, ◌≤◌, ◌^◌, ◌*◌, length};
-ghost use Rattle.kmx_parts.specs.View.{is_within};
+ghost use Rattle.kmx_view.specs.View.{is_within};
 ghost use Rattle.kmx_format.specs.declared.sizes.TheConstants.{GROUP_BYTES};
 ghost use Rattle.kmx_verifier.specs.FaultOf.{size_fault, header_fault, arrays_fault, Tells};
 
@@ -14,7 +14,7 @@ use kmx_format::places::{
     START_ANSI_AT, START_UNICODE_AT, STORE_COUNT_AT, STORES_AT, VERSION_AT,
 };
 use kmx_format::sizes::{GROUP_BYTES, HEADER_BYTES, STORE_BYTES};
-use kmx_parts::word_at;
+use kmx_view::word_at;
 use rule_model::system::NO_GROUP;
 
 #[tactic(auto, unfolding(crate::specs::FaultOf::size_fault))]
@@ -63,7 +63,7 @@ pub(crate) fn check_header(bytes: &[u8]) -> Result<(), Fault>
     Ok(())
 }
 
-/// Whether so many records of a size stand in the file from a place on.
+/// Returns whether `count` records of `size` bytes each are within the file from `place` on.
 fn stands(bytes: &[u8], place: u32, size: usize, count: u32) -> bool
     requires { size ≤ GROUP_BYTES }
     ensures { result ≡ is_within bytes.now place (size * count) }

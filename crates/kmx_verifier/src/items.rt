@@ -1,21 +1,21 @@
-//! One item of a string.
+//! Checks one item of a string.
 
 ghost use Rattle.std.specs.Prelude.{◌≡◌};
-ghost use Rattle.kmx_format.specs.Walk.{spelled_size};
+ghost use Rattle.item_codec.specs.Walk.{spelled_size};
 ghost use Rattle.kmx_verifier.specs.Items.{may_stand, stands_in_store, stands_in_context, stands_in_output, stands_in_match, code_of, target_of, target_at, points_right, HasSmallOffset};
 ghost use Rattle.kmx_verifier.specs.FaultOf.{names_outside, item_fault, spelling_fault, Tells};
 
 use crate::faults::{Fault, StringKind, Target};
+use item_codec::{item_codes, unit_count};
 use kmn_base::{BadKind, Code, UnitItem};
 use kmx_format::places::{GROUP_COUNT_AT, STORE_COUNT_AT};
-use kmx_format::{item_codes, unit_count};
-use kmx_parts::word_at;
+use kmx_view::word_at;
 use rule_model::system;
 
-/// The platform as an item has it, whose operands count from 1.
+/// The platform as an operand of an item. Operands count from 1.
 const PLATFORM: u16 = system::PLATFORM as u16 + 1;
 
-/// The layer, likewise.
+/// The layer as an operand of an item, also counted from 1.
 const LAYER: u16 = system::LAYER as u16 + 1;
 
 fn stands_in_store(item: UnitItem) -> bool
@@ -71,7 +71,7 @@ fn stands_in_output(item: UnitItem) -> bool
     }
 }
 
-/// Whether an item may stand in a string of a kind.
+/// Returns whether an item is allowed in a string of a kind.
 fn may_stand(kind: StringKind, item: UnitItem) -> bool
     ensures { result ≡ may_stand kind item }
 {
@@ -83,7 +83,7 @@ fn may_stand(kind: StringKind, item: UnitItem) -> bool
     }
 }
 
-/// The code behind an item's sentinel, 0 of a character.
+/// Returns the code after an item's sentinel, or 0 for a character.
 fn code_of(item: UnitItem) -> u16
     ensures { result ≡ code_of item }
 {
@@ -109,14 +109,14 @@ fn code_of(item: UnitItem) -> u16
     }
 }
 
-/// How many bytes an item has.
+/// Returns the number of bytes of an item.
 pub(crate) fn spelled_size(item: UnitItem) -> u32
     ensures { result ≡ spelled_size item }
 {
     2 * unit_count(item)
 }
 
-/// Whether an item names a store or group that the file doesn't have.
+/// Returns whether an item names a store or group that the file doesn't have.
 fn names_outside(bytes: &[u8], item: UnitItem) -> bool
     ensures { result ≡ names_outside bytes.now item }
 {
@@ -137,7 +137,7 @@ fn names_outside(bytes: &[u8], item: UnitItem) -> bool
     }
 }
 
-/// What an offset finds at an item of a context.
+/// Returns what an offset finds at an item of a context.
 pub(crate) fn target_of(item: UnitItem) -> Target
     ensures { result ≡ target_of item }
 {
@@ -148,7 +148,7 @@ pub(crate) fn target_of(item: UnitItem) -> Target
     }
 }
 
-/// What an offset, counted from 1, finds.
+/// Returns what an offset, counted from 1, finds.
 fn target_at(targets: &[Target], offset: u16) -> Option<Target>
     ensures { result ≡ target_at targets.now offset }
 {
@@ -158,7 +158,7 @@ fn target_at(targets: &[Target], offset: u16) -> Option<Target>
     targets.get(offset as usize - 1).copied()
 }
 
-/// Whether the offset of an item points where it must.
+/// Returns whether the offset of an item points at an allowed target.
 fn points_right(targets: &[Target], item: UnitItem) -> bool
     ensures { result ≡ points_right targets.now item }
 {
@@ -174,7 +174,7 @@ fn points_right(targets: &[Target], item: UnitItem) -> bool
     }
 }
 
-/// An item at a place.
+/// Checks an item at a place.
 pub(crate) fn check_item(
     bytes: &[u8],
     kind: StringKind,
@@ -200,7 +200,7 @@ pub(crate) fn check_item(
     Ok(())
 }
 
-/// The fault of a place where no item is spelled.
+/// Returns the fault of a place at which no item is spelled.
 pub(crate) fn spelling_fault(at: u32, kind: BadKind, code: u16) -> Fault
     ensures { result ≡ spelling_fault at kind code }
 {

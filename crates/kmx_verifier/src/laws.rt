@@ -8,12 +8,12 @@ pub fn valid_files_can_be_played()
     ensures { ValidFilesCanBePlayed }
 {}
 
-/// The file of tables that a file can have is valid, with any picture, both within their limits.
+/// The file that is written for writable tables and any bitmap is valid, if the file and the bitmap are within their limits.
 pub fn files_are_valid()
     ensures { FilesAreValid }
 {}
 
-/// Bytes that no step looks at change nothing: files of one length that have the same bytes elsewhere have the same fault.
+/// If two files of the same length have the same bytes wherever a step reads, they have the same first fault.
 pub fn other_bytes_change_nothing()
     ensures { OtherBytesChangeNothing }
 {}

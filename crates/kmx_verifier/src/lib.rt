@@ -1,10 +1,10 @@
-//! Files of strangers: says yes to exactly the valid ones and names the first fault of every other. The tables of a valid
-//! file can be played.
+//! Verifies untrusted compiled keyboards: accepts exactly the valid files and returns the first fault of every other file. The
+//! tables of a valid file can be played.
 //!
-//! It stands on `kmn_base`, `rule_model`, `kmx_format`, whose definition of reading it follows,
-//! and `kmx_parts`. `specs/FaultOf` has the first fault of a file, step by step. The layers above open a file by `verify`
-//! and use a `Verified`, which borrows its bytes and copies nothing: it lends the file's tables part by part, and copies
-//! them for a caller that asks for it.
+//! Depends on `kmn_base`, `rule_model`, `item_codec`, `kmx_format` (this crate follows its definition of reading), `kmx_view` and
+//! `kmx_parts`. `specs/FaultOf` defines the first fault of a file, step by step. The layers above open a file with `verify` and use a
+//! `Verified`, which borrows the bytes and copies nothing: `parts` returns the file's tables, which are read in place, and
+//! `copied_tables` copies them for a caller that needs a copy.
 #![tactic(auto)]
 
 mod contexts;

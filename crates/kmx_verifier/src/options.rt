@@ -1,4 +1,4 @@
-//! Which stores of a file are options: some condition, `set`, `save` or `reset` names them.
+//! Finds the options of a file: a store is an option if a condition, `set`, `save` or `reset` names it.
 
 ghost use Rattle.std.specs.Prelude.{◌≡◌, nat_eq};
 ghost use Rattle.std.specs.List.{list_any};
@@ -84,7 +84,7 @@ fn groups_use(file: &FileTables<'_>, store: u32) -> bool
     false
 }
 
-/// Whether a store is an option.
+/// Returns whether a store is an option.
 pub(crate) fn is_option(file: &FileTables<'_>, store: u32) -> bool
     ensures { result ≡ list_any (nat_eq store) (tab_options file.now) }
 {

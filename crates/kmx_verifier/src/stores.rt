@@ -1,19 +1,19 @@
-//! The stores of a file.
+//! Checks the stores of a file.
 
 ghost use Rattle.std.specs.Prelude.{◌≡◌, ◌+◌, ◌*◌, ◌⊎◌, ◌≤◌, ◌<◌, length, None, Some, MatchResult};
 ghost use Rattle.kmn_base.specs.declared.limits.TheConstants.{FILE_BYTES, ALL_ELEMENTS};
 ghost use Rattle.kmx_format.specs.declared.sizes.TheConstants.{STORE_BYTES};
 ghost use Rattle.kmx_format.specs.TablesOf.{word_at};
-ghost use Rattle.kmx_parts.specs.View.{store_count};
+ghost use Rattle.kmx_view.specs.View.{store_count};
 ghost use Rattle.kmx_verifier.specs.FaultOf.{store_fault, stores_fault, elements_in, Tells};
 
 use crate::faults::Fault;
 use crate::strings::{check_content, check_name};
 use kmx_format::places::{STORE_ELEMENTS_AT, STORE_NAME_AT};
 use kmx_format::sizes::STORE_BYTES;
-use kmx_parts::word_at;
+use kmx_view::word_at;
 
-/// The store whose record stands at a place, with so many elements before it; how many elements there are with it.
+/// Checks the store whose record is at `place`, after `before` elements of earlier stores, and returns the number of elements so far.
 fn check_store(bytes: &[u8], before: usize, place: usize) -> Result<usize, Fault>
     requires fits { length bytes.now ≤ FILE_BYTES }
     requires place { place + STORE_BYTES ≤ FILE_BYTES }
@@ -26,7 +26,7 @@ fn check_store(bytes: &[u8], before: usize, place: usize) -> Result<usize, Fault
     check_content(bytes, before, place + STORE_ELEMENTS_AT)
 }
 
-/// The stores.
+/// Checks `count` stores, whose records begin at `place`.
 pub(crate) fn check_stores(bytes: &[u8], place: u32, count: u32) -> Result<(), Fault>
     requires fits { length bytes.now ≤ FILE_BYTES }
     requires stand { (count ≡ 0) ⊎ (place + STORE_BYTES * count ≤ FILE_BYTES) }

@@ -1,21 +1,21 @@
-//! Strings and names.
+//! Checks strings and names.
 
 ghost use Rattle.std.specs.Prelude.{◌≡◌, ◌+◌, ◌≤◌, ◌<◌, [], length, true, not, nat_lt, None, Some, MatchResult, MatchOption, false};
 ghost use Rattle.kmn_base.specs.declared.limits.TheConstants.{FILE_BYTES, OUTPUT_ITEMS, ALL_ELEMENTS};
 ghost use Rattle.kmx_format.specs.TablesOf.{word_at, string_at};
 ghost use Rattle.kmx_verifier.specs.declared.faults.StringKind.TheVariants.{Store};
-ghost use Rattle.kmx_parts.specs.View.{is_ended};
-ghost use Rattle.kmx_format.specs.Walk.{results_of, items_given};
+ghost use Rattle.kmx_view.specs.View.{is_ended};
+ghost use Rattle.item_codec.specs.Walk.{results_of, items_given};
 ghost use Rattle.kmx_verifier.specs.FaultOf.{walk_fault, read_fault, read_at, item_count, name_fault, string_fault, too_many_elements, Tells};
 
 use crate::faults::{Fault, StringKind, Target};
 use crate::items::{check_item, spelled_size, spelling_fault};
+use item_codec::items_of;
 use kmn_base::Code;
 use kmn_base::limits::{ALL_ELEMENTS, FILE_NAME_UNITS, OUTPUT_ITEMS, STORE_ELEMENTS};
-use kmx_format::items_of;
-use kmx_parts::{ended_string, word_at};
+use kmx_view::{ended_string, word_at};
 
-/// The items of a string whose first unit stands at a place; how many they are.
+/// Checks the items of a string whose first unit is at byte offset `at`, and returns their number.
 pub(crate) fn walk(
     bytes: &[u8],
     kind: StringKind,
@@ -46,7 +46,7 @@ pub(crate) fn walk(
 }
 
 #[tactic(auto, using(crate::proofs::Walking::string_halved))]
-/// How many units the string at an offset has; None where it is outside the file or unended.
+/// Returns the number of units of the string at an offset, or `None` if the string is outside the file or has no zero unit.
 fn unit_count(bytes: &[u8], offset: u32) -> Option<usize>
     ensures { MatchOption result
         (is_ended bytes.now offset ≡ false)
@@ -58,7 +58,7 @@ fn unit_count(bytes: &[u8], offset: u32) -> Option<usize>
     }
 }
 
-/// The name whose offset stands at a place.
+/// Checks the name whose offset is stored at `place`.
 pub(crate) fn check_name(bytes: &[u8], place: usize) -> Result<(), Fault>
     requires place { place < FILE_BYTES }
     ensures { Tells (name_fault bytes.now place) result }
@@ -75,7 +75,7 @@ pub(crate) fn check_name(bytes: &[u8], place: usize) -> Result<(), Fault>
 }
 
 #[tactic(auto, unfolding(kmx_format::specs::TablesOf::items_of))]
-/// The items of the string whose offset stands at a place; how many they are.
+/// Checks the items of the string whose offset is stored at `place`, and returns their number.
 fn read_string(
     bytes: &[u8],
     kind: StringKind,
@@ -95,7 +95,7 @@ fn read_string(
     }
 }
 
-/// The output whose offset stands at a place, with the context that its offsets point into.
+/// Checks the output whose offset is stored at `place`. Its offsets point into the context that has these `targets`.
 pub(crate) fn check_output(
     bytes: &[u8],
     kind: StringKind,
@@ -113,7 +113,7 @@ pub(crate) fn check_output(
     Ok(())
 }
 
-/// The content of a store, with so many elements before it; how many elements there are with it.
+/// Checks the content of a store after `before` elements of earlier stores, and returns the number of elements so far.
 pub(crate) fn check_content(bytes: &[u8], before: usize, place: usize) -> Result<usize, Fault>
     requires fits { length bytes.now ≤ FILE_BYTES }
     requires place { place < FILE_BYTES }

@@ -1,4 +1,4 @@
-//! The tables of a file copied into memory, part by part.
+//! Copies the tables of a file into memory, part by part.
 
 ghost use Rattle.std.specs.Prelude.{◌≡◌, IfOk};
 
@@ -71,7 +71,7 @@ fn copied_groups(alloc: Global, file: &FileTables<'_>) -> Result<Seq<Group>, Mem
     Ok(groups)
 }
 
-/// The tables that a file has.
+/// Copies the tables of a file.
 pub(crate) fn copied(alloc: Global, file: &FileTables<'_>) -> Result<Tables, Memory>
     ensures { IfOk result (λ copy. copy ≡ file.now) }
 {

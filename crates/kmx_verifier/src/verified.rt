@@ -8,12 +8,13 @@ use crate::options::is_option;
 use crate::tables::copied;
 use crate::whole::check_file;
 use kmn_base::Memory;
-use kmx_parts::{FileTables, KmxView};
+use kmx_parts::FileTables;
+use kmx_view::KmxView;
 use rule_model::Tables;
 use std::alloc::Global;
 use std::marker::Model;
 
-/// A sound file, borrowed: nothing of it is copied. Contracts see it as its bytes.
+/// A valid compiled keyboard. It borrows the bytes and copies nothing. Contracts model it as its bytes.
 #[derive(Drop)]
 pub struct Verified<'a> {
     bytes: &'a [u8],
@@ -42,7 +43,7 @@ impl<'a> Verified<'a> {
     ghost use Rattle.kmx_format.specs.Playable.{IsPlayable};
     ghost use Rattle.kmx_verifier.specs.FaultOf.{IsValid};
 
-    /// The bytes of the file.
+    /// Returns the bytes of the file.
     pub fn bytes(&self) -> &'a [u8]
         ensures value { result.now ≡ self.now }
         ensures valid { IsValid self.now }
@@ -50,7 +51,7 @@ impl<'a> Verified<'a> {
         self.bytes
     }
 
-    /// The file's parts by place.
+    /// Returns a view that reads the parts of the file by byte offset.
     pub fn view(&self) -> KmxView<'a>
         ensures value { result.bytes.now ≡ self.now }
         ensures few { length self.now ≤ FILE_BYTES }
@@ -58,7 +59,7 @@ impl<'a> Verified<'a> {
         KmxView::of(self.bytes)
     }
 
-    /// The tables that the file has, read where they lie.
+    /// Returns the tables of the file, which are read in place.
     pub fn parts(&self) -> FileTables<'a>
         ensures value { result ≡ tables_of self.now }
         ensures playable { IsPlayable result }
@@ -66,7 +67,9 @@ impl<'a> Verified<'a> {
         FileTables::of(self.bytes)
     }
 
-    /// The tables that the file has, once more.
+    /// Copies the tables of the file.
+    ///
+    /// Errors: `Memory` if an allocation fails.
     pub fn copied_tables(&self, alloc: Global) -> Result<Tables, Memory>
         ensures value { IfOk result (λ tables. tables ≡ tables_of self.now) }
         ensures playable { IsPlayable (tables_of self.now) }
@@ -74,35 +77,35 @@ impl<'a> Verified<'a> {
         copied(alloc, &self.parts())
     }
 
-    /// The version of the file's format.
+    /// Returns the version of the file's format.
     pub fn version(&self) -> u16
         ensures { result ≡ (tables_of self.now).version }
     {
         self.parts().version()
     }
 
-    /// How many stores the file has.
+    /// Returns the number of stores of the file.
     pub fn store_count(&self) -> u32
         ensures { result ≡ length (tables_of self.now).stores }
     {
         self.parts().store_count()
     }
 
-    /// How many groups the file has.
+    /// Returns the number of groups of the file.
     pub fn group_count(&self) -> u32
         ensures { result ≡ length (tables_of self.now).groups }
     {
         self.parts().group_count()
     }
 
-    /// How many key records all groups of the file have.
+    /// Returns the number of key records in all groups of the file.
     pub fn rule_count(&self) -> u32
         ensures { result ≡ length (all_rules (tables_of self.now)) }
     {
         rule_count(&self.parts())
     }
 
-    /// Whether some condition, `set`, `save` or `reset` names a store.
+    /// Returns whether a condition, `set`, `save` or `reset` names a store.
     pub fn is_option(&self, store: u32) -> bool
         ensures { result ≡ list_any (nat_eq store) (tab_options (tables_of self.now)) }
     {
@@ -110,7 +113,9 @@ impl<'a> Verified<'a> {
     }
 }
 
-/// Opens a file of a stranger. The fault is the first one of the file.
+/// Verifies an untrusted file.
+///
+/// Errors: `Refused` with the first fault of the file; `Memory` if an allocation fails.
 pub fn verify<'a>(alloc: Global, bytes: &'a [u8]) -> Result<Verified<'a>, VerifyError>
     ensures { MatchResult result
         (λ file. (fault_of bytes.now ≡ None) × (file ≡ bytes.now))

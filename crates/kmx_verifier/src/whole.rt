@@ -1,4 +1,4 @@
-//! The whole file.
+//! Checks a whole file.
 
 ghost use Rattle.std.specs.Prelude.{◌≡◌, ◌≤◌, length, None, Some};
 ghost use Rattle.kmn_base.specs.declared.limits.TheConstants.{FILE_BYTES};
@@ -9,10 +9,12 @@ use crate::groups::check_groups;
 use crate::header::{check_arrays, check_header, check_size};
 use crate::stores::check_stores;
 use kmx_format::places::{GROUP_COUNT_AT, GROUPS_AT, STORE_COUNT_AT, STORES_AT};
-use kmx_parts::word_at;
+use kmx_view::word_at;
 use std::alloc::Global;
 
-/// The first fault of a file, if it has one.
+/// Checks a file.
+///
+/// Errors: `Refused` with the first fault of the file; `Memory` if an allocation fails.
 #[tactic(auto, using(crate::proofs::Arrays::arrays_stand, crate::proofs::Arrays::size_fits), unfolding(crate::specs::FaultOf::fault_of))]
 pub(crate) fn check_file(alloc: Global, bytes: &[u8]) -> Result<(), VerifyError>
     ensures { TellsOf (fault_of bytes.now) (length bytes.now ≤ FILE_BYTES) result }

@@ -1,4 +1,4 @@
--- Nothing of the source of a load is refused.
+-- The source of a load is not refused.
 use Rattle.std.proofs.Common.{◌≡◌, ℕ, zero, suc, ◌+◌, ◌≤◌, nat_lt, Bool, true, false, if◌then◌else◌, List, [], ◌∷◌, ◌++◌, Option, Some, None, Result, Ok, refl, ap, sym, ◌∙◌, arith}
 use Rattle.std.proofs.lemmas.Bool.Decides.{nat_tests}
 use Rattle.std.specs.Option.{option_or}
@@ -13,10 +13,10 @@ use Rattle.rule_model.specs.declared.program.RuleDef.{RuleDef}
 use Rattle.kmn_parser.specs.Source.{parsed}
 use Rattle.kmn_parser.specs.Programs.{program_text}
 use Rattle.kmn_parser.proofs.Programs.{programs_read_back}
-use Rattle.kmn_names.specs.First.{at_line, earlier, first_of, or_refusal}
-use Rattle.kmn_names.specs.Names.{is_named, names_refusal, rule_refusal, stated}
-use Rattle.kmn_names.specs.declared.stating.Stated.{Stated}
-use Rattle.kmn_names.specs.Known.{Known, known}
+use Rattle.store_table.specs.First.{at_line, earlier, first_of, or_refusal}
+use Rattle.store_table.specs.Names.{is_named, names_refusal, rule_refusal, stated}
+use Rattle.store_table.specs.declared.stating.Stated.{Stated}
+use Rattle.store_table.specs.Known.{Known, known}
 use Rattle.rule_checker.specs.Counting.{capped, no_counts, virtual_count_of}
 use Rattle.rule_checker.specs.KeyCodes.{no_codes}
 use Rattle.item_checker.specs.Items.{items_refusal, rule_refusal as items_rule_refusal}
@@ -50,7 +50,7 @@ no_item_refused : (n : ℕ) → items_refusal (load_program n) ≡ None
 unfolding items_refusal
 no_item_refused n = ap (λ (found : Option Refusal). earlier found None) (items_stand (known (load_program n)) [] 0 (suc n))
 
--- the totals of so many rules, and a walk over them that passed no limit
+-- the totals of rules with a number of records, and a walk over such rules with its first refusal
 abbrev totals_of : ℕ → Totals
 totals_of records = record no_totals { records = records }
 
@@ -64,11 +64,11 @@ few_records line records few = by_test (nat_lt RECORDS records) (grind (arith, n
     by_test false is = refl
     by_test true is = absurd (cc)
 
--- the walk behind a rule in a line, with so many records up to there
+-- the walk after a rule in a line, with the number of records up to there
 abbrev walk_at : ℕ → ℕ → Walk
 walk_at line records = walk_of records (at_line line (if nat_lt RECORDS records then Some C22 else None))
 
--- the key of each rule has one record, as no key is cased
+-- the key of each rule has one record, since no key is cased
 abbrev key_name : KeyName
 key_name = record { flags = 0x4000; code = 65; name = [] }
 

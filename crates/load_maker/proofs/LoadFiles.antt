@@ -1,4 +1,4 @@
--- The file of a load: how many rules and how many bytes it has.
+-- The file of a load: the number of its rules and of its bytes.
 use Rattle.std.proofs.Common.{◌≡◌, ℕ, zero, suc, ◌+◌, ◌*◌, ◌<◌, ◌≤◌, List, [], ◌∷◌, ◌++◌, length, map, codes, refl, ap, sym, ◌∙◌, append-nil, length-append, arith}
 use Rattle.std.specs.Prelude.{filter, find, flat_map}
 use Rattle.std.specs.Str.{bytes_eq, chars}
@@ -16,10 +16,10 @@ use Rattle.kmx_format.specs.File.{all_rules, file_of, group_strings, rule_string
 use Rattle.kmx_format.specs.FileUnits.{item_units, name_units, output_units}
 use Rattle.kmx_format.proofs.FileItems.{char_units_low}
 use Rattle.kmx_format.proofs.FileLaw.{length-file_of}
-use Rattle.kmx_format.specs.Compiles.{rule_records, statement_outputs}
-use Rattle.kmx_format.specs.Numbers.{Numbers, compiled_stores, dictionary_stores, item_values, numbers_of, value_store, values_of}
-use Rattle.kmx_format.specs.Ordered.{compiled_tables, in_order}
-use Rattle.kmx_format.proofs.Ordered.{in_order_permutes}
+use Rattle.compile_laws.specs.Compiles.{rule_records, statement_outputs}
+use Rattle.compile_laws.specs.Numbers.{Numbers, compiled_stores, dictionary_stores, item_values, numbers_of, value_store, values_of}
+use Rattle.compile_laws.specs.Ordered.{compiled_tables, in_order}
+use Rattle.compile_laws.proofs.Ordered.{in_order_permutes}
 use Rattle.load_maker.specs.Files.{FilesHaveSizes}
 use Rattle.load_maker.specs.Programs.{load_program, rule_defs}
 use Rattle.load_maker.proofs.LoadPrograms.{no_dictionary, no_match, no_nomatch}
@@ -40,7 +40,7 @@ no_stores : (n : ℕ) → compiled_stores (load_program n) ≡ []
 unfolding stores_of
 no_stores n = λ j. dictionary_stores (no_dictionary n j) ++ map value_store (no_value n j)
 
--- the records of rules where no key is cased
+-- the records of rules if no key is cased
 abbrev records : Numbers → ℕ → ℕ → List Rule
 records numbers i count = flat_map (rule_records (record numbers { cased = [] })) (filter is_plain (rule_defs i count))
 
@@ -97,7 +97,7 @@ module _ (numbers : Numbers) where
       λ j. length ((string (name_units (codes "main")) ++ string (output_units (statement_outputs numbers (no_match 0 (suc n) j)))
       ++ string (output_units (statement_outputs numbers (no_nomatch 0 (suc n) j)))) ++ [])
 
--- what a file of such tables comes to
+-- if tables have these counts, their file has the size of a load
 file_size : (tables : Tables) (n : ℕ) → tables.stores ≡ [] → length tables.groups ≡ 1 → length (all_rules tables) ≡ n + 1
     → length (flat_map group_strings tables.groups) ≡ 10 → length (flat_map rule_strings (all_rules tables)) ≡ 4 + 8 * n → length (file_of tables []) ≡ 122 + 28 * n
 file_size tables n stores groups rules names strings =

@@ -1,4 +1,4 @@
--- The compiled tables of a load do with its script what its keyboard does.
+-- The script of a load has the same result on its compiled tables as on its keyboard.
 use Rattle.std.proofs.Common.{◌≡◌, ◌+◌, sym, ◌∙◌, ap, subst}
 use Rattle.rule_model.specs.Keyboard.{Keyboard}
 use Rattle.rule_model.specs.Src.{src}
@@ -7,9 +7,9 @@ use Rattle.rule_model.specs.Trace.{Trace, trace}
 use Rattle.rule_model.specs.declared.program.Program.{Program}
 use Rattle.rule_model.specs.declared.tables.Tables.{Tables}
 use Rattle.kmn_parser.specs.Programs.{program_text}
-use Rattle.kmx_format.specs.Ordered.{compiled_tables}
-use Rattle.kmx_format.proofs.Ordered.{program_compiles}
-use Rattle.kmx_format.proofs.Whole.{meaning_kept}
+use Rattle.compile_laws.specs.Ordered.{compiled_tables}
+use Rattle.compile_laws.proofs.Ordered.{program_compiles}
+use Rattle.compile_laws.proofs.Whole.{meaning_kept}
 use Rattle.rule_checker.specs.Refused.{IsRead}
 use Rattle.rule_checker.proofs.Named.{well_named}
 use Rattle.rule_checker.proofs.Sources.{source_read}

@@ -1,4 +1,4 @@
--- The program of a load means its keyboard: it has no store, no key of its own and no cased key.
+-- The program of a load means its keyboard: it has no store, no custom key and no cased key.
 use Rattle.std.proofs.Common.{◌≡◌, ℕ, zero, suc, true, List, [], ◌∷◌, map, None, refl, ap, ◌∙◌, append-nil}
 use Rattle.std.specs.Prelude.{codes, filter, find, flat_map, option_map}
 use Rattle.rule_model.specs.declared.program.SrcItem.{SrcItem}

@@ -1,24 +1,25 @@
--- Which rule of a load goes first: behind a character the one that takes it, else the first one.
+-- Which rule of a load fires: after a character the rule that removes it, else the first one.
 use Rattle.std.proofs.Common.{◌≡◌, inl, inr, ℕ, zero, suc, ◌+◌, ◌<◌, ◌≤◌, nat_eq, Bool, true, false, if◌then◌else◌, List, [], ◌∷◌, Option, Some, None, refl, ap, ◌∙◌, subst, arith}
 use Rattle.std.proofs.lemmas.Bool.{cases_lt}
 use Rattle.std.proofs.lemmas.Bool.Decides.{nat_tests}
 use Rattle.kmn_base.specs.declared.items.Item.{Item}
 use Rattle.kmn_base.specs.declared.items.Item.TheVariants as item
 use Rattle.kmn_base.specs.declared.keys.KeyPress.{KeyPress}
-use Rattle.rule_model.specs.Fits.{key_fits}
+use Rattle.virtual_keys.specs.Fits.{key_fits}
 use Rattle.rule_model.specs.declared.event_state.Catch.{Catch}
 use Rattle.rule_model.specs.declared.event_state.Caught.{Caught}
 use Rattle.rule_model.specs.Match.{Content}
-use Rattle.rule_model.specs.Hold.{holds, caught_by, fitting_place}
+use Rattle.rule_model.specs.Hold.{holds, caught_by}
+use Rattle.rule_model.proofs.CaughtParts.{fitting_place}
 use Rattle.rule_model.specs.Choose.{best, best_with}
 use Rattle.load_maker.specs.Keyboards.{key_a, load_rule, rules_from, press_a, press_space}
 
--- the text after so many presses of K_A
+-- the text after a number of presses of K_A
 abbrev pub left_after : ℕ → List Item
 left_after zero = []
 left_after (suc i) = item.Char (0x4E00 + i) ∷ []
 
--- what the rule of a number catches of it
+-- what the rule of a number catches of the text
 abbrev pub catch_of : ℕ → Catch
 catch_of i = record { item = Some (item.Char (0x4E00 + i)); place = None }
 
@@ -26,7 +27,7 @@ abbrev pub caught_after : ℕ → Caught
 caught_after zero = record { catches = []; key_place = None }
 caught_after (suc i) = record { catches = catch_of i ∷ []; key_place = None }
 
--- a rule behind the first one, by whether its character is the text's
+-- what a rule after the first one catches, given whether its character is the text's
 abbrev held_by : Content → KeyPress → ℕ → Bool → Option Caught
 held_by content press i same = caught_by (if same then Some (catch_of i ∷ []) else None) (fitting_place content press key_a)
 
@@ -60,14 +61,14 @@ module _ (content : Content) where
       let differ : nat_eq (0x4E00 + i) (0x4E00 + j) ≡ false = grind (arith, nat_tests) in
       holds_by press_a i j ∙ ap (held_by content press_a i) differ
 
-  -- of the rules behind that of the text's character none holds
+  -- no rule after the rule of the text's character holds
   none_behind : (i j count : ℕ) → i < suc j → best (holds content (left_after i) press_a) (rules_from (suc j) count) ≡ None
   none_behind i j zero less = refl
   none_behind i j (suc count) less =
       ap (λ (held : Option Caught). best_with (load_rule (suc j)) held (best (holds content (left_after i) press_a) (rules_from (suc (suc j)) count))) (other_holds i j less)
       ∙ none_behind i (suc j) count (omega arith)
 
-  -- of the rules from one on the best is that of the text's character
+  -- of the rules from the rule of the text's character on, this rule is the best
   own_first : (i count : ℕ) → best (holds content (left_after (suc i)) press_a) (rules_from (suc i) (suc count)) ≡ Some (load_rule (suc i), caught_after (suc i))
   own_first i count =
       ap (λ (held : Option Caught). best_with (load_rule (suc i)) held (best (holds content (left_after (suc i)) press_a) (rules_from (suc (suc i)) count))) (own_holds i)
@@ -83,7 +84,7 @@ module _ (content : Content) where
         subst (λ (k : ℕ). best (holds content (left_after (suc i)) press_a) (rules_from (suc k) (suc count)) ≡ Some (load_rule (suc i), caught_after (suc i))) (omega arith) (own_first i count)
   ]
 
-  -- the rule that goes first after so many presses
+  -- after a number of presses of K_A, the rule of this number is the best
   pub chosen_after : (n i : ℕ) → i ≤ n → best (holds content (left_after i) press_a) (rules_from 0 (suc n)) ≡ Some (load_rule i, caught_after i)
   chosen_after n zero within =
       ap (λ (held : Option Caught). best_with (load_rule zero) held (best (holds content (left_after zero) press_a) (rules_from 1 n))) (first_holds zero)

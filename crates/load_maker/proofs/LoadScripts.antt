@@ -10,7 +10,7 @@ use Rattle.kmn_base.specs.declared.events.Event.{Event}
 use Rattle.kmn_base.specs.declared.events.Event.TheVariants as event
 use Rattle.kmn_base.specs.declared.limits.TheConstants.{TEXT_BYTES, SCRIPT_EVENTS}
 use Rattle.kmn_base.specs.declared.refusals.Refusal.{Refusal}
-use Rattle.rule_model.specs.Keys.{key_codes}
+use Rattle.virtual_keys.specs.Keys.{key_codes}
 use Rattle.rule_model.specs.Transcript.{events_of}
 use Rattle.rule_model.specs.declared.script.Entry.{Entry}
 use Rattle.rule_model.specs.declared.script.Entry.TheVariants.{Act}
@@ -27,7 +27,7 @@ abbrev lines_of : ℕ → List ℕ
 lines_of zero = codes "[K_SPACE]\n"
 lines_of (suc count) = codes "[K_A]\n" ++ lines_of count
 
--- a line more in front is one more behind
+-- a line after equal lines can be moved before them
 line_moves : (count : ℕ) (rest : List ℕ) → press_lines count ++ (codes "[K_A]\n" ++ rest) ≡ codes "[K_A]\n" ++ (press_lines count ++ rest)
 line_moves zero rest = refl
 line_moves (suc count) rest =

@@ -5,8 +5,8 @@ use Rattle.kmn_base.specs.declared.items.Element.{Element}
 use Rattle.kmn_base.specs.declared.items.Item.{Item}
 use Rattle.kmn_base.specs.declared.items.Item.TheVariants as item
 use Rattle.kmn_base.specs.Names.{same_name}
-use Rattle.rule_model.specs.Fits.{char_of_press}
-use Rattle.rule_model.specs.Keys.{us_characters}
+use Rattle.virtual_keys.specs.Fits.{char_of_press}
+use Rattle.virtual_keys.specs.Keys.{us_characters}
 use Rattle.rule_model.specs.declared.event_state.EventState.{EventState}
 use Rattle.rule_model.specs.Keyboard.{StoreMeaning}
 use Rattle.rule_model.specs.System.{system_options}

@@ -1,4 +1,4 @@
--- The source of a load is the text of its program, which a text can say.
+-- The source of a load is the text of its program, which a text can express.
 use Rattle.std.proofs.Common.{◌≡◌, ℕ, zero, suc, ◌+◌, ◌-◌, ◌*◌, ◌<◌, ◌≤◌, true, List, [], ◌∷◌, ◌++◌, length, map, codes, refl, ap, sym, ◌∙◌, subst, append_assoc, append-nil, length-append, lit≤, arith}
 use Rattle.std.specs.Fmt.{digits}
 use Rattle.std.proofs.Math.Utf8.{low_scalar}
@@ -30,7 +30,7 @@ line_is i rest less =
     ∙ regrouped (codes "U+") (hexadecimal (0x4E00 + i)) (codes " + [K_A] > U+") (hexadecimal (0x4E00 + suc i)) rest
     ∙ ap (λ (c : ℕ). (codes "U+" ++ hexadecimal c ++ codes " + [K_A] > U+" ++ hexadecimal (0x4E00 + suc i) ++ codes "\n") ++ rest) before
 
--- the rules that were told, and those from there on
+-- the lines of the first rules, followed by the lines of the rules from there on, are the lines of all rules
 lines_are : (i count n : ℕ) → i + count ≡ n → n ≤ 2000 → rule_lines i ++ lines_from (suc i) count ≡ rule_lines n
 lines_are i zero n all within = let same : i ≡ n = omega arith in append-nil (rule_lines i) ∙ ap rule_lines same
 lines_are i (suc count) n all within =
@@ -80,7 +80,7 @@ rules_spelled i (suc count) line is within = (
   rules_spelled (suc i) count (line + 1) (omega arith) (omega arith),
 )
 
--- a text can say the program
+-- a text can express the program
 pub program_spelled : (n : ℕ) → n ≤ 2000 → IsSpelled (load_program n)
 program_spelled n within = record {
   stores = tt;

@@ -1,18 +1,19 @@
 -- The source and the script of a load. Each line ends with a line feed.
 use Rattle.std.specs.Prelude.{ℕ, zero, suc, ◌+◌, ◌-◌, List, [], ◌++◌, codes, Bool, true, ◌&&◌, nat_le}
 use Rattle.std.specs.Fmt.{digits}
-use Rattle.load_maker.specs.declared.load.TheConstants.{RULES, FIRST}
+use Rattle.kmn_base.specs.declared.limits.TheConstants.{LOAD_RULES}
+use Rattle.load_maker.specs.declared.load.TheConstants.{FIRST}
 
 -- whether a number has a load
 abbrev pub is_in_range : ℕ → Bool
-is_in_range n = nat_le 1 n && nat_le n RULES
+is_in_range n = nat_le 1 n && nat_le n LOAD_RULES
 
 -- a number in upper-case hexadecimal
 abbrev pub hexadecimal : ℕ → List ℕ
 hexadecimal n = digits 16 true n
 
--- the rule behind the first one of this number, from 1: behind the character that the rule before it puts, K_A turns it
--- into the next one
+-- the rule of a number, counted from 1 after the first rule: after the character that the rule before it outputs, K_A replaces
+-- this character with the next one
 abbrev pub rule_line : ℕ → List ℕ
 rule_line i =
     codes "U+" ++ hexadecimal (FIRST + i - 1) ++ codes " + [K_A] > U+" ++ hexadecimal (FIRST + i) ++ codes "\n"
@@ -30,11 +31,11 @@ first_lines =
 abbrev pub load_source : ℕ → List ℕ
 load_source n = first_lines ++ rule_lines n
 
--- so many lines that press K_A
+-- `n` lines that press K_A
 abbrev pub press_lines : ℕ → List ℕ
 press_lines zero = []
 press_lines (suc n) = press_lines n ++ codes "[K_A]\n"
 
--- K_A for each rule, the first one too, and K_SPACE
+-- a press of K_A for each rule, including the first one, and a press of K_SPACE
 abbrev pub load_script : ℕ → List ℕ
 load_script n = press_lines (n + 1) ++ codes "[K_SPACE]\n"

@@ -12,17 +12,17 @@ use Rattle.load_maker.specs.Keyboards.{load_keyboard}
 abbrev pub source_a : SrcItem
 source_a = source.Key (record { flags = 0x4000; code = 65; name = [] })
 
--- the first rule, in line 3, and those behind it
+-- the first rule, in line 3, and the rules after it
 abbrev pub rule_def : ℕ → RuleDef
 rule_def zero = record { line = 3; kind = Plain; context = []; key = Some source_a; output = source.Char FIRST ∷ [] }
 rule_def (suc i) = record { line = i + 4; kind = Plain; context = source.Char (FIRST + i) ∷ []; key = Some source_a; output = source.Char (FIRST + suc i) ∷ [] }
 
--- so many rules from the one of a number on
+-- `count` rules from the rule of a number on
 abbrev pub rule_defs : ℕ → ℕ → List RuleDef
 rule_defs i zero = []
 rule_defs i (suc count) = rule_def i ∷ rule_defs (suc i) count
 
--- the begin statement, and the group with the first rule and so many behind it
+-- the begin statement, and the group with the first rule and `n` rules after it
 abbrev pub load_program : ℕ → Program
 load_program n =
     record {

@@ -5,17 +5,17 @@ use Rattle.rule_model.specs.Transcript.{events_of}
 use Rattle.rule_model.specs.declared.script.Entry.{Entry}
 use Rattle.rule_model.specs.declared.script.Entry.TheVariants.{Act}
 use Rattle.load_maker.specs.Loads.{load_script}
-use Rattle.load_maker.specs.declared.load.TheConstants.{RULES}
+use Rattle.kmn_base.specs.declared.limits.TheConstants.{LOAD_RULES}
 use Rattle.play_script.specs.Entries.{entries}
 use Rattle.load_maker.specs.Keyboards.{press_a, press_space, load_events}
 
--- from a line on so many presses of K_A, and one of K_SPACE
+-- the entries of `count` presses of K_A from a line on, and of one press of K_SPACE
 abbrev pub press_entries : ℕ → ℕ → List Entry
 press_entries line zero = Act line (event.Key press_space) ∷ []
 press_entries line (suc count) = Act line (event.Key press_a) ∷ press_entries (line + 1) count
 
--- the script of a load is read as its presses, whatever names of keys the keyboard has for itself
+-- the script of a load is read as its presses, whatever names the keyboard has for custom keys
 abbrev pub ScriptsAreRead : Type 0
 ScriptsAreRead =
-    (n : ℕ) (dictionary : List (List ℕ)) → n ≤ RULES
+    (n : ℕ) (dictionary : List (List ℕ)) → n ≤ LOAD_RULES
     → (entries dictionary (load_script n) ≡ Ok (press_entries 1 (suc n))) × (events_of (press_entries 1 (suc n)) ≡ load_events n)

@@ -9,29 +9,29 @@ pub fn programs_mean()
     ensures { ProgramsMean }
 {}
 
-/// The script of a load is read as its presses.
+/// The script of a load is read as its key presses.
 pub fn scripts_are_read()
     ensures { ScriptsAreRead }
 {}
 
-/// These presses are played on the keyboard of a load without a refusal: together they put an item for each, and two characters
-/// stand in the end.
+/// These presses are played on the keyboard of a load without a refusal. In total they output one item for each press, and the text
+/// has two characters at the end.
 #[tactic(auto, using(crate::proofs::LoadSteps::loads_play))]
 pub fn loads_play()
     ensures { LoadsPlay }
 {}
 
-/// The source of a load is read as its program, and nothing of it is refused.
+/// The source of a load is read as its program and is not refused.
 pub fn sources_are_checked()
     ensures { SourcesAreChecked }
 {}
 
-/// The file that it compiles to has a rule for each of the source and a size that the number tells.
+/// The file that it compiles to has a record for each rule of the source, and its size depends only on the number.
 pub fn files_have_sizes()
     ensures { FilesHaveSizes }
 {}
 
-/// The presses come to the same on the compiled tables as on the keyboard.
+/// The presses have the same result on the compiled tables as on the keyboard.
 pub fn files_play()
     ensures { FilesPlay }
 {}

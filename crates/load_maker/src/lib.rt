@@ -1,9 +1,9 @@
-//! The large input of a given size: a keyboard that turns each ideograph into the next one, and a script that types it; and
-//! what it comes to: the laws of its source, its program, its file, its keyboard and its script.
+//! Generates a large input of a given size, a keyboard that converts each ideograph to the next one and a script that types it, and
+//! states the laws of its source, its program, its file, its keyboard and its script.
 //!
-//! It stands on `kmn_base`, and for its laws on the definitions of the language and its checker, of compiled tables and their
-//! file, of `rule_model` and `play_script`. `specs/Loads` defines both texts. The layer above uses `make`, which answers
-//! exactly these, and for the laws calls functions with an empty body, or cites the lemmas in `proofs/`.
+//! Depends on `kmn_base`, and for its laws on the definitions of the language and its checker, of compiled tables and their file, of
+//! `rule_model` and of `play_script`. `specs/Loads` defines both texts. The layer above calls `make`, which returns exactly these
+//! texts. For the laws it calls functions with an empty body, or cites the lemmas in `proofs/`.
 #![tactic(auto)]
 
 mod laws;

@@ -1,15 +1,14 @@
 ghost use Rattle.std.specs.Prelude.{◌≡◌, ◌++◌, ◌+◌, ◌≤◌, ◌↔◌, false, IfOk, string_bytes};
+ghost use Rattle.kmn_base.specs.declared.limits.TheConstants.{LOAD_RULES};
 ghost use Rattle.load_maker.specs.Loads.{is_in_range, hexadecimal, rule_line, load_source, load_script};
 
+use kmn_base::limits::LOAD_RULES;
 use kmn_base::{Memory, Seq, Text};
 use std::alloc::{AllocError, Global};
 use std::fmt::Write;
 use thiserror::Error;
 
-/// The most rules behind the first one.
-pub const RULES: u32 = 2_000;
-
-/// The character that the first rule puts; each rule behind it puts the next one.
+/// The character that the first rule outputs. Each later rule outputs the next character.
 pub const FIRST: u32 = 0x4E00;
 
 /// The source of a keyboard, and a script of key presses for it.
@@ -40,22 +39,24 @@ impl From<Memory> for LoadError {
     }
 }
 
-/// The load of a number, 1 to 2,000: so many rules behind the first one, and a press for each rule. Both texts are our
-/// own choice; with them a run puts one item for each press and the text stays short.
+/// Returns the load of a number from 1 to 2,000: `n` rules after the first one, a press of K_A for each rule, and a press of K_SPACE.
+/// Both texts are our own choice: with them a run outputs one item for each press, and the text stays short.
+///
+/// Errors: `Range` exactly when the number is not 1 to 2,000; `Memory` if an allocation fails.
 pub fn make(alloc: Global, n: u32) -> Result<Load, LoadError>
     ensures range { (result ≡ Err LoadError.Range) ↔ (is_in_range n ≡ false) }
     ensures texts { IfOk result (λ load. (load.source ≡ load_source n) × (load.script ≡ load_script n)) }
 {
-    if n == 0 || n > RULES {
+    if n == 0 || n > LOAD_RULES {
         return Err(LoadError::Range);
     }
     let load = both_texts(alloc, n)?;
     Ok(load)
 }
 
-/// Both texts.
+/// Returns both texts.
 fn both_texts(alloc: Global, n: u32) -> Result<Load, Memory>
-    requires { n ≤ RULES }
+    requires { n ≤ LOAD_RULES }
     ensures { IfOk result (λ load. (load.source ≡ load_source n) × (load.script ≡ load_script n)) }
 {
     let source = source_text(alloc, n)?;
@@ -66,10 +67,10 @@ fn both_texts(alloc: Global, n: u32) -> Result<Load, Memory>
     })
 }
 
-/// The source.
+/// Returns the source of a load.
 #[tactic(auto, using(crate::proofs::Lines::one_rule_more))]
 fn source_text(alloc: Global, n: u32) -> Result<String, AllocError>
-    requires { n ≤ RULES }
+    requires { n ≤ LOAD_RULES }
     ensures { IfOk result (λ text. string_bytes text ≡ load_source n) }
 {
     let mut source = String::new(alloc);
@@ -82,10 +83,10 @@ fn source_text(alloc: Global, n: u32) -> Result<String, AllocError>
     Ok(source)
 }
 
-/// The rule of a number, from 1.
+/// Appends the rule of a number, counted from 1.
 fn put_rule(source: &mut String, i: u32) -> Result<(), AllocError>
     requires at_least { 1 ≤ i }
-    requires at_most { i ≤ RULES }
+    requires at_most { i ≤ LOAD_RULES }
     ensures { IfOk result (λ _. string_bytes source.new ≡ string_bytes source.old ++ rule_line i) }
 {
     source.push_str("U+")?;
@@ -95,17 +96,17 @@ fn put_rule(source: &mut String, i: u32) -> Result<(), AllocError>
     source.push_str("\n")
 }
 
-/// A number in hexadecimal digits.
+/// Appends a number in hexadecimal digits.
 fn put_hexadecimal(text: &mut String, n: u32) -> Result<(), AllocError>
     ensures { IfOk result (λ _. string_bytes text.new ≡ string_bytes text.old ++ hexadecimal n) }
 {
     write!(text, "{n:X}")
 }
 
-/// The script.
+/// Returns the script of a load.
 #[tactic(auto, using(crate::proofs::Lines::one_press_more))]
 fn script_text(alloc: Global, n: u32) -> Result<String, AllocError>
-    requires { n ≤ RULES }
+    requires { n ≤ LOAD_RULES }
     ensures { IfOk result (λ text. string_bytes text ≡ load_script n) }
 {
     let mut script = String::new(alloc);

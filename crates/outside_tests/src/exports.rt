@@ -1,4 +1,4 @@
-//! Runs over a folder and a sink in memory.
+//! Tests runs over a folder and a sink in memory.
 
 use crate::fixtures::one_rule;
 use export_run::export_run;
@@ -8,7 +8,8 @@ use run_tests::commands::words;
 use std::alloc::Global;
 use std::test::Fail;
 
-/// A run of words over a folder that has a file `in`. The calls of folder and sink with these numbers fail, and none for 0.
+/// A run with command-line arguments over a folder that contains a file `in`. The folder call and the sink call with these
+/// numbers fail. If a number is 0, no call fails.
 #[derive(Drop)]
 struct Run<'a> {
     words: &'a str,
@@ -17,7 +18,7 @@ struct Run<'a> {
     sink_call: u32,
 }
 
-/// How it ends: the exit status, what was printed, and the file `out`, empty where there is none.
+/// The end of a run: the exit status, the printed text, and the file `out`, which is empty if there is no such file.
 #[derive(Drop)]
 struct End<'a> {
     status: u8,
@@ -25,7 +26,8 @@ struct End<'a> {
     out: &'a [u8],
 }
 
-/// Its export: three words differ. The checksum was taken by another program, which inverts it at the end.
+/// Returns the export of the file of one rule: three 32-bit fields differ. The checksum was computed by another program,
+/// which inverts it at the end.
 fn exported() -> [u8; 122] {
     let mut file = one_rule();
     file[5] = 0x0F;
@@ -34,7 +36,7 @@ fn exported() -> [u8; 122] {
     file
 }
 
-/// The file whose group has neither a name nor a record, and so no string.
+/// Returns the file whose group has neither a name nor a record, and so has no string.
 fn without_strings() -> [u8; 122] {
     let mut file = one_rule();
     file[64] = 0;
@@ -42,14 +44,14 @@ fn without_strings() -> [u8; 122] {
     file
 }
 
-/// The file whose output is read from the word of the checksum.
+/// Returns the file whose output is read from the checksum field.
 fn entangled() -> [u8; 122] {
     let mut file = one_rule();
     file[100] = 8;
     file
 }
 
-/// Whether a run ends so.
+/// Returns whether a run ends like this and does not change the file `in`.
 fn ends(alloc: Global, run: &Run, end: &End) -> Result<bool, Fail> {
     let words = words(alloc, run.words)?;
     let mut files = Vec::new(alloc);
@@ -70,7 +72,7 @@ fn ends(alloc: Global, run: &Run, end: &End) -> Result<bool, Fail> {
     )
 }
 
-/// Whether `in out` ends so, where nothing fails.
+/// Returns whether a run with the arguments `in out` in which no call fails ends like this.
 fn file_ends(
     alloc: Global,
     file: &[u8],
@@ -95,7 +97,7 @@ fn file_ends(
     )
 }
 
-/// Whether words of a run in which calls fail end so; nothing is printed.
+/// Returns whether a run in which calls fail ends like this and prints no text.
 fn fails(
     alloc: Global,
     words: &str,

@@ -1,4 +1,4 @@
-//! What several tests take: equal bytes, and a file of one rule.
+//! Helpers of several tests: equal bytes, and a file of one rule.
 
 ghost use Rattle.std.specs.Prelude.{◌≡◌, IfOk, replicate};
 
@@ -6,14 +6,14 @@ use compile_tests::fixtures::ONE_RULE;
 use kmn_base::{Memory, Seq};
 use std::alloc::Global;
 
-/// So many equal bytes.
+/// Returns `size` equal bytes.
 pub fn equal_bytes(alloc: Global, byte: u8, size: usize) -> Result<Seq<u8>, Memory>
     ensures { IfOk result (λ bytes. bytes ≡ replicate size byte) }
 {
     Ok(Seq::from_vec(vec![in alloc; byte; size]?))
 }
 
-/// The file of one rule, of version 17.0.
+/// Returns the file of one rule with the version 17.0.
 pub fn one_rule() -> [u8; 122] {
     let mut file = ONE_RULE;
     file[5] = 0x11;

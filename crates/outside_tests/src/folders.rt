@@ -1,15 +1,18 @@
-//! A run of calls over the folder and the sink in memory, and one over real files.
+//! Tests calls over the folder and the sink in memory, and over real files.
 
 use kmn_base::Seq;
 use kmn_outside::{DiskFolder, Folder, MemoryFolder, MemorySink, Sink, StreamSink};
 use std::alloc::Global;
-use std::fs;
+use std::fs::{self, File};
+use std::io::Read;
+use std::os::unix::fs::symlink;
+use std::rt::Files;
 use std::test::Fail;
 
-/// A read: the name, the limit, and what it comes to as text, which are the bytes or the words of the error.
+/// A read: the name, the limit, and the expected result as text, which is the bytes or the error message.
 type ReadRow = (&'static [u8], usize, &'static str);
 
-/// Whether a read comes to what it should.
+/// Returns whether a read has the expected result.
 fn is_read<F: Folder>(alloc: Global, folder: &mut F, row: ReadRow) -> Result<bool, Fail> {
     let (name, limit, want) = row;
     Ok(match folder.read(alloc, name, limit) {
@@ -18,7 +21,7 @@ fn is_read<F: Folder>(alloc: Global, folder: &mut F, row: ReadRow) -> Result<boo
     })
 }
 
-/// Whether a write of `12345` comes to `written` or the words of the error.
+/// Returns whether a write of `12345` has the expected result: `written` or the error message.
 fn is_written<F: Folder>(
     alloc: Global,
     folder: &mut F,
@@ -31,12 +34,12 @@ fn is_written<F: Folder>(
     })
 }
 
-/// Whether a sink takes two bytes whole.
+/// Returns whether a sink accepts two bytes in one call.
 fn takes_two<S: Sink>(sink: &mut S) -> bool {
     sink.put(b"ab") == Ok(2)
 }
 
-/// A folder with the files `a` of two bytes and `ab` of none, whose third call fails.
+/// Returns a folder with the file `a` of two bytes and the empty file `ab`. Its third call fails.
 fn small_folder(alloc: Global) -> Result<MemoryFolder, Fail> {
     let mut files = Vec::new(alloc);
     files.push((Seq::from_slice(alloc, b"ab")?, Seq::new(alloc)))?;
@@ -64,7 +67,7 @@ const READS_ON_DISK: &[ReadRow] = &[
     (b"disk.tmp\0", 9, "the file can't be read"),
 ];
 
-/// What the first read that comes to something else was to come to.
+/// Returns the expected result of the first read with a different one.
 fn wrong_read<F: Folder>(
     alloc: Global,
     folder: &mut F,
@@ -78,7 +81,7 @@ fn wrong_read<F: Folder>(
     Ok(None)
 }
 
-/// What is wrong with the folder in memory.
+/// Returns the expected result of the first wrong call of the folder in memory.
 fn wrong_in_memory(alloc: Global) -> Result<Option<&'static str>, Fail> {
     let mut folder = small_folder(alloc)?;
     let wrong = wrong_read(alloc, &mut folder, READS_IN_MEMORY)?;
@@ -86,7 +89,7 @@ fn wrong_in_memory(alloc: Global) -> Result<Option<&'static str>, Fail> {
     Ok(if is_written { wrong } else { Some("written") })
 }
 
-/// Whether the sink in memory takes two bytes whole.
+/// Returns whether the sink in memory accepts two bytes in one call.
 fn memory_takes_two(alloc: Global) -> bool {
     takes_two(&mut MemorySink::new(alloc, Seq::new(alloc)))
 }
@@ -99,7 +102,7 @@ fn calls_in_memory(rt: HostRuntime) -> Result<(), Fail> {
     Ok(())
 }
 
-/// Whether a file is written, and none into a folder that isn't there.
+/// Returns whether a file is written, and a write into a folder that does not exist fails.
 fn are_written<F: Folder>(alloc: Global, folder: &mut F) -> Result<bool, Fail> {
     let unwritten = "the bytes can't be written";
     Ok(
@@ -116,5 +119,48 @@ fn real_files(rt: HostRuntime) -> Result<(), Fail> {
     assert!(rt; wrong.is_none(), "{}", wrong.unwrap_or(""));
     assert!(rt; takes_two(&mut StreamSink::new(fs::create(&rt, "disk.tmp")?)));
     fs::remove_file(&rt, "disk.tmp")?;
+    Ok(())
+}
+
+/// Returns whether a file has these bytes.
+fn has_bytes<R: Files>(runtime: &R, alloc: Global, name: &str, want: &[u8]) -> Result<bool, Fail> {
+    let mut bytes = Vec::new(alloc);
+    File::open(runtime, name)?.read_to_end(&mut bytes)?;
+    Ok(bytes.as_slice() == want)
+}
+
+/// Returns whether a reader that opened a file still reads its old bytes after the folder writes new bytes under that name, and
+/// the file then has the new bytes.
+fn is_replaced<R: Files>(
+    runtime: &R,
+    alloc: Global,
+    written: &str,
+    name: &str,
+) -> Result<bool, Fail> {
+    fs::write(runtime, name, b"old")?;
+    let mut opened = File::open(runtime, name)?;
+    let is_done = DiskFolder::new(runtime)
+        .write(alloc, written.as_bytes(), b"newer")
+        .is_ok();
+    let mut bytes = Vec::new(alloc);
+    opened.read_to_end(&mut bytes)?;
+    Ok(
+        is_done
+            && bytes.as_slice() == b"old".as_slice()
+            && has_bytes(runtime, alloc, name, b"newer")?,
+    )
+}
+
+/// A file is replaced in one step, also through a link, which remains a link, and no temporary file remains next to it.
+#[test]
+fn files_are_replaced(rt: HostRuntime) -> Result<(), Fail> {
+    let alloc = rt.alloc();
+    assert!(rt; is_replaced(&rt, alloc, "whole.tmp", "whole.tmp")?);
+    symlink(&rt, "whole.tmp", "link.tmp")?;
+    assert!(rt; is_replaced(&rt, alloc, "link.tmp", "whole.tmp")?);
+    assert!(rt; fs::symlink_metadata(&rt, "link.tmp")?.is_symlink());
+    assert!(rt; !fs::exists(&rt, ".keyman-0.new")?);
+    fs::remove_file(&rt, "link.tmp")?;
+    fs::remove_file(&rt, "whole.tmp")?;
     Ok(())
 }

@@ -1,5 +1,5 @@
-//! Runs in which a call of the folder or the sink fails, lines that the sink gets as one piece, and files of the greatest size
-//! and of one byte more.
+//! Tests runs in which a call of the folder or the sink fails, lines that the sink receives as one piece, and files of the
+//! maximum size and of one byte more.
 
 use crate::fixtures::equal_bytes;
 use compile_tests::fixtures::ONE_RULE;
@@ -10,9 +10,9 @@ use run_tests::commands::{empty_folder, ended, folder, sink, written_out};
 use std::alloc::Global;
 use std::test::Fail;
 
-/// The first run with a fault: what can't be read or written, by the numbers from 1 of the folder's and of the sink's call that
-/// fail, 0 for none; how it ends, what is printed, and how many bytes of the file stand in `out`, None where it isn't there. The
-/// texts of this table and of those below have the signs that `written_out` reads.
+/// The first run with failing calls: what can't be read or written; the numbers, from 1, of the folder call and of the sink
+/// call that fail, 0 if none fails; the exit status; the printed text; and the number of bytes of the file in `out`, `None` if
+/// there is no such file. The texts of this table and of the tables below contain the symbols that `written_out` expands.
 const FAULTS: &[(&str, (u32, u32), Status, &str, Option<usize>)] = &[
     ("the source", (1, 0), Status::ReadFault, "", None),
     ("the script", (2, 0), Status::ReadFault, "", None),
@@ -27,7 +27,7 @@ const FAULTS: &[(&str, (u32, u32), Status, &str, Option<usize>)] = &[
     ),
 ];
 
-/// A source and a script, and the lines of the play of each kind but a refusal's.
+/// A source and a script, and the lines of their play, which are of each kind except a refusal.
 const EACH_KIND: (&str, &str) = (
     "store(o) \"0\"¶@+ 'a' > 'y'¶+ 's' > set(o = \"1\") save(o)¶",
     "[K_A] [K_S]¶expect 'z'¶caret 0¶",
@@ -44,7 +44,7 @@ const LINES: &[&str] = &[
     "end events=3 failed=1¶",
 ];
 
-/// A command on a file `a` of so many equal bytes, and the line that refuses it.
+/// A command on a file `a`, the byte that fills the file, the size of the file in bytes, and the line that refuses it.
 const SIZES: &[(&str, u8, usize, &str)] = &[
     ("compile a out", b' ', 4_194_304, "refused C01 line 1¶"),
     ("compile a out", b' ', 4_194_305, "refused L05 line 1¶"),
@@ -52,7 +52,7 @@ const SIZES: &[(&str, u8, usize, &str)] = &[
     ("verify a", 0, 67_108_865, "refused V15 at 0¶"),
 ];
 
-/// How a run ends, what it prints, and what then stands in `out`.
+/// The end of a run: the exit status, the printed text, and the content of `out` afterwards.
 #[derive(Clone, Copy)]
 struct Ending<'a> {
     status: Status,
@@ -60,7 +60,7 @@ struct Ending<'a> {
     out: Option<&'a [u8]>,
 }
 
-/// Whether the words of a line end so.
+/// Returns whether the command in a line ends like this.
 fn ends_so(
     alloc: Global,
     line: &str,
@@ -77,7 +77,7 @@ fn ends_so(
     )
 }
 
-/// Whether the first run ends so where these calls fail.
+/// Returns whether the first run ends like this if these calls fail.
 fn is_fault(alloc: Global, calls: (u32, u32), wanted: Ending) -> Result<bool, Fail> {
     let mut sink = sink(alloc, calls.1)?;
     let mut folder = folder(alloc, "@+ 'a' > 'b'¶", b"", "[K_A]¶", calls.0)?;
@@ -90,7 +90,7 @@ fn is_fault(alloc: Global, calls: (u32, u32), wanted: Ending) -> Result<bool, Fa
     )
 }
 
-/// What fails in the first row of `FAULTS` that isn't right.
+/// Returns what fails in the first row of `FAULTS` that isn't right.
 fn wrong_fault(alloc: Global) -> Result<Option<&'static str>, Fail> {
     for &(what, calls, status, printed, size) in FAULTS {
         let out = match size {
@@ -109,7 +109,7 @@ fn wrong_fault(alloc: Global) -> Result<Option<&'static str>, Fail> {
     Ok(None)
 }
 
-/// Whether just this is printed of that play where the sink's call of a number fails, 0 for none.
+/// Returns whether that play prints exactly this text if the sink call with this number fails. No call fails for 0.
 fn is_begun(alloc: Global, failing: u32, printed: &str) -> Result<bool, Fail> {
     let printed = written_out(alloc, printed)?;
     let (source, script) = EACH_KIND;
@@ -119,7 +119,7 @@ fn is_begun(alloc: Global, failing: u32, printed: &str) -> Result<bool, Fail> {
     Ok(sink.written() == printed.as_bytes())
 }
 
-/// The first of its lines that the sink doesn't get as one piece, behind those before it.
+/// Returns the first line of that play that the sink does not receive as one piece, after the lines before it.
 fn broken_line(alloc: Global) -> Result<Option<&'static str>, Fail> {
     let mut lines = String::new(alloc);
     for (number, line) in (1..).zip(LINES) {
@@ -132,14 +132,14 @@ fn broken_line(alloc: Global) -> Result<Option<&'static str>, Fail> {
     Ok(if whole { None } else { Some("") })
 }
 
-/// A folder with a file `a` of these bytes.
+/// Returns a folder with a file `a` of these bytes.
 fn folder_of_one(alloc: Global, bytes: Seq<u8>) -> Result<MemoryFolder, Memory> {
     let name = Seq::from_slice(alloc, b"a")?;
     let files = vec![in alloc; (name, bytes)]?;
     Ok(MemoryFolder::new(alloc, Seq::from_vec(files), Seq::new(alloc)))
 }
 
-/// Whether a command is refused with this line, and nothing is written.
+/// Returns whether a command is refused with this line and does not write a file `out`.
 fn is_refused(
     alloc: Global,
     command: &str,
@@ -155,7 +155,7 @@ fn is_refused(
     ends_so(alloc, command, folder, &mut sink, wanted)
 }
 
-/// Whether a command on a file `a` of so many equal bytes is refused so.
+/// Returns whether a command on a file `a` of `size` equal bytes is refused with this line.
 fn is_size_refused(
     alloc: Global,
     command: &str,
@@ -168,7 +168,7 @@ fn is_size_refused(
     is_refused(alloc, command, &mut folder, line)
 }
 
-/// The line of the first row of `SIZES` that isn't right.
+/// Returns the line of the first row of `SIZES` that isn't right.
 fn wrong_size(alloc: Global) -> Result<Option<&'static str>, Fail> {
     for &(command, byte, size, line) in SIZES {
         if !is_size_refused(alloc, command, byte, size, line)? {
@@ -199,7 +199,7 @@ fn sizes(rt: HostRuntime) -> Result<(), Fail> {
     Ok(())
 }
 
-/// Writes a source `a.kmn` with a picture that passes its limit by one byte.
+/// Writes a source `a.kmn` whose bitmap (the icon file of the keyboard) is one byte longer than its limit.
 fn write_long_picture(alloc: Global, folder: &mut MemoryFolder) -> Result<(), Fail> {
     let source = written_out(alloc, "store(&bitmap) 'p.ico'¶@+ 'a' > 'b'¶")?;
     folder.write(alloc, b"a.kmn", source.as_bytes())?;
@@ -208,7 +208,7 @@ fn write_long_picture(alloc: Global, folder: &mut MemoryFolder) -> Result<(), Fa
     Ok(())
 }
 
-/// Whether such a picture is refused, and nothing written.
+/// Returns whether such a bitmap is refused and no file `out` is written.
 fn is_long_picture_refused(alloc: Global) -> Result<bool, Fail> {
     let mut folder = empty_folder(alloc, 0, 0)?;
     write_long_picture(alloc, &mut folder)?;

@@ -1,4 +1,4 @@
-//! Keyboards exported: what is printed of where another engine does something else, and where an event may save twice.
+//! Tests the printed lines of an export: where another engine behaves differently, and where an event may save twice.
 
 use crate::sources::file;
 use export_run::export_run;
@@ -9,8 +9,8 @@ use source_tests::fixtures::parted;
 use std::alloc::Global;
 use std::test::Fail;
 
-/// On each line a source, as `file` reads it, and, behind ` ⇒ `, what is printed behind the size, its lines parted by commas.
-/// `refused` stands alone.
+/// Each line contains a source, as `file` reads it, and after ` ⇒ ` the lines printed after the size, separated by commas. A
+/// `refused` line is the only printed line.
 const CASES: &str = "\
 H¶+ 'a' > 'b' ⇒ 
 H¶+ 'a' > use(g)¶match > use(g) 'b'¶group(g) ⇒ differs 3 match
@@ -40,7 +40,7 @@ store(o) '1'¶H¶+ 'a' > use(main)¶+ 'b' > save(o) ⇒
 store(o) '1'¶H¶+ 'a' > use(main) use(main)¶+ 'b' > save(o) ⇒ refused K01 line 4
 store(o) '1'¶H¶+ 'a' > use(g)¶group(g)¶'b' > use(h)¶group(h)¶'c' > save(o) reset(o) use(h) ⇒ refused K01 line 8";
 
-/// What a run of `in out` over a folder with that file prints.
+/// Returns the text that a run with the arguments `in out` prints over a folder in which `in` is that file.
 fn printed(alloc: Global, file: Seq<u8>) -> Result<Seq<u8>, Fail> {
     let words = words(alloc, "in out")?;
     let mut files = Vec::new(alloc);
@@ -51,7 +51,7 @@ fn printed(alloc: Global, file: Seq<u8>) -> Result<Seq<u8>, Fail> {
     Ok(Seq::from_slice(alloc, sink.written())?)
 }
 
-/// Whether a line of what is printed stands as it is wanted: the size is let go.
+/// Returns whether the printed lines are the expected ones, without the line with the size.
 fn is_printed(printed: &str, wanted: &str) -> bool {
     let behind_size = match printed.split_once("\n") {
         Some((first, rest)) if first.starts_with("exported bytes=") => rest,
@@ -66,7 +66,7 @@ fn is_printed(printed: &str, wanted: &str) -> bool {
     lines.next().is_none()
 }
 
-/// The first source of which something else is printed.
+/// Returns the first source with different printed lines.
 fn wrong_case(alloc: Global) -> Result<Option<&'static str>, Fail> {
     for case in CASES.lines() {
         let (source, wanted) = parted(case)?;

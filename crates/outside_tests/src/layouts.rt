@@ -1,4 +1,4 @@
-//! Touch layouts, each with the count of its keys or the first rule that it breaks.
+//! Tests touch layouts: the number of their keys or the first rule that they break.
 
 use kmn_compiler::compile;
 use rule_model::Tables;
@@ -8,10 +8,10 @@ use std::fmt::Write;
 use std::test::Fail;
 use touch_layout::check_layout;
 
-/// On each line a layout and, behind ` ⇒ `, the count of its keys or the rule that it breaks. In a layout `⌖` is U+FEFF, `‹`
-/// begins a platform whose first layer is `a`, up to its rows, `«` and `»` enclose the keys of the one row of a tablet's layer
-/// `a`, and `①` to `④` are the parts of a layout of two layers, between which its own key, the layer that shift leads to and
-/// the second layer's id stand.
+/// Each line contains a layout and, after ` ⇒ `, the number of its keys or the rule that it breaks. In a layout, `⌖` is U+FEFF,
+/// `‹` begins a platform whose first layer is `a`, up to its rows, `«` and `»` enclose the keys of the only row of layer `a` of
+/// a tablet, and `①` to `④` are the parts of a layout of two layers. Between these parts are its custom key, the layer that
+/// shift leads to, and the id of the second layer.
 const LAYOUTS: &str = r##" ⇒ refused T1 platform 0 layer 0 row 0 key 0
 ⌖{} ⇒ keys 0
 [] ⇒ refused T2 platform 0 layer 0 row 0 key 0
@@ -41,7 +41,7 @@ const LAYOUTS: &str = r##" ⇒ refused T1 platform 0 layer 0 row 0 key 0
 /// A keyboard with a rule for the key T_flip.
 const FLIP: &[u8] = b"begin Unicode > use(main)\ngroup(main) using keys\n+ [T_flip] > 'x'\n";
 
-/// The text that a sign of a layout stands for.
+/// Returns the text that a symbol of a layout stands for.
 fn text_of(sign: char) -> Option<&'static str> {
     match sign {
         '⌖' => Some("\u{FEFF}"),
@@ -60,7 +60,7 @@ fn text_of(sign: char) -> Option<&'static str> {
     }
 }
 
-/// A layout with its signs written out.
+/// Returns a layout with its symbols expanded.
 fn layout_of(alloc: Global, text: &str) -> Result<String, AllocError> {
     let mut layout = String::new(alloc);
     for c in text.chars() {
@@ -72,7 +72,7 @@ fn layout_of(alloc: Global, text: &str) -> Result<String, AllocError> {
     Ok(layout)
 }
 
-/// The count of the keys of a layout, or the rule that it breaks.
+/// Returns the number of keys of a layout, or the rule that it breaks.
 fn answered(alloc: Global, text: &[u8], tables: &Tables) -> Result<String, AllocError> {
     match check_layout(alloc, text, tables) {
         Ok(count) => format!(in alloc; "keys {count}"),
@@ -80,14 +80,14 @@ fn answered(alloc: Global, text: &[u8], tables: &Tables) -> Result<String, Alloc
     }
 }
 
-/// Whether the check of a row's layout answers as the row has it.
+/// Returns whether the check of the layout of a row has the result in the row.
 fn is_right(alloc: Global, tables: &Tables, row: &str) -> Result<bool, Fail> {
     let (text, wanted) = parted(row)?;
     let layout = layout_of(alloc, text)?;
     Ok(answered(alloc, layout.as_bytes(), tables)?.as_str() == wanted)
 }
 
-/// The first row that isn't right.
+/// Returns the first row that isn't right.
 fn wrong_row(alloc: Global, tables: &Tables) -> Result<Option<&'static str>, Fail> {
     for row in LAYOUTS.lines() {
         if !is_right(alloc, tables, row)? {
@@ -97,14 +97,14 @@ fn wrong_row(alloc: Global, tables: &Tables) -> Result<Option<&'static str>, Fai
     Ok(None)
 }
 
-/// Whether a layout that passes its limit by one byte is refused.
+/// Returns whether a layout that is one byte longer than its limit is refused.
 fn is_long_layout_refused(alloc: Global, tables: &Tables) -> Result<bool, Fail> {
     let long = vec![in alloc; b' '; 4_194_305]?;
     let answer = answered(alloc, long.as_slice(), tables)?;
     Ok(answer.as_str() == "refused T7 platform 0 layer 0 row 0 key 0")
 }
 
-/// The first layout that isn't right.
+/// Returns the first layout that isn't right.
 fn wrong_layout(alloc: Global) -> Result<Option<&'static str>, Fail> {
     let tables = compile(alloc, FLIP, &[])?.tables;
     if !is_long_layout_refused(alloc, &tables)? {

@@ -1,10 +1,11 @@
-//! The tests of what a run takes from outside: `folders` has calls of `kmn_outside`, `layouts` the touch layouts of `touch_layout`,
-//! `loads` the loads of `load_maker`, and `hostile` runs of `keyman_run` in which a call fails or that meet files of full size; and
-//! of `export_run`: `exports` has runs over a folder and a sink in memory, and `keyboards` what is printed of small sources.
+//! Tests the external input of a run: `folders` tests calls of `kmn_outside`, `layouts` the touch layouts of `touch_layout`,
+//! `loads` the loads of `load_maker`, and `hostile` runs of `keyman_run` in which a call fails or a file has the maximum size.
+//! For `export_run`, `exports` tests runs over a folder and a sink in memory, and `keyboards` the printed lines for small
+//! sources.
 //!
-//! They stand here because a crate with tests is proved twice, once with them and once without: so each of those crates is
-//! proved once, and the tests are proved over them, beside those of `run_tests`, by whose `commands` they run. `fixtures` has
-//! the bytes of large files and the file of one rule, and `sources` the files of small sources. No layer stands above.
+//! A crate with tests is proved twice, once with them and once without. The tests are in this crate so that each tested crate
+//! is proved only once. Depends on the tested crates, and on `run_tests`, whose `commands` runs commands. `fixtures` creates
+//! the bytes of large files and the file of one rule, and `sources` compiles small sources. No crate depends on this one.
 #![tactic(auto)]
 
 #[cfg(test)]

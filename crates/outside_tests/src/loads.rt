@@ -1,4 +1,4 @@
-//! Loads, and the numbers that have none.
+//! Tests loads (generated keyboards with scripts), and the numbers that have no load.
 
 use load_maker::{LoadError, make};
 use std::alloc::{AllocError, Global};
@@ -10,8 +10,8 @@ const SOURCE: &str =
 
 const SCRIPT: &str = "[K_A]\n[K_A]\n[K_SPACE]\n";
 
-/// Numbers, and the bytes of the source and of the script where there is a load: 66 of the first lines and 24 of each
-/// rule, 6 of each press of K_A and 10 of the last line.
+/// Numbers, and the sizes of the source and of the script in bytes, if the number has a load: 66 for the first lines and 24 for
+/// each rule, 6 for each press of K_A and 10 for the last line.
 const SIZES: &[(u32, Option<(usize, usize)>)] = &[
     (0, None),
     (1, Some((90, 22))),
@@ -21,13 +21,13 @@ const SIZES: &[(u32, Option<(usize, usize)>)] = &[
     (4_294_967_295, None),
 ];
 
-/// Whether the load of 1 is its source and script.
+/// Returns whether the load of 1 has this source and this script.
 fn is_made(alloc: Global) -> Result<bool, Fail> {
     let load = make(alloc, 1)?;
     Ok(load.source.as_slice() == SOURCE.as_bytes() && load.script.as_slice() == SCRIPT.as_bytes())
 }
 
-/// Whether the load of a number has its sizes, or is refused.
+/// Returns whether the load of a number has its sizes, or is refused.
 fn has_sizes(alloc: Global, n: u32, sizes: Option<(usize, usize)>) -> bool {
     match make(alloc, n) {
         Ok(load) => sizes == Some((load.source.len(), load.script.len())),
@@ -44,13 +44,13 @@ fn loads(rt: HostRuntime) -> Result<(), Fail> {
     Ok(())
 }
 
-/// Errors, and how they are printed.
+/// Errors and their printed texts.
 const PRINTED: &[(LoadError, &str)] = &[
     (LoadError::Range, "refused G1"),
     (LoadError::Memory, "out of memory"),
 ];
 
-/// Whether an error is printed so.
+/// Returns whether an error has this printed text.
 fn is_printed(alloc: Global, error: &LoadError, wanted: &str) -> Result<bool, AllocError> {
     Ok(format!(in alloc; "{error}")?.as_str() == wanted)
 }

@@ -1,4 +1,4 @@
-//! The files of small sources.
+//! Compiles small sources.
 
 use kmn_base::{CompileError, Memory, Seq};
 use kmn_compiler::compile;
@@ -7,14 +7,14 @@ use std::alloc::Global;
 /// The lines that `H` stands for.
 const HEAD: &str = "begin Unicode > use(main)\ngroup(main) using keys\n";
 
-/// What a word that stands for so many items has in their place.
+/// Words that stand for a number of copies, each with the item that is copied.
 const MANY: [(&str, &str); 3] = [
     ("dk*", "dk(1) "),
     ("U+10000*", "U+10000 "),
     ("any*", "any(v) "),
 ];
 
-/// Puts so many copies of an item.
+/// Appends `count` copies of an item.
 fn put_copies(text: &mut String, item: &str, count: u32) -> Result<(), Memory> {
     for _ in 0..count {
         text.push_str(item)?;
@@ -22,7 +22,8 @@ fn put_copies(text: &mut String, item: &str, count: u32) -> Result<(), Memory> {
     Ok(())
 }
 
-/// Puts a word, with a blank behind it: `dk*21` are 21 deadkeys, `U+10000*21` so many of that character, `any*21` so many `any`.
+/// Appends a word and a space: `dk*21` stands for 21 deadkeys, `U+10000*21` for that character 21 times, and `any*21` for 21
+/// `any`.
 fn put_word(text: &mut String, word: &str) -> Result<(), Memory> {
     for &(front, item) in &MANY {
         let count = word
@@ -39,7 +40,7 @@ fn put_word(text: &mut String, word: &str) -> Result<(), Memory> {
     Ok(())
 }
 
-/// Puts a line: `H` stands for the start statement and the group.
+/// Appends a line. `H` stands for the start statement and the group.
 fn put_line(text: &mut String, line: &str) -> Result<(), Memory> {
     if line == "H" {
         text.push_str(HEAD)?;
@@ -52,7 +53,7 @@ fn put_line(text: &mut String, line: &str) -> Result<(), Memory> {
     Ok(())
 }
 
-/// A source of lines that `¶` parts.
+/// Returns a source with these lines, which `¶` separates.
 fn source(alloc: Global, lines: &str) -> Result<String, Memory> {
     let mut text = String::new(alloc);
     for line in lines.split("¶") {
@@ -61,7 +62,7 @@ fn source(alloc: Global, lines: &str) -> Result<String, Memory> {
     Ok(text)
 }
 
-/// The file that such a source compiles to.
+/// Returns the compiled keyboard of such a source.
 pub fn file(alloc: Global, lines: &str) -> Result<Seq<u8>, CompileError> {
     let text = source(alloc, lines)?;
     Ok(compile(alloc, text.as_bytes(), &[])?.bytes)

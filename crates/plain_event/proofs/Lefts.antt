@@ -1,9 +1,9 @@
--- Items that are taken one by one from the end of a list.
+-- Items that are removed one by one from the end of a list.
 use Rattle.std.proofs.Common.{◌≡◌, ◌+◌, ◌<◌, ◌≤◌, ℕ, List, [], ◌∷◌, ◌++◌, length, take, Option, Some, None, ap, sym, ◌∙◌, arith, length-append}
 use Rattle.std.specs.Prelude.{MatchOption}
 use Rattle.std.proofs.lemmas.List.{take-append-le}
 
--- where more items stand than are kept, those that are kept stand when one was taken
+-- if a list has more items than are kept, removing the last item does not change the kept items
 pub kept_when_taken : {X : Type 0} (kept : ℕ) (old new : List X) (last : Option X)
     → MatchOption last ((old ≡ []) × (new ≡ [])) (λ item. old ≡ new ++ item ∷ []) → kept < length old → (kept ≤ length new) × (take kept new ≡ take kept old)
 kept_when_taken kept old new None taken more =

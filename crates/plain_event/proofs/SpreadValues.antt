@@ -1,4 +1,4 @@
--- The values of options, picked from those of all stores and spread among them.
+-- The values of options, picked from the values of all stores and spread among them.
 use Rattle.std.proofs.Common.{◌≡◌, ℕ, suc, ◌+◌, ◌<◌, ◌≤◌, min, inl, inr, Bool, true, false, List, [], ◌∷◌, length, drop, Option, Some, None, refl, sym, ap, ◌∙◌, arith}
 use Rattle.std.proofs.lemmas.List.{drop_all, drop_more}
 use Rattle.std.proofs.lemmas.Option.{unwrap_or-slice_get}
@@ -17,7 +17,7 @@ nothing_spread : {X : Type 0} (numbers : List (Option ℕ)) (options : List X) �
 nothing_spread [] options = refl
 nothing_spread (n ∷ ns) options = refl
 
--- where the numbers or the values end, nothing more is picked or spread
+-- if the numbers or the values end, no more values are picked or spread
 module _ {X : Type 0} (numbers : List (Option ℕ)) (values : List X) (n : ℕ) (ended : min (length numbers) (length values) ≤ n) where
   pub picked_ended : picked (drop n numbers) (drop n values) ≡ []
   picked_ended = elim (either_ended (length numbers) (length values) n ended) [
@@ -31,7 +31,7 @@ module _ {X : Type 0} (numbers : List (Option ℕ)) (values : List X) (n : ℕ) 
     | inr e ↦ ap (λ l. spread (drop n numbers) l options) (drop_all n values e) ∙ nothing_spread (drop n numbers) options
   ]
 
--- the values that have an option number are those of the options
+-- the values that have an option number are the values of the options
 pub picked_options : {X : Type 0} (k : ℕ) (stores : List StoreMeaning) (values : List X) → picked (option_numbers k stores) values ≡ of_options stores values
 picked_options k [] values = refl
 picked_options {X} k (s ∷ ss) [] =
@@ -43,7 +43,7 @@ picked_options k (s ∷ ss) (v ∷ vs) =
     ]
 
 module _ {X : Type 0} where
-  -- one value of an option, and the others behind it
+  -- the options from one on are its value, followed by the options after it
   first_option : (k : ℕ) (options rest : List X) (v : X) (count : ℕ) → length options ≡ k + suc count → rest ≡ drop (k + 1) options → unwrap_or (slice_get options k) v ∷ rest ≡ drop k options
   first_option k options rest v count e r =
       let within : k < length options = omega arith in
@@ -68,7 +68,7 @@ module _ {X : Type 0} where
   spread_from k (s ∷ ss) (v ∷ vs) options e =
       spread_store k s.name s.elements s.is_option s.is_system ss v vs options (λ m h. spread_from m ss vs options h) e
 
-  -- the options of what was spread are what was spread, where each option has a value
+  -- if each option has a value, the options among spread values have the values that were spread
   pub spread_options : (stores : List StoreMeaning) (values options : List X) → length options ≡ length (of_options stores values) → of_options stores (spread (option_numbers 0 stores) values options) ≡ options
   spread_options stores values options e = spread_from 0 stores values options (omega arith)
 
@@ -79,7 +79,7 @@ module _ {X : Type 0} where
   others_store k name elements true is_system ss v vs options rest = rest (k + 1)
   others_store k name elements false is_system ss v vs options rest = ap (λ r. v ∷ r) (rest k)
 
-  -- the other stores keep their values
+  -- spreading does not change the values of the other stores
   pub spread_others : (k : ℕ) (stores : List StoreMeaning) (values options : List X) → of_others stores (spread (option_numbers k stores) values options) ≡ of_others stores values
   spread_others k [] values options = refl
   spread_others k (s ∷ ss) [] options =

@@ -23,7 +23,7 @@ count_of_numbers : (tables : Tables) → length (option_numbers 0 (tab tables).s
 unfolding tab
 count_of_numbers tables = length-all_options (tab_options tables) tables.stores
 
--- what an event begins with
+-- the state with which an event begins
 abbrev begun : Tables → PlainState → EventState
 begun tables state = begin_event state.left (of_options (tab tables).stores state.current) (of_options (tab tables).stores state.saved)
 
@@ -47,7 +47,7 @@ module _ (tables : Tables) (state : PlainState) (is : IsStateOf tables state) (s
     count = length-spread (option_numbers 0 (tab tables).stores) state.saved s.saved (is.saved ∙ sym (count_of_numbers tables));
   }
 
--- a step along with what it is equal to
+-- if values keep the others, so do all values that are equal to them
 keeps_along : {X : Type 0} (stores : List StoreMeaning) (old new other : List X) → other ≡ new → KeepsOthers stores old new → KeepsOthers stores old other
 keeps_along stores old new other e k = record { others = ap (of_others stores) e ∙ k.others; count = ap length e ∙ k.count }
 
@@ -65,7 +65,7 @@ module _ (tables : Tables) (state : PlainState) (is : IsStateOf tables state) (p
   outcome_seen : outcome ≡ outcome_of state.left s
   outcome_seen = outcome_is ∙ ap (λ l. outcome_of l s) old_is
 
-  -- a press that was not passed on
+  -- if a key press was not passed on, the state after it is the result of the key event
   pub key_done : (after : PlainState) → after ≡ acted tables s outcome state → s.pass ≡ false → IsMadeBy tables state (key_event (tab tables) press (state_of tables state)) after
   key_done after is_acted pass =
       subst (λ h. IsMadeBy tables state h after) happens (record {
@@ -75,7 +75,7 @@ module _ (tables : Tables) (state : PlainState) (is : IsStateOf tables state) (p
         saved = keeps_along _ _ _ _ (ap (λ (p : PlainState). p.saved) is_acted) (acted_saved tables state is s counts outcome);
       })
 
-  -- a press that was passed on
+  -- if a key press was passed on and the editor handled it, the state after it is the result of the key event
   pub key_passed : (before after : PlainState) → before ≡ acted tables s outcome state → s.pass ≡ true → state_of tables after ≡ by_editor press (state_of tables before)
       → after ≡ record before { left = after.left; right = after.right } → IsMadeBy tables state (key_event (tab tables) press (state_of tables state)) after
   key_passed before after is_acted pass edits others =
@@ -96,7 +96,7 @@ given_means : (tables : Tables) (state : PlainState) (option : Option ℕ) (valu
 given_means tables state None value = refl
 given_means tables state (Some option) value = refl
 
--- an option is given a value by its name
+-- if an option is set by its name, the state after it is the result of the option change
 pub option_given : (tables : Tables) (state : PlainState) (is : IsStateOf tables state) (name value : List ℕ) (option : Option ℕ) (s0 s : EventState) (outcome : Outcome) (after : PlainState)
     → s0 ≡ begun tables state → option ≡ position (has_name name) (option_names (tab tables).stores) → s ≡ given option (map element.Char value) s0 → outcome ≡ no_outcome → after ≡ acted tables s outcome state
     → IsMadeBy tables state (only_state (setting_event name value (state_of tables state))) after

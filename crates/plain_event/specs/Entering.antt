@@ -1,4 +1,4 @@
--- What an entering has: a press on tables.
+-- The parts of an entering: a key press on tables.
 use Rattle.std.specs.Prelude.{List}
 use Rattle.rule_model.specs.declared.event_state.EventState.{EventState}
 use Rattle.plain_event.specs.declared.entering.Entering.{Entering}
@@ -8,18 +8,18 @@ use Rattle.rule_model.specs.Enter.{enter_group}
 use Rattle.rule_model.specs.Tab.{tab}
 use Rattle.rule_model.specs.ChosenLines.{Adding, add_lines}
 
--- its keyboard
+-- the keyboard of an entering
 abbrev pub keyboard_of : Entering → Keyboard
 keyboard_of entering = tab entering.indexed.now
 
--- its stores
+-- the stores of an entering
 abbrev pub stores_of : Entering → List Store
 stores_of entering = entering.indexed.now.stores
 
--- how it enters a group
+-- how an entering enters a group
 abbrev pub enters : Entering → Ref → EventState → EventState
 enters entering = enter_group entering.depth (keyboard_of entering) entering.press
 
--- which lines it adds where it enters a group
+-- which lines an entering adds when it enters a group
 abbrev pub adds : Entering → Adding
 adds entering = add_lines entering.depth (keyboard_of entering) entering.press

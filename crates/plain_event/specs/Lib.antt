@@ -1,4 +1,2 @@
 pub mod Entering
 pub mod PlainStates
-pub mod Coverage
-pub mod Laws

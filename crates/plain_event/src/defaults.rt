@@ -1,7 +1,7 @@
 ghost use Rattle.std.specs.Prelude.{◌≡◌, ◌<◌, OnOk, length, map, nat_lt};
 ghost use Rattle.kmn_base.specs.Lists.{characters};
-ghost use Rattle.rule_model.specs.Dictionary.{name_chars};
-ghost use Rattle.rule_model.specs.Fits.{char_of_press};
+ghost use Rattle.virtual_keys.specs.Dictionary.{name_chars};
+ghost use Rattle.virtual_keys.specs.Fits.{char_of_press};
 ghost use Rattle.rule_model.specs.Act.{put_items};
 ghost use Rattle.rule_model.specs.Enter.{delete_or_pass, put_press, put_named, by_default};
 ghost use Rattle.rule_model.specs.Tab.{tab};
@@ -10,11 +10,12 @@ use crate::left::take_character;
 use crate::outputs::put_item;
 use indexed_tables::IndexedTables;
 use kmn_base::{Item, KeyPress, Memory};
-use rule_model::codes::K_BKSP;
-use rule_model::{EventState, char_of, is_plain, named_chars};
+use rule_model::EventState;
 use std::alloc::Global;
+use virtual_keys::codes::K_BKSP;
+use virtual_keys::{char_of, is_plain, named_chars};
 
-/// Whether a list has a character.
+/// Returns whether a list has a character.
 fn has_character(items: &[Item]) -> bool
     ensures { result ≡ nat_lt 0 (length (characters items.now)) }
 {
@@ -26,7 +27,7 @@ fn has_character(items: &[Item]) -> bool
     false
 }
 
-/// A press that gives no character deletes back, or is passed on.
+/// Performs a key press that has no character: a plain backspace deletes the last character, if any. Any other press is passed on.
 fn delete_or_pass(press: KeyPress, state: &mut EventState)
     ensures { state.new ≡ delete_or_pass press state.old }
 {
@@ -37,7 +38,7 @@ fn delete_or_pass(press: KeyPress, state: &mut EventState)
     }
 }
 
-/// A press that is no key of the dictionary puts the character that it gives.
+/// Performs a press whose key is not in the key dictionary: puts its character, or deletes back or passes the press on.
 fn put_press(alloc: Global, press: KeyPress, state: &mut EventState) -> Result<(), Memory>
     ensures { OnOk result (state.new ≡ put_press press (char_of_press press) state.old) }
 {
@@ -60,7 +61,7 @@ fn put_chars(alloc: Global, chars: &[char], state: &mut EventState) -> Result<()
     Ok(())
 }
 
-/// A name that stands for characters puts them, any other does nothing.
+/// Puts the characters that a name denotes. Any other name has no effect.
 fn put_named(alloc: Global, name: &[u8], state: &mut EventState) -> Result<(), Memory>
     ensures { OnOk result (state.new ≡ put_named (name_chars name.now) state.old) }
 {
@@ -70,7 +71,7 @@ fn put_named(alloc: Global, name: &[u8], state: &mut EventState) -> Result<(), M
     }
 }
 
-/// The default of a group with keys.
+/// Performs the default of a group with keys.
 #[tactic(auto, unfolding(rule_model::specs::Enter::by_default))]
 pub fn by_default(
     indexed: &IndexedTables,

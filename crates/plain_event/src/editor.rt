@@ -3,10 +3,10 @@ ghost use Rattle.rule_model.specs.Event.{editor_left, editor_right};
 
 use kmn_base::Memory;
 use kmn_base::slices::{before, behind};
-use rule_model::codes::{K_DEL, K_END, K_ENTER, K_HOME, K_LEFT, K_RIGHT, K_TAB};
 use std::alloc::Global;
+use virtual_keys::codes::{K_DEL, K_END, K_ENTER, K_HOME, K_LEFT, K_RIGHT, K_TAB};
 
-/// Two texts, one after the other.
+/// Joins two texts.
 pub fn joined(alloc: Global, text: &[char], more: &[char]) -> Result<Vec<char>, Memory>
     ensures { IfOk result (λ joined. joined.items ≡ text.now ++ more.now) }
 {
@@ -15,7 +15,7 @@ pub fn joined(alloc: Global, text: &[char], more: &[char]) -> Result<Vec<char>, 
     Ok(joined)
 }
 
-/// The text before the caret after a key that the editor handles by itself.
+/// Returns the text before the caret after a key that the editor handles by itself.
 pub fn editor_left(
     alloc: Global,
     code: u16,
@@ -35,7 +35,7 @@ pub fn editor_left(
     }
 }
 
-/// The text after the caret then.
+/// Returns the text after the caret after a key that the editor handles by itself.
 pub fn editor_right(
     alloc: Global,
     code: u16,

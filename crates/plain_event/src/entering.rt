@@ -21,7 +21,7 @@ use plain_matching::{chosen_in, item_caught};
 use rule_model::{Caught, EventState, Group, Out, Rule};
 use std::alloc::Global;
 
-/// A press that enters groups, with so many entries inside one another that may still come.
+/// A key press that enters groups. `depth` is the number of nested entries that are still possible.
 #[derive(Clone, Copy)]
 pub struct Entering<'a> {
     pub indexed: &'a IndexedTables<'a>,
@@ -29,14 +29,14 @@ pub struct Entering<'a> {
     pub depth: u32,
 }
 
-/// The record that a group chose, with what it caught.
+/// The record that a group selected, with what it caught.
 #[derive(Clone, Copy)]
 pub struct Choice<'a> {
     pub rule: &'a Rule,
     pub caught: &'a Caught,
 }
 
-/// What one item of an output does.
+/// Performs one item of an output.
 #[cycle(acts)]
 fn act_one(
     entering: &Entering,
@@ -76,7 +76,7 @@ fn act_one(
     }
 }
 
-/// What the next item of an output does, unless the event is stopped.
+/// Performs the next item of an output, unless the event is stopped.
 #[cycle(acts)]
 fn act_next(
     entering: &Entering,
@@ -95,7 +95,7 @@ fn act_next(
     act_one(entering, caught, output, state, lines)
 }
 
-/// The items of an output act in order; once the event is stopped nothing changes.
+/// Performs the items of an output in order. Once the event is stopped, the remaining items have no effect.
 #[cycle(acts)]
 fn act(
     entering: &Entering,
@@ -115,7 +115,7 @@ fn act(
     Ok(())
 }
 
-/// Enters a group, or ends the event where no more may be entered.
+/// Enters a group, or stops the event if it has entered `EVENT_ENTRIES` groups.
 #[cycle(acts)]
 fn enter_if_allowed(
     entering: &Entering,
@@ -133,7 +133,7 @@ fn enter_if_allowed(
     enter(entering, group, state, lines)
 }
 
-/// What an output catches that stands for no record.
+/// Returns what is caught for an output that does not belong to a record.
 fn nothing(alloc: Global) -> Caught
     ensures { result ≡ nothing }
 {
@@ -143,7 +143,7 @@ fn nothing(alloc: Global) -> Caught
     }
 }
 
-/// Takes what a record has matched.
+/// Removes the items that a record has matched.
 #[tactic(auto, using(rule_model::proofs::PlainLists::length_filter_map))]
 fn take(caught: &Caught, state: &mut EventState)
     ensures { state.new ≡ record state.old {
@@ -155,7 +155,7 @@ fn take(caught: &Caught, state: &mut EventState)
     left::take(&mut state.left, count);
 }
 
-/// A chosen record: its items are taken, its output acts, then the group's match output.
+/// Performs a selected record: removes its items, then performs its output and the group's match output.
 #[cycle(acts)]
 fn do_chosen(
     entering: &Entering,
@@ -183,7 +183,7 @@ fn do_chosen(
     )
 }
 
-/// Where no record holds: the nomatch output, else the default of a group with keys.
+/// Performs a group in which no record holds: the nomatch output, else the default of a group with keys.
 #[cycle(acts)]
 fn do_unmatched(
     entering: &Entering,
@@ -212,7 +212,7 @@ fn do_unmatched(
     Ok(())
 }
 
-/// What a group does.
+/// Performs a group.
 #[cycle(acts)]
 fn do_group(
     entering: &Entering,
@@ -237,7 +237,7 @@ fn do_group(
     }
 }
 
-/// What a group does that there may be.
+/// Performs a group, if there is one.
 #[cycle(acts)]
 fn in_group(
     entering: &Entering,
@@ -282,15 +282,15 @@ fn enter(
     Ok(())
 }
 
-/// What a press leaves of an event's state, and the lines of the rules that it chose.
+/// An event's state after a key press, and the lines of the rules that the press selected.
 #[derive(Drop)]
 pub struct Pressed {
     pub state: EventState,
     pub lines: Seq<u32>,
 }
 
-/// What a press leaves of an event's state, and the lines of the rules that it chose. The state is taken, so nothing half
-/// done stays behind where memory is wanting.
+/// Returns an event's state after a key press, and the lines of the rules that the press selected. Consumes the state, so that
+/// no incomplete state remains if an allocation fails.
 #[tactic(auto, unfolding(rule_model::specs::KeyEvent::after_key, rule_model::specs::Tab::tab, rule_model::specs::ChosenLines::lines_of_press))]
 pub fn after_key(
     indexed: &IndexedTables,

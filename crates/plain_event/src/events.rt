@@ -14,10 +14,11 @@ use crate::texts::{characters, read_again};
 use crate::values::{copies, picked, set_value, spread};
 use indexed_tables::IndexedTables;
 use kmn_base::{Element, Event, Item, KeyPress, Memory, Outcome, Seq};
-use rule_model::{EventState, Tables, common_prefix, is_plain, moved_caret};
+use rule_model::{EventState, Tables, common_prefix, moved_caret};
 use std::alloc::Global;
+use virtual_keys::is_plain;
 
-/// An event begins on a state, with nothing done.
+/// Returns the state with which an event begins, before it does anything.
 #[tactic(auto, using(crate::proofs::SpreadValues::picked_options))]
 fn begin_event(indexed: &IndexedTables, state: &PlainState) -> Result<EventState, Memory>
     ensures { IfOk result (λ event_state. event_state ≡ begin_event state.now.left
@@ -36,7 +37,7 @@ fn begin_event(indexed: &IndexedTables, state: &PlainState) -> Result<EventState
     })
 }
 
-/// The outcome of a press, from the list before it and the state that it leaves.
+/// Returns the outcome of a key press, from the items before the caret before the press and the state after it.
 #[tactic(auto, using(crate::proofs::ItemTexts::length_characters, rule_model::proofs::PlainLists::common_prefix_bound))]
 fn outcome_of(alloc: Global, old: &[Item], event_state: &EventState) -> Result<Outcome, Memory>
     requires { length old.now < 2 ^ 32 }
@@ -55,7 +56,7 @@ fn outcome_of(alloc: Global, old: &[Item], event_state: &EventState) -> Result<O
     })
 }
 
-/// The plain state that an event leaves, with this outcome.
+/// Returns the plain state after an event, with this outcome.
 fn acted(
     indexed: &IndexedTables,
     event_state: &EventState,
@@ -81,7 +82,7 @@ fn acted(
     })
 }
 
-/// The state with these texts before and after the caret.
+/// Returns the state with these texts before and after the caret.
 fn text_becomes(
     alloc: Global,
     left: &[char],
@@ -102,7 +103,7 @@ fn text_becomes(
     })
 }
 
-/// The editor's default for a key that was passed on.
+/// Performs the editor's default for a key that was passed on.
 fn by_editor(alloc: Global, press: KeyPress, state: &PlainState) -> Result<PlainState, Memory>
     ensures after { IfOk result (λ after. (tables : Tables) → state_of tables after ≡ by_editor press (state_of tables state.now)) }
     ensures others { IfOk result (λ after. after ≡ record state.now { left = after.left; right = after.right }) }
@@ -118,14 +119,14 @@ fn by_editor(alloc: Global, press: KeyPress, state: &PlainState) -> Result<Plain
     text_becomes(alloc, before.as_slice(), after.as_slice(), state)
 }
 
-/// A state after an event, and the source lines of the rules that the event chose, in the order of entry.
+/// A state after an event, and the source lines of the rules that the event selected, in the order of entry.
 #[derive(Drop)]
 pub struct Traced {
     pub state: PlainState,
     pub lines: Seq<u32>,
 }
 
-/// A key press.
+/// Performs a key press.
 fn key_event(indexed: &IndexedTables, press: KeyPress, state: &PlainState) -> Result<Traced, Memory>
     requires { IsStateOf indexed.now state.now }
     ensures made { IfOk result (λ traced. IsMadeBy indexed.now state.now (key_event (tab indexed.now) press (state_of indexed.now state.now)) traced.state) }
@@ -150,7 +151,7 @@ fn key_event(indexed: &IndexedTables, press: KeyPress, state: &PlainState) -> Re
     })
 }
 
-/// The outcome of an event that is no key.
+/// Returns the outcome of an event that is not a key press.
 fn no_outcome() -> Outcome
     ensures { result ≡ no_outcome }
 {
@@ -164,14 +165,14 @@ fn no_outcome() -> Outcome
     }
 }
 
-/// Characters as elements.
+/// Returns characters as elements.
 fn as_elements(alloc: Global, text: &[char]) -> Result<Vec<Element>, Memory>
     ensures { IfOk result (λ value. value.items ≡ map Element.Char text.now) }
 {
     Ok(text.iter().map(|c| Element::Char(*c)).collect(alloc)?)
 }
 
-/// An option that there may be gets a value, as current and as saved one.
+/// Sets the current and the saved value of an option, if there is one.
 fn give(
     alloc: Global,
     option: Option<usize>,
@@ -190,7 +191,7 @@ fn give(
     Ok(())
 }
 
-/// The host gives an option a value.
+/// Performs an option change: the host sets the value of an option.
 fn setting_event(
     indexed: &IndexedTables,
     name: &[u8],
@@ -211,7 +212,7 @@ fn setting_event(
     Ok(after)
 }
 
-/// The whole text, before and after the caret.
+/// Returns the whole text, before and after the caret.
 fn whole_text(alloc: Global, state: &PlainState) -> Result<Vec<char>, Memory>
     ensures { IfOk result (λ text. text.items ≡ characters state.now.left ++ state.now.right) }
 {
@@ -219,7 +220,7 @@ fn whole_text(alloc: Global, state: &PlainState) -> Result<Vec<char>, Memory>
     joined(alloc, left.as_slice(), state.right.as_slice())
 }
 
-/// The state with a whole text and the caret at a place of it.
+/// Returns the state with a whole text and the caret at a position in it.
 fn with_text(
     alloc: Global,
     text: &[char],
@@ -235,7 +236,7 @@ fn with_text(
     Ok(after)
 }
 
-/// The caret moves to a place.
+/// Moves the caret to a position.
 fn caret_event(alloc: Global, place: u32, state: &PlainState) -> Result<PlainState, Memory>
     requires { place ≤ length (characters state.now.left ++ state.now.right) }
     ensures { IfOk result (λ after. (tables : Tables) → IsMadeBy tables state.now (only_state (caret_event place (state_of tables state.now))) after) }
@@ -245,7 +246,7 @@ fn caret_event(alloc: Global, place: u32, state: &PlainState) -> Result<PlainSta
     Ok(after)
 }
 
-/// The whole text after an edit.
+/// Returns the whole text after an edit.
 fn edited_text(
     alloc: Global,
     from: usize,
@@ -260,7 +261,7 @@ fn edited_text(
     joined(alloc, before.as_slice(), &whole[to..])
 }
 
-/// The application replaces characters.
+/// Performs an edit in which the application replaces characters.
 fn edit_event(
     alloc: Global,
     from: u32,
@@ -279,7 +280,7 @@ fn edit_event(
     Ok(after)
 }
 
-/// An event that chose no rule.
+/// Returns the result of an event that selected no rule.
 fn without_lines(alloc: Global, state: PlainState) -> Traced
     ensures { result ≡ record { state = state; lines = [] } }
 {
@@ -289,8 +290,8 @@ fn without_lines(alloc: Global, state: PlainState) -> Traced
     }
 }
 
-/// What an event does to a state, by the meaning of tables, and which rules it chose. The limits of an event's text are
-/// not looked at.
+/// Performs an event on a state, by the meaning of tables. Returns the new state and the lines of the rules that the event
+/// selected. Does not check the limits of an event's text.
 #[tactic(auto, unfolding(rule_model::specs::Event::happening))]
 pub fn traced_event(
     alloc: Global,
@@ -321,7 +322,7 @@ pub fn traced_event(
     }
 }
 
-/// What an event does to a state, by the meaning of tables. The limits of an event's text are not looked at.
+/// Performs an event on a state, by the meaning of tables. Does not check the limits of an event's text.
 pub fn plain_event(
     alloc: Global,
     tables: &Tables,

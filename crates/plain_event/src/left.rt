@@ -10,7 +10,7 @@ use kmn_base::limits::WINDOW_ITEMS;
 use kmn_base::{Item, Memory, Seq, end_marks};
 use std::alloc::Global;
 
-/// The same items without the marks before the window.
+/// Returns the items without the marks before the window.
 fn without_old_marks(alloc: Global, items: &[Item]) -> Result<Vec<Item>, Memory>
     ensures { IfOk result (λ after. after.items ≡ map Item.Char (characters (without_last WINDOW_ITEMS items.now)) ++ window items.now) }
 {
@@ -20,7 +20,7 @@ fn without_old_marks(alloc: Global, items: &[Item]) -> Result<Vec<Item>, Memory>
     Ok(after)
 }
 
-/// The items with one more, without the marks that are then before the window.
+/// Returns the items with one more item, without the marks that are then before the window.
 pub fn with_item(alloc: Global, items: &[Item], item: Item) -> Result<Vec<Item>, Memory>
     ensures { IfOk result (λ after. after.items ≡ put items.now item) }
 {
@@ -29,7 +29,7 @@ pub fn with_item(alloc: Global, items: &[Item], item: Item) -> Result<Vec<Item>,
     without_old_marks(alloc, more.as_slice())
 }
 
-/// Takes the last items.
+/// Removes the last `count` items.
 #[tactic(auto, using(std::proofs::lemmas::List::take_all, crate::proofs::Lefts::kept_when_taken))]
 pub fn take(left: &mut Seq<Item>, count: usize)
     ensures { left.new ≡ without_last count left.old }
@@ -40,7 +40,7 @@ pub fn take(left: &mut Seq<Item>, count: usize)
     }
 }
 
-/// Takes the last character and the marks around it.
+/// Removes the last character and the marks around it.
 pub fn take_character(left: &mut Seq<Item>)
     ensures { left.new ≡ without_last_character left.old }
 {

@@ -15,7 +15,7 @@ use plain_matching::{element, place_caught, value_at};
 use rule_model::{Caught, EventState, item_of};
 use std::alloc::Global;
 
-/// Puts an item, or ends the event where no more may be put.
+/// Puts an item, or stops the event if it has put `EVENT_PUTS` items. A stopped event is unchanged.
 pub fn put_item(alloc: Global, item: Item, state: &mut EventState) -> Result<(), Memory>
     ensures { OnOk result (state.new ≡ put_item item state.old) }
 {
@@ -31,7 +31,7 @@ pub fn put_item(alloc: Global, item: Item, state: &mut EventState) -> Result<(),
     Ok(())
 }
 
-/// Puts an item that there may be.
+/// Puts an item, if there is one.
 pub fn put_any(alloc: Global, item: Option<Item>, state: &mut EventState) -> Result<(), Memory>
     ensures { OnOk result (state.new ≡ put_items (item_list item) state.old) }
 {
@@ -41,7 +41,7 @@ pub fn put_any(alloc: Global, item: Option<Item>, state: &mut EventState) -> Res
     }
 }
 
-/// Puts an element that there may be; a virtual key puts nothing.
+/// Puts an element, if there is one. A virtual key has no effect.
 fn put_element(
     alloc: Global,
     element: Option<Element>,
@@ -55,7 +55,7 @@ fn put_element(
     }
 }
 
-/// The place that an `index` takes: of the key where it stands one place after the context, else what was caught.
+/// Returns the position that an `index` uses: the key's if the offset is one past the context, else the caught position.
 fn place_for_index(caught: &Caught, offset: u32) -> Option<usize>
     ensures { result ≡ place_for_index caught.now offset }
 {
@@ -66,7 +66,7 @@ fn place_for_index(caught: &Caught, offset: u32) -> Option<usize>
     }
 }
 
-/// What `index` does.
+/// Performs `index`.
 pub fn put_index(
     indexed: &IndexedTables,
     caught: &Caught,
@@ -81,7 +81,7 @@ pub fn put_index(
     put_element(indexed.alloc(), element, state)
 }
 
-/// What `context` does: puts all that was matched.
+/// Performs `context`: puts all items that were matched.
 pub fn put_context(alloc: Global, caught: &Caught, state: &mut EventState) -> Result<(), Memory>
     ensures { OnOk result (state.new ≡ put_items (items_caught caught.now) state.old) }
 {
@@ -91,7 +91,7 @@ pub fn put_context(alloc: Global, caught: &Caught, state: &mut EventState) -> Re
     Ok(())
 }
 
-/// What `set` does.
+/// Performs `set`.
 pub fn set_current(
     indexed: &IndexedTables,
     store: u32,
@@ -108,7 +108,7 @@ pub fn set_current(
     Ok(())
 }
 
-/// What `set` of a system option does.
+/// Performs `set` of a system option.
 pub fn set_system(
     indexed: &IndexedTables,
     id: u32,
@@ -123,7 +123,7 @@ pub fn set_system(
     Ok(())
 }
 
-/// What `save` does.
+/// Performs `save`.
 pub fn save_current(
     indexed: &IndexedTables,
     store: u32,
@@ -141,7 +141,7 @@ pub fn save_current(
     Ok(())
 }
 
-/// The saved value of an option, else what the keyboard states.
+/// Returns the saved value of an option, or else the value that the keyboard states.
 fn value_to_reset<'a>(state: &'a EventState, option: usize, stated: &'a [Element]) -> &'a [Element]
     ensures { result.now ≡ value_to_reset (slice_get state.now.saved option) stated.now }
 {
@@ -151,7 +151,7 @@ fn value_to_reset<'a>(state: &'a EventState, option: usize, stated: &'a [Element
     }
 }
 
-/// What `reset` does.
+/// Performs `reset`.
 pub fn reset_current(
     indexed: &IndexedTables,
     store: u32,

@@ -1,7 +1,7 @@
 use kmn_base::{Element, Item, Outcome, Seq};
 
-/// What a keyboard's tables act on, and what the last event did. Values stand by store number, those of the system options
-/// behind the others.
+/// A state on which a keyboard's tables act, and the outcome of the last event. Values are indexed by store number, with the
+/// values of the system options after all others.
 #[derive(Drop)]
 pub struct PlainState {
     pub left: Seq<Item>,

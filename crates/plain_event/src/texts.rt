@@ -6,7 +6,7 @@ use kmn_base::slices::{before, behind};
 use kmn_base::{Item, Memory};
 use std::alloc::Global;
 
-/// The characters of items, without the marks.
+/// Returns the characters of items, without the marks.
 pub fn characters(alloc: Global, items: &[Item]) -> Result<Vec<char>, Memory>
     ensures { IfOk result (λ text. text.items ≡ characters items.now) }
 {
@@ -19,28 +19,28 @@ pub fn characters(alloc: Global, items: &[Item]) -> Result<Vec<char>, Memory>
     Ok(text)
 }
 
-/// Characters as items.
+/// Returns characters as items.
 pub fn as_items(alloc: Global, text: &[char]) -> Result<Vec<Item>, Memory>
     ensures { IfOk result (λ items. items.items ≡ map Item.Char text.now) }
 {
     Ok(text.iter().map(|c| Item::Char(*c)).collect(alloc)?)
 }
 
-/// All but the last items.
+/// Returns all items except the last `count`.
 pub fn without_last(count: usize, items: &[Item]) -> &[Item]
     ensures { result.now ≡ without_last count items.now }
 {
     before(items, items.len().saturating_sub(count))
 }
 
-/// The last items, to which marks are confined.
+/// Returns the last `WINDOW_ITEMS` items, to which marks are confined.
 pub fn window(items: &[Item]) -> &[Item]
     ensures { result.now ≡ window items.now }
 {
     behind(items, items.len().saturating_sub(WINDOW_ITEMS))
 }
 
-/// Whether the last items still stand at the end of a text, and it is known what stands before them.
+/// Returns whether a text ends with the characters of the kept items, and these items fill the window or are the whole text.
 fn still_stands(kept: &[Item], last: &[char], text: &[char]) -> bool
     requires { last.now ≡ characters kept.now }
     ensures { result ≡ still_stands kept.now text.now }
@@ -48,7 +48,7 @@ fn still_stands(kept: &[Item], last: &[char], text: &[char]) -> bool
     text.ends_with(last) && (kept.len() == WINDOW_ITEMS || text.len() == last.len())
 }
 
-/// The text read again, with the marks that keep their places.
+/// Returns the items of a text that is read again, with the marks that keep their positions.
 pub fn read_again(alloc: Global, items: &[Item], text: &[char]) -> Result<Vec<Item>, Memory>
     ensures { IfOk result (λ left. left.items ≡ read_again items.now text.now) }
 {

@@ -7,9 +7,9 @@ use indexed_tables::IndexedTables;
 use kmn_base::{Element, Memory, Seq};
 use std::alloc::Global;
 
-/// A value of an option, or a saved value that there may be.
+/// A value of an option, or an optional saved value.
 pub trait Value: Drop {
-    /// The same value again.
+    /// Returns a copy of the value.
     fn copied(&self, alloc: Global) -> Result<Self, Memory>
         ensures { IfOk result (λ copy. copy ≡ self.now) };
 }
@@ -29,7 +29,7 @@ impl Value for Option<Seq<Element>> {
     }
 }
 
-/// The same values again.
+/// Returns a copy of the values.
 pub fn copies<V: Value>(alloc: Global, values: &[V]) -> Result<Seq<V>, Memory>
     ensures { IfOk result (λ copies. copies ≡ values.now) }
 {
@@ -40,7 +40,7 @@ pub fn copies<V: Value>(alloc: Global, values: &[V]) -> Result<Seq<V>, Memory>
     Ok(Seq::from_vec(copies))
 }
 
-/// The values of the option stores, in order.
+/// Returns the values of the option stores, in order.
 #[tactic(auto, using(std::proofs::lemmas::Grind::common_steps, crate::proofs::SpreadValues::picked_ended))]
 pub fn picked<V: Value>(indexed: &IndexedTables, values: &[V]) -> Result<Seq<V>, Memory>
     ensures { IfOk result (λ options. options ≡ picked (option_numbers 0 (tab indexed.now).stores) values.now) }
@@ -56,7 +56,7 @@ pub fn picked<V: Value>(indexed: &IndexedTables, values: &[V]) -> Result<Seq<V>,
     Ok(Seq::from_vec(options))
 }
 
-/// The value of an option number, else another one.
+/// Returns the value of an option number, or the other value if there is none.
 fn option_value<'a, V: Value>(options: &'a [V], number: Option<usize>, other: &'a V) -> &'a V
     ensures { result.now ≡ option_value options.now number other.now }
 {
@@ -66,7 +66,7 @@ fn option_value<'a, V: Value>(options: &'a [V], number: Option<usize>, other: &'
     }
 }
 
-/// The values by store number, with those of options in their places.
+/// Returns the values by store number, with the values of options at the positions of the option stores.
 #[tactic(auto, using(std::proofs::lemmas::Grind::common_steps, crate::proofs::SpreadValues::spread_ended))]
 pub fn spread<V: Value>(
     indexed: &IndexedTables,
@@ -84,7 +84,7 @@ pub fn spread<V: Value>(
     Ok(Seq::from_vec(all))
 }
 
-/// Changes the value of a number; where there is none, nothing.
+/// Sets the value at an index. An index past the end has no effect.
 pub fn set_value<V: Value>(values: &mut Seq<V>, number: usize, value: V)
     ensures { values.new ≡ slice_set values.old number value }
 {

@@ -15,8 +15,9 @@ use indexed_tables::{IndexedTables, has_words};
 use kmn_base::{Element, Item, KeyPress, Memory, RuleKey, Seq};
 use rule_model::system::PLATFORM;
 use rule_model::{
-    Catch, Caught, EventState, Group, Pat, Pressed, Rule, is_element, is_item, is_same, place_of,
+    Catch, Caught, EventState, Group, Pat, Rule, is_element, is_item, is_same, place_of,
 };
+use virtual_keys::fits;
 
 /// Whether a pattern looks at an item of the text, whatever the stores are.
 fn takes_item(pattern: Pat) -> bool
@@ -236,9 +237,7 @@ fn holds(
         (content_now (tab indexed.now) state.now) state.now.left press (tab_rule indexed.now.stores using_keys rule.now)) }
 {
     let context = rule.context.as_slice();
-    if !conditions_hold(indexed, state, context)
-        || !Pressed::of(press).fits(key_of(using_keys, rule))
-    {
+    if !conditions_hold(indexed, state, context) || !fits(key_of(using_keys, rule), press) {
         return Ok(None);
     }
     Ok(with_catches(caught_last(indexed, state, context, state.left.as_slice())?))

@@ -4,5 +4,3 @@ pub mod SplitLaws
 pub mod StringLaws
 pub mod LineLaws
 pub mod TextLaws
-pub mod BracketLaws
-pub mod HostLineLaws

@@ -1,4 +1,4 @@
--- The brackets of a line one by one, and lines one after the other.
+-- Reading the brackets of a line one by one, and the lines of a text one by one.
 use Rattle.std.proofs.Common.{◌≡◌, ℕ, ◌+◌, ◌-◌, ◌<◌, Bool, true, false, if◌then◌else◌, nat_eq, List, [], ◌∷◌, ◌++◌, length, length-drop, get_or, take, drop, Option, Some, None, Result, Ok, Err, refl, sym, ◌∙◌, ap, arith}
 use Rattle.std.proofs.lemmas.Grind.{common_steps}
 use Rattle.std.proofs.lemmas.List.{take-append-drop, take_all, drop_more}
@@ -11,7 +11,7 @@ use Rattle.kmn_base.specs.declared.codes.Code.TheVariants.{P03, P08}
 use Rattle.kmn_base.specs.declared.events.Event.TheVariants as event
 use Rattle.kmn_base.specs.declared.keys.KeyPress.{KeyPress}
 use Rattle.kmn_base.specs.declared.refusals.Refusal.{Refusal}
-use Rattle.rule_model.proofs.PositionLemmas.{not_below}
+use Rattle.virtual_keys.proofs.PositionLemmas.{not_below}
 use Rattle.rule_model.specs.declared.script.Entry.TheVariants.{Act}
 use Rattle.play_script.specs.Found.{Found, Reads, Breaks}
 use Rattle.play_script.specs.Lines.{text_lines}
@@ -22,7 +22,7 @@ use Rattle.play_script.specs.declared.errors.ScriptError.{ScriptError}
 use Rattle.play_script.specs.declared.errors.ScriptError.TheVariants as error
 use Rattle.play_script.specs.Answers.{Leaves, Answers}
 
--- the first piece ends at the first `]`, and the others are those of the bytes behind it
+-- if the first `]` is at a position, the first piece ends there, and the other pieces are those of the bytes after it
 pub pieces_parted : (text : List ℕ) (at : ℕ) → position is_closing text ≡ Some at → slice_split is_closing text ≡ take at text ∷ slice_split is_closing (take (length text - (at + 1)) (drop (at + 1) text))
 pieces_parted text at is =
     let found = position-Some is_closing text at 0 is in
@@ -31,7 +31,7 @@ pieces_parted text at is =
     let behind : take (length text - (at + 1)) (drop (at + 1) text) ≡ drop (at + 1) text = take_all _ (drop (at + 1) text) (omega (arith, length-drop (at + 1) text)) in
     ap (slice_split is_closing) parts ∙ slice_split_at is_closing (take at text) (get_or text at 0) (drop (at + 1) text) front found.1 ∙ ap (λ l. take at text ∷ slice_split is_closing l) (sym behind)
 
--- where there is none, the text is the one piece
+-- if a text has no `]`, the whole text is its only piece
 pub piece_alone : (text : List ℕ) → position is_closing text ≡ None → slice_split is_closing text ≡ text ∷ []
 piece_alone text is =
     let far = not_below (position_or_len is_closing text) (length text) is in
@@ -39,7 +39,7 @@ piece_alone text is =
 
 pub ruleset piece_steps = (pieces_parted, piece_alone)
 
--- a text that begins with no bracket breaks P08
+-- if a text does not begin with a bracket, it breaks P08
 not_opened : (b : Bool) (line : ℕ) (more : List Found) (press : Option KeyPress) → b ≡ false
     → (if b then unless_broken line P03 (λ press. Reads (Act line (event.Key press)) ∷ more) press else breaks line P08) ≡ breaks line P08
 not_opened true line more press is = absurd (cc)
@@ -55,12 +55,12 @@ bracket_opened dictionary line more text inside is = ap (bracket_found dictionar
 
 pub ruleset bracket_steps = (bracket_not_opened, bracket_opened)
 
--- behind a refusal nothing is read
+-- after a refusal, whatever else is found, the result is the same refusal
 pub absorbed : (refusal : Refusal) (more : List Found) → with_found (Err refusal) more ≡ Err refusal
 absorbed refusal [] = refl
 absorbed refusal (found ∷ more) = refl
 
--- what is found in two parts
+-- reading two lists one after the other has the same result as reading their concatenation
 pub found_in_parts : (s : Result Script Refusal) (first more : List Found) → with_found s (first ++ more) ≡ with_found (with_found s first) more
 found_in_parts s [] more = refl
 found_in_parts (Err refusal) (found ∷ first) more = sym (absorbed refusal more)
@@ -84,7 +84,7 @@ piece_before : (dictionary : List (List ℕ)) (line : ℕ) (piece : List ℕ) (p
 piece_before dictionary line piece [] some = absurd (omega arith)
 piece_before dictionary line piece (next ∷ pieces) some = refl
 
--- one more bracket of a line
+-- if the first bracket of a line is split off, reading the line is reading this bracket and then the other pieces
 pub next_bracket : (dictionary : List (List ℕ)) (line : ℕ) (text piece behind : List ℕ) (s : Script) → slice_split is_closing text ≡ piece ∷ slice_split is_closing behind
     → with_found (Ok s) (brackets_found dictionary line (slice_split is_closing text))
     ≡ with_found (with_found (Ok s) (bracket_found dictionary line [] (without_blanks piece))) (brackets_found dictionary line (slice_split is_closing behind))
@@ -95,13 +95,13 @@ next_bracket dictionary line text piece behind s parts =
 
 pub ruleset line_steps = (next_bracket, absorbed)
 
--- a line is refused at its first bracket that isn't one
+-- if a bracket of a line is refused, the line is refused with the same error
 pub refused_bracket : (error : ScriptError) (first : Result Script Refusal) (more : List Found) (whole : Result Script Refusal) (after : Script)
     → Leaves first after (Err error) → with_found first more ≡ whole → Leaves whole after (Err error)
 refused_bracket error.Memory first more whole after is e = tt
 refused_bracket (error.Refused refusal) first more whole after is e = sym e ∙ ap (λ s. with_found s more) is ∙ absorbed refusal more
 
--- one more line of a text
+-- if the first line of a text is split off, reading the text is reading this line and then the other lines
 pub next_line : (dictionary : List (List ℕ)) (line : ℕ) (text first behind : List ℕ) (s : Script) → text_lines text ≡ first ∷ text_lines behind
     → with_found (Ok s) (lines_found dictionary line (text_lines text)) ≡ with_found (with_found (Ok s) (line_found dictionary line first)) (lines_found dictionary (line + 1) (text_lines behind))
 next_line dictionary line text first behind s parts =

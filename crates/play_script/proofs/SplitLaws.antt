@@ -1,4 +1,4 @@
--- The first word of a text, and the words behind it.
+-- The first word of a text, and its other words.
 use Rattle.std.proofs.Common.{◌≡◌, inl, inr, Bool, get_or, ℕ, ◌+◌, ◌<◌, nat_lt, List, [], ◌∷◌, length, take, drop, refl, ap, ◌∙◌, sym, subst, arith}
 use Rattle.std.proofs.lemmas.Grind.{common_steps}
 use Rattle.std.proofs.lemmas.Bool.{cases_lt}
@@ -10,12 +10,12 @@ use Rattle.std.specs.List.{position_or_len, slice_split}
 use Rattle.kmn_base.specs.Bytes.{is_blank}
 use Rattle.play_script.specs.Words.{without_blanks, words}
 
--- blanks at the front part no words
+-- leading blanks do not change the words of a text
 pub words_without_blanks : (text : List ℕ) → words (without_blanks text) ≡ words text
 words_without_blanks [] = refl
 words_without_blanks (c ∷ text) = grind (arith, common_steps, words_without_blanks text)
 
--- how many bytes stand before the first blank
+-- the number of bytes before the first blank
 abbrev word_length : List ℕ → ℕ
 word_length text = position_or_len is_blank text
 
@@ -23,7 +23,7 @@ word_length text = position_or_len is_blank text
 abbrev is_word : List ℕ → Bool
 is_word piece = nat_lt 0 (length piece)
 
--- a text that begins with no blank is its first word and the words behind it
+-- if a text does not begin with a blank, its words are its first word and the words of the rest
 word_first : (text : List ℕ) → 0 < word_length text → words text ≡ take (word_length text) text ∷ words (drop (word_length text) text)
 word_first text some = elim (cases_lt (word_length text) (length text)) [
   | inl within ↦
@@ -40,19 +40,19 @@ word_first text some = elim (cases_lt (word_length text) (length text)) [
       grind (arith, common_steps, whole, none, alone)
 ]
 
--- no blank stands first
+-- if a text has a byte that isn't a blank, the text without its leading blanks begins with a word
 begins_with_word : (text : List ℕ) → 0 < length (without_blanks text) → 0 < word_length (without_blanks text)
 begins_with_word [] some = absurd (omega arith)
 begins_with_word (c ∷ text) some = grind (arith, common_steps, begins_with_word text)
 
--- the first word behind blanks, and the words behind it
+-- if a text has a byte that isn't a blank, its words are the first word after its leading blanks and the words of the rest
 pub first_word : (text rest : List ℕ) → rest ≡ without_blanks text → 0 < length rest → words text ≡ take (word_length rest) rest ∷ words (drop (word_length rest) rest)
 first_word text rest is some =
     let same : words rest ≡ words text = ap words is ∙ words_without_blanks text in
     let first : 0 < word_length rest = subst (λ (t : List ℕ). 0 < word_length t) (sym is) (begins_with_word text (subst (λ (t : List ℕ). 0 < length t) is some)) in
     sym same ∙ word_first rest first
 
--- a text of blanks has no words
+-- if a text consists of blanks, it has no words
 pub no_word : (text rest : List ℕ) → rest ≡ without_blanks text → length rest ≡ 0 → words text ≡ []
 no_word text [] is none = sym (words_without_blanks text) ∙ ap words (sym is)
 no_word text (c ∷ rest) is none = absurd (omega arith)

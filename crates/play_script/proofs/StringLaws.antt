@@ -6,18 +6,18 @@ use Rattle.kmn_base.specs.Bytes.{is_quote}
 use Rattle.play_script.specs.Words.{IsTight, without_blanks}
 use Rattle.play_script.specs.Strings.{code_point, unquoted, string_token, quoted_token, written_token, tokens_chars}
 
--- the tokens behind so many bytes
+-- the tokens of a text after its first n bytes are the tokens of the rest
 pub tokens_behind : (n : ℕ) (text : List ℕ) → tokens_chars n text ≡ tokens_chars 0 (drop n text)
 tokens_behind zero text = refl
 tokens_behind (suc n) [] = refl
 tokens_behind (suc n) (c ∷ text) = tokens_behind n text
 
--- blanks in front are no token
+-- leading blanks do not change the tokens of a text
 pub tokens_without_blanks : (text : List ℕ) → tokens_chars 0 (without_blanks text) ≡ tokens_chars 0 text
 tokens_without_blanks [] = refl
 tokens_without_blanks (c ∷ text) = grind (arith, common_steps, tokens_without_blanks text)
 
--- a token has a byte
+-- the size of a token in bytes, or 1 if there is no token: each token has at least one byte
 abbrev size_of : Option (List ℕ × ℕ) → ℕ
 size_of None = 1
 size_of (Some token) = token.1
@@ -59,7 +59,7 @@ drop_behind : (size : ℕ) (c : ℕ) (text : List ℕ) → 0 < size → drop (si
 drop_behind zero c text some = absurd (omega arith)
 drop_behind (suc size) c text some = ap (λ n. drop n text) (omega arith)
 
--- a token is read
+-- if a token is read, its characters are appended and reading continues after the token and the blanks that follow it
 pub next_token : (all cs : List ℕ) (size : ℕ) (rest : List ℕ) (whole : Option (List ℕ)) → IsTight rest → Some (cs, size) ≡ string_token rest
     → option_map (λ more. all ++ more) (tokens_chars 0 rest) ≡ whole
     → option_map (λ more. (all ++ cs) ++ more) (tokens_chars 0 (without_blanks (drop size rest))) ≡ whole
@@ -73,7 +73,7 @@ next_token all cs size (c ∷ text) whole tight token is =
     (ap (λ (blank : Bool). option_map (λ more. all ++ more) (if blank then tokens_chars 0 text
     else option_and_then (λ (t : List ℕ × ℕ). option_map (λ more. t.0 ++ more) (tokens_chars (t.1 - 1) text)) (string_token (c ∷ text)))) (sym tight) ∙ is)
 
--- no token is read
+-- if no token can be read before the end of a text, the result for the whole text is None
 pub no_token : (all : List ℕ) (rest : List ℕ) (whole : Option (List ℕ)) → IsTight rest → None ≡ string_token rest → 0 < length rest
     → option_map (λ more. all ++ more) (tokens_chars 0 rest) ≡ whole → None ≡ whole
 no_token all [] whole tight token some is = absurd (omega arith)
@@ -88,7 +88,7 @@ shorter size (c ∷ text) cs token =
     let more : 0 < size = token_has_bytes (c ∷ text) cs size token in
     omega (arith, length-drop size (c ∷ text))
 
--- the same as a loop sees it
+-- `next_token` in the variables of the loop that reads the tokens
 pub taken_on : (all cs after : List ℕ) (size : ℕ) (rest back behind : List ℕ) (whole : Option (List ℕ)) → IsTight rest → Some (cs, size) ≡ string_token rest
     → after ≡ all ++ cs → back ≡ drop size rest → behind ≡ without_blanks back
     → option_map (λ more. all ++ more) (tokens_chars 0 rest) ≡ whole → option_map (λ more. after ++ more) (tokens_chars 0 behind) ≡ whole

@@ -33,7 +33,7 @@ at_feed : (byte next : ℕ) (bytes : List ℕ) → (byte == 10) ≡ false → (b
 at_feed byte next [] other return feed = grind (arith, common_steps, other, return, feed)
 at_feed byte next (third ∷ bytes) other return feed = grind (arith, common_steps, other, return, feed)
 
--- a text that isn't empty is its first line and the lines behind it
+-- if a text isn't empty, its lines are its first line and the lines of the rest
 pub first_line_first : (bytes : List ℕ) → 0 < length bytes
     → text_lines bytes ≡ take (position_or_len is_end bytes) bytes ∷ text_lines (drop (position_or_len is_end bytes + end_size (drop (position_or_len is_end bytes) bytes)) bytes)
 first_line_first [] some = absurd (omega arith)
@@ -54,7 +54,7 @@ end_some [] some = absurd (omega arith)
 end_some (b ∷ []) some = omega arith
 end_some (b ∷ next ∷ bytes) some = grind (arith, common_steps)
 
--- a line and its end have a byte
+-- if a text isn't empty, its first line and the line end have at least one byte together
 pub line_some : (text : List ℕ) (n : ℕ) → 0 < length text → n ≤ length text → 0 < n + end_size (drop n text)
 line_some text n some within = elim (cases_lt n (length text)) [
   | inl less ↦ let here : 0 < end_size (drop n text) = end_some (drop n text) (omega (arith, length-drop n text)) in omega arith
@@ -63,20 +63,20 @@ line_some text n some within = elim (cases_lt n (length text)) [
 
 pub ruleset first_steps = (first_line_first, line_some)
 
--- a script that isn't too long has a text where it is UTF-8, and none else
+-- if a script isn't too long, it has a text if it is UTF-8, and breaks P01 if it isn't
 pub text_kept : (bytes : List ℕ) → nat_lt TEXT_BYTES (length bytes) ≡ false → IsUtf8 bytes → script_text bytes ≡ Ok (without_mark bytes)
 text_kept bytes short text = both_hold (nat_lt TEXT_BYTES (length bytes)) (is_utf8 bytes) _ _ _ short (is_utf8-from_IsUtf8 bytes text)
 
 pub text_broken : (bytes : List ℕ) → nat_lt TEXT_BYTES (length bytes) ≡ false → ¬ (IsUtf8 bytes) → script_text bytes ≡ Err (record { line = 1; code = P01 })
 text_broken bytes short other = second_fails (nat_lt TEXT_BYTES (length bytes)) (is_utf8 bytes) _ _ _ short (λ e. other (IsUtf8-from_is_utf8 bytes e))
 
--- what has no text is refused as that
+-- if a script has no text, it is refused with the refusal of its text
 pub text_refused : {A : Type 0} (text : Result (List ℕ) Refusal) (next : List ℕ → Result A Refusal) (error : ScriptError)
     → IsSomeAnd (refusal_of error) (λ refusal. text ≡ Err refusal) → Answers (and_then text next) (Err error)
 text_refused text next error.Memory is = tt
 text_refused text next (error.Refused refusal) is = ap (λ t. and_then t next) is
 
--- a script is read by the lines of its text
+-- if a script has a text, its entries are read from the lines of this text
 pub text_read : (dictionary : List (List ℕ)) (bytes text : List ℕ) → script_text bytes ≡ Ok text
     → entries dictionary bytes ≡ entries_of (with_found (Ok first_script) (lines_found dictionary 1 (text_lines text)))
 unfolding entries

@@ -6,4 +6,3 @@ pub mod Presses
 pub mod Strings
 pub mod Words
 pub mod WordsLeft
-pub mod HostEntries

@@ -1,4 +1,4 @@
--- How a script is cut into lines.
+-- How a script is split into lines.
 use Rattle.std.specs.Prelude.{ℕ, ◌==◌, Bool, not, ◌&&◌, ◌||◌, if◌then◌else◌, List, [], ◌∷◌}
 use Rattle.std.specs.List.{onto_first}
 
@@ -6,12 +6,12 @@ use Rattle.std.specs.List.{onto_first}
 abbrev pub is_end : ℕ → Bool
 is_end b = (b == 10) || (b == 13)
 
--- a byte ends a line, with the bytes behind it: LF, and a CR that no LF follows
+-- whether a byte that precedes these bytes ends a line: an LF, or a CR that no LF follows
 abbrev pub ends_line : ℕ → List ℕ → Bool
 ends_line b [] = is_end b
 ends_line b (next ∷ bytes) = (b == 10) || ((b == 13) && not (next == 10))
 
--- the lines of a text: LF, CR LF and a lone CR end one, and bytes behind the last end are one more
+-- the lines of a text: LF, CR LF or a lone CR ends each line, and bytes after the last line end are a line too
 abbrev pub text_lines : List ℕ → List (List ℕ)
 text_lines [] = []
 text_lines (b ∷ bytes) =
@@ -19,7 +19,7 @@ text_lines (b ∷ bytes) =
     else if b == 13 then text_lines bytes
     else onto_first b (text_lines bytes)
 
--- how many bytes the line end has with which a text begins
+-- the size in bytes of the line end with which a text begins
 abbrev pub end_size : List ℕ → ℕ
 end_size [] = 0
 end_size (b ∷ []) = 1

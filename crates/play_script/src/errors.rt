@@ -1,10 +1,10 @@
 use kmn_base::{Memory, Refusal};
 use thiserror::Error;
 
-/// Why a script was not read.
+/// The error of a script that cannot be read.
 #[derive(Debug, Drop, Error)]
 pub enum ScriptError {
-    /// A rule of the form is broken, P01 to P08.
+    /// The script breaks one of the rules P01 to P08.
     #[error("refused {} line {}", .0.code, .0.line)]
     Refused(Refusal),
     #[error("out of memory")]

@@ -1,4 +1,4 @@
-//! The lines of a script one by one.
+//! Reads the lines of a script one by one.
 
 ghost use Rattle.std.specs.Prelude.{◌≡◌, ◌+◌, ◌<◌, ◌≤◌, ◌∷◌, length, take, drop, position, Ok, Err, IfOk, IsSomeAnd, MatchResult};
 ghost use Rattle.std.specs.List.{position_or_len};
@@ -15,10 +15,11 @@ use kmn_base::limits::TEXT_BYTES;
 use kmn_base::slices::behind;
 use kmn_base::texts::without_mark;
 use kmn_base::{Code, Seq};
-use rule_model::{Entry, KeyDictionary};
+use rule_model::Entry;
 use std::alloc::Global;
+use virtual_keys::KeyDictionary;
 
-/// What a line is that begins with a word.
+/// The kind of a line that begins with a word.
 #[derive(Clone, Copy)]
 pub enum LineKind {
     Caret,
@@ -27,7 +28,7 @@ pub enum LineKind {
     Expect,
 }
 
-/// What a line is by its first word.
+/// Returns the kind of a line with this first word, if any.
 fn kind_of(word: &[u8]) -> Option<LineKind>
     ensures { result ≡ kind_of word.now }
 {
@@ -44,7 +45,7 @@ fn kind_of(word: &[u8]) -> Option<LineKind>
     }
 }
 
-/// Reads a line by its kind.
+/// Reads the rest of a line by the kind of the line. A line without a kind breaks P02.
 fn read_kind(
     alloc: Global,
     line: u32,
@@ -63,7 +64,7 @@ fn read_kind(
     }
 }
 
-/// Reads a line that begins with no blank.
+/// Reads a line that does not begin with a blank.
 fn read_text(
     alloc: Global,
     dictionary: &KeyDictionary,
@@ -86,8 +87,8 @@ fn read_text(
     }
 }
 
-/// Reads a line, with all codes but P01 and P06, which are of a whole script. After an error nothing is known of the reader,
-/// which may have the first entries of the line.
+/// Reads a line. Checks all rules except P01 and P06, which apply to a whole script. After an error, the content of the reader
+/// is unspecified: it may have the first entries of the line.
 pub fn read_line(
     alloc: Global,
     dictionary: &KeyDictionary,
@@ -100,7 +101,7 @@ pub fn read_line(
     read_text(alloc, dictionary, line, without_blanks(text), reader)
 }
 
-/// The place of the first line end.
+/// Returns the position of the first line end.
 fn first_end(text: &[u8]) -> Option<usize>
     ensures { result ≡ position is_end text.now }
 {
@@ -108,7 +109,7 @@ fn first_end(text: &[u8]) -> Option<usize>
         .position(|byte| *byte == b'\n' || *byte == b'\r')
 }
 
-/// How many bytes the first line has.
+/// Returns the length of the first line in bytes.
 #[tactic(auto, using(crate::proofs::WordLaws::place_of_first))]
 fn line_length(text: &[u8]) -> usize
     ensures within { result ≤ length text.now }
@@ -117,7 +118,7 @@ fn line_length(text: &[u8]) -> usize
     first_end(text).unwrap_or(text.len())
 }
 
-/// How many bytes the line end has with which a text begins.
+/// Returns the size in bytes of the line end with which a text begins.
 fn end_size(text: &[u8]) -> usize
     ensures is { result ≡ end_size text.now }
     ensures few { result ≤ 2 }
@@ -129,7 +130,7 @@ fn end_size(text: &[u8]) -> usize
     }
 }
 
-/// The first line of a text that isn't empty, and what stands behind its line end.
+/// Splits a text that isn't empty into its first line and the text after the line end.
 #[tactic(auto, using(crate::proofs::TextLaws::first_steps))]
 pub fn first_line(text: &[u8]) -> (&[u8], &[u8])
     requires { 0 < length text.now }
@@ -165,7 +166,9 @@ fn read_lines(
     Ok(reader.into_entries())
 }
 
-/// The text of a script without a first U+FEFF; P06 where the script is too long, P01 where it isn't UTF-8, both with line 1.
+/// Returns the text of a script without a leading U+FEFF.
+///
+/// Errors: P06 if the script is too long, P01 if it isn't UTF-8, both with line 1.
 pub fn script_text(bytes: &[u8]) -> Result<&[u8], ScriptError>
     ensures is { MatchResult result (λ text. script_text bytes.now ≡ Ok text.now) (λ error. IsSomeAnd (refusal_of error) (λ refusal. script_text bytes.now ≡ Err refusal)) }
     ensures within { IfOk result (λ text. length text.now ≤ TEXT_BYTES) }
@@ -179,8 +182,10 @@ pub fn script_text(bytes: &[u8]) -> Result<&[u8], ScriptError>
     }
 }
 
-/// The entries of a script for a keyboard with these names of keys, or the first of P01 to P08 that it breaks: P06 and P01
-/// of the whole script, with line 1, then the others by line and in reading order.
+/// Returns the entries of a script for a keyboard with these names of keys.
+///
+/// Errors: the first of P01 to P08 that the script breaks: P06 and P01 for the whole script, with line 1, then the others by
+/// line and in reading order; `Memory` if an allocation fails.
 #[tactic(auto, using(crate::proofs::TextLaws::text_read))]
 pub fn read_script(
     alloc: Global,

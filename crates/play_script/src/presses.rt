@@ -1,4 +1,4 @@
-//! The key presses of a line.
+//! Reads the key presses of a line.
 
 ghost use Rattle.std.specs.Prelude.{◌≡◌, ◌<◌, ◌∷◌, [], false, length, Ok, MatchOption, MatchResult};
 ghost use Rattle.std.specs.List.{slice_split, position};
@@ -15,9 +15,9 @@ use crate::text_words::{TextWords, words};
 use crate::words::without_blanks;
 use kmn_base::keys::{EITHER_ALT, EITHER_CONTROL, LEFT_ALT, LEFT_CONTROL, NO_CAPS};
 use kmn_base::{Code, Event, KeyPress};
-use rule_model::{KeyDictionary, key_named, modifier_named};
+use virtual_keys::{KeyDictionary, key_named, modifier_named};
 
-/// The bit that a shift flag has in a press.
+/// Returns the bit of a shift flag in a key press, if it has one.
 fn held_bit(flag: u16) -> Option<u16>
     ensures { result ≡ held_bit flag }
 {
@@ -29,14 +29,14 @@ fn held_bit(flag: u16) -> Option<u16>
     }
 }
 
-/// The bit of a modifier word.
+/// Returns the bit of a modifier word, if the word is a modifier with a bit.
 fn modifier_bit(word: &[u8]) -> Option<u16>
     ensures { result ≡ modifier_bit word.now }
 {
     held_bit(modifier_named(word)?)
 }
 
-/// The code of a key.
+/// Returns the code of the key that a word names, else the code of the word in the dictionary, if any.
 fn key_of(dictionary: &KeyDictionary, word: &[u8]) -> Option<u16>
     ensures { result ≡ key_of dictionary.now word.now }
 {
@@ -46,7 +46,7 @@ fn key_of(dictionary: &KeyDictionary, word: &[u8]) -> Option<u16>
     }
 }
 
-/// The press of some words: modifiers, and last the key.
+/// Returns the key press that words name: modifiers, and last the key.
 fn press_of(dictionary: &KeyDictionary, words: TextWords<'_>) -> Option<KeyPress>
     ensures { result ≡ press_with dictionary.now 0 (words_left words.entry) }
 {
@@ -61,7 +61,9 @@ fn press_of(dictionary: &KeyDictionary, words: TextWords<'_>) -> Option<KeyPress
     Some(KeyPress { code, mods })
 }
 
-/// What stands behind the `[` that a text begins with; P08 where none begins.
+/// Returns the text after the `[` with which a text begins.
+///
+/// Errors: P08 if the text does not begin with a `[`.
 fn opened(line: u32, text: &[u8]) -> Result<&[u8], ScriptError>
     ensures { MatchResult result (λ inside. text.now ≡ 91 ∷ inside.now) (λ error. (begins_bracket text.now ≡ false) × (error ≡ ScriptError.Refused (record { line = line; code = P08 }))) }
 {
@@ -71,7 +73,9 @@ fn opened(line: u32, text: &[u8]) -> Result<&[u8], ScriptError>
     }
 }
 
-/// The press that the words of a bracket are; P03 where they are none.
+/// Returns the key press that the words of a bracket name.
+///
+/// Errors: P03 if they do not name one.
 pub fn needed_press(
     dictionary: &KeyDictionary,
     line: u32,
@@ -100,14 +104,14 @@ fn read_bracket(
     reader.act(line, Event::Key(press))
 }
 
-/// The place of the first `]`.
+/// Returns the position of the first `]`.
 fn first_closing(text: &[u8]) -> Option<usize>
     ensures { result ≡ position is_closing text.now }
 {
     text.iter().position(|byte| *byte == b']')
 }
 
-/// What stands before the first `]` of a text, and what stands behind it; None where it has none.
+/// Splits a text at its first `]`: returns the text before it and the text after it, or `None` if the text has no `]`.
 #[tactic(auto, using(crate::proofs::LineLaws::piece_steps))]
 pub fn first_piece(text: &[u8]) -> Option<(&[u8], &[u8])>
     ensures parts { MatchOption result (slice_split is_closing text.now ≡ text.now ∷ []) (λ parts. slice_split is_closing text.now ≡ parts.0.now ∷ slice_split is_closing parts.1.now) }
@@ -117,7 +121,9 @@ pub fn first_piece(text: &[u8]) -> Option<(&[u8], &[u8])>
     Some((&text[..at], &text[at + 1..]))
 }
 
-/// What stands behind the last bracket.
+/// Checks that no text follows the last bracket.
+///
+/// Errors: P03 if a bracket follows that isn't closed, P08 if any other text follows.
 fn read_last(line: u32, text: &[u8]) -> Result<(), ScriptError>
     ensures { Passes (last_found line text.now) result }
 {

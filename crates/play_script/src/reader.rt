@@ -1,4 +1,4 @@
-//! What was read of a script, and the readers of lines that begin with a word.
+//! The state of reading a script, and the readers of lines that begin with a word.
 
 ghost use Rattle.std.specs.Prelude.{◌≡◌, ◌∷◌, [], Ok, Some, None, MatchResult};
 ghost use Rattle.kmn_base.specs.declared.codes.Code.{Code};
@@ -18,7 +18,7 @@ use rule_model::Entry;
 use std::alloc::Global;
 use std::marker::Model;
 
-/// The entries that were read so far, and how many events were read, those before them included.
+/// The entries read so far, and the number of events read, including the events before these entries.
 #[derive(Drop)]
 pub struct Reader {
     entries: Seq<Entry>,
@@ -34,7 +34,7 @@ impl Model for Reader {
 }
 
 impl Reader {
-    /// Before the first line.
+    /// Creates a reader before the first line.
     pub(crate) fn new(alloc: Global) -> Reader
         ensures { result ≡ first_script }
     {
@@ -44,7 +44,7 @@ impl Reader {
         }
     }
 
-    /// Before a line that has so many events before it, no entry of which is wanted.
+    /// Creates a reader for a line that follows `events` earlier events. The reader does not contain their entries.
     pub fn behind(alloc: Global, events: usize) -> Reader
         ensures { result ≡ record { entries = []; events = events } }
     {
@@ -54,21 +54,23 @@ impl Reader {
         }
     }
 
-    /// How many events were read, those before the reader's first line included.
+    /// Returns the number of events read, including the events before the reader's first line.
     pub fn events(&self) -> usize
         ensures { result ≡ self.now.events }
     {
         self.events
     }
 
-    /// The entries.
+    /// Returns the entries.
     pub fn into_entries(self) -> Seq<Entry>
         ensures { result ≡ self.entries }
     {
         self.entries
     }
 
-    /// One more entry that has an event.
+    /// Appends an entry that has an event.
+    ///
+    /// Errors: P07 if the script has too many events; `Memory` if an allocation fails.
     pub(crate) fn act(&mut self, line: u32, event: Event) -> Result<(), ScriptError>
         ensures { Leaves (with_entry self.old (entry.Act line event)) self.new result }
     {
@@ -82,7 +84,9 @@ impl Reader {
         Ok(())
     }
 
-    /// One more entry that expects a text.
+    /// Appends an entry that expects a text.
+    ///
+    /// Errors: `Memory` if an allocation fails.
     pub(crate) fn expect(&mut self, line: u32, text: Seq<char>) -> Result<(), ScriptError>
         ensures { Leaves (with_entry self.old (entry.Expect line text)) self.new result }
     {
@@ -92,14 +96,16 @@ impl Reader {
     }
 }
 
-/// A rule that a line breaks.
+/// Returns the error for a rule that a line breaks.
 pub fn refused(line: u32, code: Code) -> ScriptError
     ensures { result ≡ ScriptError.Refused (record { line = line; code = code }) }
 {
     ScriptError::Refused(Refusal { line, code })
 }
 
-/// The number that stands first, of one to seven digits; P05 where none does.
+/// Returns the number with which a text begins, of one to seven digits.
+///
+/// Errors: P05 if the text does not begin with such a number.
 pub fn needed_number(line: u32, text: &[u8]) -> Result<u32, ScriptError>
     ensures { Needs line P05 (number (first_word text.now)) result }
 {
@@ -109,7 +115,9 @@ pub fn needed_number(line: u32, text: &[u8]) -> Result<u32, ScriptError>
     }
 }
 
-/// The string that the rest of a line is.
+/// Returns the string that the rest of a line denotes.
+///
+/// Errors: P04 if the rest is not a string; `Memory` if an allocation fails.
 fn needed_string(alloc: Global, line: u32, text: &[u8]) -> Result<Seq<char>, ScriptError>
     ensures { NeedsMade line P04 (string text.now) result }
 {
@@ -119,7 +127,9 @@ fn needed_string(alloc: Global, line: u32, text: &[u8]) -> Result<Seq<char>, Scr
     }
 }
 
-/// The name that stands first.
+/// Returns the name with which a text begins.
+///
+/// Errors: P04 if the text does not begin with a name.
 fn needed_name<'a>(line: u32, text: &'a [u8]) -> Result<&'a [u8], ScriptError>
     ensures { MatchResult result (λ name. some_name (first_word text.now) ≡ Some name.now) (λ error. (some_name (first_word text.now) ≡ None) × (error ≡ ScriptError.Refused (record { line = line; code = P04 }))) }
 {
@@ -129,7 +139,9 @@ fn needed_name<'a>(line: u32, text: &'a [u8]) -> Result<&'a [u8], ScriptError>
     }
 }
 
-/// Nothing stands behind a line that is complete; P08 where something does.
+/// Checks that no text follows a complete line.
+///
+/// Errors: P08 if some text follows.
 pub fn nothing_more(line: u32, rest: &[u8]) -> Result<(), ScriptError>
     ensures { Passes (nothing_more line rest.now) result }
 {
@@ -139,7 +151,7 @@ pub fn nothing_more(line: u32, rest: &[u8]) -> Result<(), ScriptError>
     }
 }
 
-/// Reads what stands behind `caret`.
+/// Reads the text after `caret`.
 pub(crate) fn read_caret(line: u32, text: &[u8], reader: &mut Reader) -> Result<(), ScriptError>
     ensures { Leaves (with_found (Ok reader.old) (caret_found line text.now)) reader.new result }
 {
@@ -148,7 +160,7 @@ pub(crate) fn read_caret(line: u32, text: &[u8], reader: &mut Reader) -> Result<
     nothing_more(line, behind_word(text))
 }
 
-/// Reads what stands behind `edit`.
+/// Reads the text after `edit`.
 pub(crate) fn read_edit(
     alloc: Global,
     line: u32,
@@ -164,7 +176,7 @@ pub(crate) fn read_edit(
     reader.act(line, Event::Edit { from, to, text })
 }
 
-/// Reads what stands behind `option`.
+/// Reads the text after `option`.
 pub(crate) fn read_option(
     alloc: Global,
     line: u32,
@@ -179,7 +191,7 @@ pub(crate) fn read_option(
     reader.act(line, Event::Setting { name, value })
 }
 
-/// Reads what stands behind `expect`.
+/// Reads the text after `expect`.
 pub(crate) fn read_expect(
     alloc: Global,
     line: u32,

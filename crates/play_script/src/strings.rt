@@ -1,4 +1,4 @@
-//! The strings of a script.
+//! Reads the strings of a script.
 
 ghost use Rattle.std.specs.Prelude.{◌≡◌, nat_eq, ◌<◌, ◌∷◌, length, IfOk, IfSome};
 ghost use Rattle.std.specs.List.{position};
@@ -13,7 +13,7 @@ use kmn_base::texts::{NO_CHARACTER, decoded};
 use kmn_base::{Memory, Seq};
 use std::alloc::Global;
 
-/// The character that a text is by its number.
+/// Returns the character that a text names by its code point, if any.
 fn code_point(text: &[u8]) -> Option<char>
     ensures { result ≡ code_point text.now }
 {
@@ -27,7 +27,7 @@ fn code_point(text: &[u8]) -> Option<char>
     }
 }
 
-/// The place of the first quote of a kind.
+/// Returns the position of the first quote of a kind.
 fn first_quote(quote: u8, text: &[u8]) -> Option<usize>
     ensures place { result ≡ position (λ b. nat_eq b quote) text.now }
     ensures within { IfSome result (λ place. place < length text.now) }
@@ -35,7 +35,8 @@ fn first_quote(quote: u8, text: &[u8]) -> Option<usize>
     text.iter().position(|byte| *byte == quote)
 }
 
-/// The token of a string between two quotes, of which the first stands before the text.
+/// Returns the characters of a quoted token and its size in bytes, or `None` if it has no closing quote. The opening quote
+/// precedes the text.
 fn quoted_token(alloc: Global, quote: u8, text: &[u8]) -> Result<Option<(Seq<char>, usize)>, Memory>
     ensures { IfOk result (λ token. token ≡ quoted_token text.now (position (λ b. nat_eq b quote) text.now)) }
 {
@@ -45,7 +46,7 @@ fn quoted_token(alloc: Global, quote: u8, text: &[u8]) -> Result<Option<(Seq<cha
     }
 }
 
-/// The place of the first byte that ends a token without quotes.
+/// Returns the position of the first byte that ends an unquoted token.
 fn first_end(text: &[u8]) -> Option<usize>
     ensures { result ≡ position ends_token text.now }
 {
@@ -53,7 +54,7 @@ fn first_end(text: &[u8]) -> Option<usize>
         .position(|byte| is_blank(*byte) || is_quote(*byte))
 }
 
-/// The bytes of the token without quotes with which a text begins.
+/// Returns the bytes of the unquoted token with which a text begins.
 #[tactic(auto, using(crate::proofs::WordLaws::place_of_first))]
 fn unquoted(text: &[u8]) -> &[u8]
     ensures { result.now ≡ unquoted text.now }
@@ -61,7 +62,7 @@ fn unquoted(text: &[u8]) -> &[u8]
     &text[..first_end(text).unwrap_or(text.len())]
 }
 
-/// The token of a string that is a character by its number.
+/// Returns the characters and the size of an unquoted token, which names a character by its code point.
 fn written_token(alloc: Global, written: &[u8]) -> Result<Option<(Seq<char>, usize)>, Memory>
     ensures { IfOk result (λ token. token ≡ written_token written.now) }
 {
@@ -71,7 +72,7 @@ fn written_token(alloc: Global, written: &[u8]) -> Result<Option<(Seq<char>, usi
     }
 }
 
-/// The token with which a text begins that has a byte.
+/// Returns the token with which a text begins. The text is `first` followed by `inside`.
 fn begun_token(
     alloc: Global,
     first: u8,
@@ -88,7 +89,7 @@ fn begun_token(
     }
 }
 
-/// The token of a string with which a text begins.
+/// Returns the string token with which a text begins, if any.
 fn string_token(alloc: Global, text: &[u8]) -> Result<Option<(Seq<char>, usize)>, Memory>
     ensures { IfOk result (λ token. token ≡ string_token text.now) }
 {
@@ -98,7 +99,7 @@ fn string_token(alloc: Global, text: &[u8]) -> Result<Option<(Seq<char>, usize)>
     }
 }
 
-/// The characters of the tokens of a text up to its end.
+/// Returns the characters of all tokens of a text, or `None` if the text does not consist of tokens and blanks.
 #[tactic(auto, using(crate::proofs::StringLaws::token_steps))]
 fn tokens_chars(alloc: Global, text: &[u8]) -> Result<Option<Seq<char>>, Memory>
     ensures { IfOk result (λ read. read ≡ tokens_chars 0 text.now) }
@@ -117,7 +118,7 @@ fn tokens_chars(alloc: Global, text: &[u8]) -> Result<Option<Seq<char>>, Memory>
     Ok(Some(all))
 }
 
-/// Characters that aren't too many for a string.
+/// Returns the characters if they are not too many for a string.
 fn short(characters: Seq<char>) -> Option<Seq<char>>
     ensures { result ≡ short characters }
 {
@@ -128,7 +129,7 @@ fn short(characters: Seq<char>) -> Option<Seq<char>>
     }
 }
 
-/// The string that a text is.
+/// Returns the string that a text denotes, if any.
 pub(crate) fn string(alloc: Global, text: &[u8]) -> Result<Option<Seq<char>>, Memory>
     ensures { IfOk result (λ read. read ≡ string text.now) }
 {

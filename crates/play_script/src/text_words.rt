@@ -6,13 +6,13 @@ ghost use Rattle.play_script.specs.WordsLeft.{words_left};
 use crate::words::{without_blanks, word_length};
 use kmn_base::slices::behind;
 
-/// The words of a text.
+/// An iterator over the words of a text.
 #[derive(Clone, Copy)]
 pub struct TextWords<'a> {
     rest: &'a [u8],
 }
 
-/// The words of a text.
+/// Returns an iterator over the words of a text.
 pub fn words(text: &[u8]) -> TextWords<'_>
     ensures { words_left result ≡ words text.now }
 {

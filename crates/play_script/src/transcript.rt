@@ -1,7 +1,7 @@
-//! The lines of a transcript, each with its LF.
+//! Writes the lines of a transcript, each with its LF.
 //!
-//! For want of memory no line comes. What then stands in a string to which a part was being put no clause says, since the kit's
-//! `write!` tells nothing of it: whoever has such a string drops it.
+//! If an allocation fails, no line is returned. The content of a string to which a part was being appended is then unspecified,
+//! since the kit's `write!` does not specify it: the caller drops such a string.
 
 ghost use Rattle.std.specs.Prelude.{◌≡◌, ◌++◌, map, codes, IfOk, if◌then◌else◌};
 ghost use Rattle.std.specs.String.{string_bytes};
@@ -11,7 +11,7 @@ ghost use Rattle.rule_model.specs.Transcript.{element_text, value_line, expect_l
 use kmn_base::{Code, Element, Item, Memory, Outcome, Seq, Text};
 use std::alloc::{AllocError, Global};
 
-/// The line of an event: its number, what it did, what it inserted and the context after it.
+/// Returns the line of an event: its number, what it did, what it inserted and the cached context after it.
 #[tactic(auto, unfolding(rule_model::specs::Lines::event_line))]
 pub fn line_of(
     alloc: Global,
@@ -32,7 +32,8 @@ pub fn line_of(
     Ok(Text::from_string(line))
 }
 
-/// Whether the key was passed on, beeps, and groups entered. After want of memory nothing is known of the line.
+/// Appends whether the key was passed on, the number of beeps and the number of groups entered. If an allocation fails, the
+/// content of the line is unspecified.
 pub fn put_counts(line: &mut String, outcome: Outcome) -> Result<(), AllocError>
     ensures { IfOk result (λ _. string_bytes line.new ≡ string_bytes line.old ++ counts_text outcome) }
 {
@@ -44,14 +45,14 @@ pub fn put_counts(line: &mut String, outcome: Outcome) -> Result<(), AllocError>
     )
 }
 
-/// A truth value as 1 or 0.
+/// Returns a truth value as 1 or 0.
 fn digit(value: bool) -> &'static str
     ensures { result.now ≡ (if value then codes "1" else codes "0") }
 {
     if value { "1" } else { "0" }
 }
 
-/// The line of an option's new value, of its saved one or of its current one. The name is printed as it is.
+/// Returns the line of an option's new value, either its saved value or its current value. The name is printed unchanged.
 pub fn value_line(
     alloc: Global,
     saved: bool,
@@ -69,21 +70,21 @@ pub fn value_line(
     Ok(line)
 }
 
-/// What the line of a value begins with.
+/// Returns the beginning of the line of a value.
 fn value_word(saved: bool) -> &'static [u8]
     ensures { result.now ≡ (if saved then codes "save " else codes "opt ") }
 {
     if saved { b"save " } else { b"opt " }
 }
 
-/// The line of an expected text that differs, by its line in the script.
+/// Returns the line for an expected text that differs, with its line in the script.
 pub fn expect_line(alloc: Global, line: u32) -> Result<Text, Memory>
     ensures { IfOk result (λ text. text ≡ expect_line line) }
 {
     Ok(Text::from_string(format!(in alloc; "expect failed line={line}\n")?))
 }
 
-/// The line of an event that is refused.
+/// Returns the line of a refused event.
 pub fn refused_event_line(alloc: Global, number: u32, code: Code) -> Result<Text, Memory>
     ensures { IfOk result (λ line. line ≡ refused_event_line number code) }
 {
@@ -94,7 +95,7 @@ pub fn refused_event_line(alloc: Global, number: u32, code: Code) -> Result<Text
     Ok(line)
 }
 
-/// The line of the text before the caret and of the text after it.
+/// Returns the line of the text before the caret and the text after it.
 #[tactic(auto, unfolding(rule_model::specs::Lines::text_line))]
 pub fn text_line(alloc: Global, left: &[char], right: &[char]) -> Result<Text, Memory>
     ensures { IfOk result (λ line. line ≡ text_line left.now right.now) }
@@ -107,7 +108,7 @@ pub fn text_line(alloc: Global, left: &[char], right: &[char]) -> Result<Text, M
     Ok(Text::from_string(line))
 }
 
-/// The last line: how many events there were, and how many expected texts differed.
+/// Returns the last line: the number of events and the number of expected texts that differed.
 #[tactic(auto, unfolding(rule_model::specs::Lines::end_line))]
 pub fn end_line(alloc: Global, events: usize, failed: usize) -> Result<Text, Memory>
     ensures { IfOk result (λ line. line ≡ end_line events failed) }
@@ -115,8 +116,8 @@ pub fn end_line(alloc: Global, events: usize, failed: usize) -> Result<Text, Mem
     Ok(Text::from_string(format!(in alloc; "end events={events} failed={failed}\n")?))
 }
 
-/// Characters as code points joined by dots, or `-` where there are none. After want of memory nothing is known of the line,
-/// which may have the first of them.
+/// Appends characters as code points joined by dots, or `-` if there are none. If an allocation fails, the content of the line
+/// is unspecified: it may have the first of them.
 pub fn put_characters(line: &mut String, characters: &[char]) -> Result<(), AllocError>
     ensures { IfOk result (λ _. string_bytes line.new ≡ string_bytes line.old ++ joined (map hexadecimal characters.now)) }
 {
@@ -131,7 +132,7 @@ pub fn put_characters(line: &mut String, characters: &[char]) -> Result<(), Allo
     Ok(())
 }
 
-/// Items joined by dots, or `-` where there are none.
+/// Appends items joined by dots, or `-` if there are none.
 fn put_items(line: &mut String, items: &[Item]) -> Result<(), AllocError>
     ensures { IfOk result (λ _. string_bytes line.new ≡ string_bytes line.old ++ joined (map item_text items.now)) }
 {
@@ -146,7 +147,7 @@ fn put_items(line: &mut String, items: &[Item]) -> Result<(), AllocError>
     Ok(())
 }
 
-/// Elements joined by dots, or `-` where there are none.
+/// Appends elements joined by dots, or `-` if there are none.
 fn put_elements(line: &mut String, elements: &[Element]) -> Result<(), AllocError>
     ensures { IfOk result (λ _. string_bytes line.new ≡ string_bytes line.old ++ joined (map element_text elements.now)) }
 {
@@ -161,7 +162,7 @@ fn put_elements(line: &mut String, elements: &[Element]) -> Result<(), AllocErro
     Ok(())
 }
 
-/// A character as its code point, a mark as `d` and its number.
+/// Appends a character as its code point, or a mark (a deadkey in the item list) as `d` and its number.
 fn put_item(line: &mut String, item: Item) -> Result<(), AllocError>
     ensures { IfOk result (λ _. string_bytes line.new ≡ string_bytes line.old ++ item_text item) }
 {
@@ -171,7 +172,7 @@ fn put_item(line: &mut String, item: Item) -> Result<(), AllocError>
     }
 }
 
-/// A character as its code point, a mark as `d` and its number, a virtual key as `k` and its code.
+/// Appends a character as its code point, a mark as `d` and its number, or a virtual key as `k` and its code.
 fn put_element(line: &mut String, element: Element) -> Result<(), AllocError>
     ensures { IfOk result (λ _. string_bytes line.new ≡ string_bytes line.old ++ element_text element) }
 {
@@ -182,7 +183,7 @@ fn put_element(line: &mut String, element: Element) -> Result<(), AllocError>
     }
 }
 
-/// A virtual key as `k` and its code.
+/// Appends a virtual key as `k` and its code.
 fn put_key(line: &mut String, code: u16) -> Result<(), AllocError>
     ensures { IfOk result (λ _. string_bytes line.new ≡ string_bytes line.old ++ (codes "k" ++ hexadecimal code)) }
 {
@@ -190,7 +191,7 @@ fn put_key(line: &mut String, code: u16) -> Result<(), AllocError>
     put_code(line, u32::from(code))
 }
 
-/// A code in at least four hexadecimal digits.
+/// Appends a code in at least four hexadecimal digits.
 #[tactic(auto, using(crate::proofs::Hexadecimal::padded_hexadecimal))]
 fn put_code(line: &mut String, code: u32) -> Result<(), AllocError>
     ensures { IfOk result (λ _. string_bytes line.new ≡ string_bytes line.old ++ hexadecimal code) }

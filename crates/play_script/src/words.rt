@@ -1,4 +1,4 @@
-//! The words of a line, and the numbers and names that words are.
+//! The words of a line, and the numbers and names that words denote.
 
 ghost use Rattle.std.specs.Prelude.{◌≡◌, ◌≤◌, length, option_copied};
 ghost use Rattle.std.specs.List.{position, position_or_len};
@@ -11,7 +11,7 @@ use kmn_base::limits::SOURCE_NAME_CHARS;
 use kmn_base::slices::behind;
 use kmn_base::texts::character_count;
 
-/// The text from its first byte that is no blank.
+/// Returns a text without its leading blanks.
 pub fn without_blanks(text: &[u8]) -> &[u8]
     ensures is { result.now ≡ without_blanks text.now }
     ensures within { length result.now ≤ length text.now }
@@ -27,14 +27,14 @@ pub fn without_blanks(text: &[u8]) -> &[u8]
     rest
 }
 
-/// The place of the first blank.
+/// Returns the position of the first blank.
 fn first_blank(text: &[u8]) -> Option<usize>
     ensures { result ≡ position is_blank text.now }
 {
     text.iter().position(|byte| is_blank(*byte))
 }
 
-/// How many bytes stand before the first blank.
+/// Returns the number of bytes before the first blank, or the length of the text if it has no blank.
 #[tactic(auto, using(crate::proofs::WordLaws::place_of_first))]
 pub(crate) fn word_length(text: &[u8]) -> usize
     ensures within { result ≤ length text.now }
@@ -43,21 +43,21 @@ pub(crate) fn word_length(text: &[u8]) -> usize
     first_blank(text).unwrap_or(text.len())
 }
 
-/// The word that a text begins with.
+/// Returns the word with which a text begins.
 pub fn first_word(text: &[u8]) -> &[u8]
     ensures { result.now ≡ first_word text.now }
 {
     &text[..word_length(text)]
 }
 
-/// What stands behind it and the blanks that follow.
+/// Returns the text after the first word and the blanks that follow it.
 pub fn behind_word(text: &[u8]) -> &[u8]
     ensures { result.now ≡ behind_word text.now }
 {
     without_blanks(behind(text, word_length(text)))
 }
 
-/// Whether a word is from so many to so many digits of a base.
+/// Returns whether a word consists of `least` to `most` digits of a base.
 pub(crate) fn has_digits(base: u32, least: usize, most: usize, word: &[u8]) -> bool
     requires least { 2 ≤ base }
     requires most { base ≤ 16 }
@@ -66,7 +66,7 @@ pub(crate) fn has_digits(base: u32, least: usize, most: usize, word: &[u8]) -> b
     least <= word.len() && word.len() <= most && are_digits(base, word)
 }
 
-/// The number that a word is.
+/// Returns the number that a word denotes, of one to seven decimal digits, if any.
 pub(crate) fn number(word: &[u8]) -> Option<u32>
     ensures { result ≡ number word.now }
 {
@@ -77,7 +77,7 @@ pub(crate) fn number(word: &[u8]) -> Option<u32>
     }
 }
 
-/// The name that a word is.
+/// Returns the word if it can be a name: 1 to `SOURCE_NAME_CHARS` characters.
 pub(crate) fn name(word: &[u8]) -> Option<&[u8]>
     ensures { option_copied result ≡ name word.now }
 {

@@ -1,4 +1,4 @@
--- Where no value changes there is no change.
+-- If no value changes, there are no changes.
 use Rattle.std.proofs.Common.{◌≡◌, ℕ, ◌+◌, true, false, not, List, [], ◌∷◌, ◌++◌, Option, Some, None, refl, ap}
 use Rattle.std.specs.Prelude.{if◌then◌else◌}
 use Rattle.kmn_base.specs.declared.items.Element.{Element}

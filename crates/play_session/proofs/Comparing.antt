@@ -6,11 +6,11 @@ use Rattle.std.specs.Prelude.{◌&&◌, if◌then◌else◌, length, slice_get, 
 use Rattle.std.specs.Option.{option_flatten}
 use Rattle.kmn_base.specs.declared.items.Element.{Element}
 use Rattle.kmn_base.specs.declared.items.Element.TheVariants as element
-use Rattle.engine_state.specs.declared.options.Cell.{Cell}
-use Rattle.engine_state.specs.declared.options.Held.{Held}
-use Rattle.engine_state.specs.declared.options.Held.TheVariants.{Store, Host}
-use Rattle.engine_state.specs.Cells.{cell_at, current_value, held_value, saved_value}
-use Rattle.engine_state.specs.Meaning.{option_values}
+use Rattle.option_store.specs.declared.options.Cell.{Cell}
+use Rattle.option_store.specs.declared.options.Held.{Held}
+use Rattle.option_store.specs.declared.options.Held.TheVariants.{Store, Host}
+use Rattle.option_store.specs.Cells.{cell_at, current_value, held_value, saved_value}
+use Rattle.option_store.specs.Meaning.{option_values}
 use Rattle.rule_model.specs.declared.tables.Tables.{Tables}
 use Rattle.rule_model.specs.Content.{content, option_number, options_before}
 use Rattle.rule_model.specs.Keyboard.{Numbered, StoreMeaning, stated}
@@ -23,7 +23,7 @@ use Rattle.rule_engine.specs.Engine.{EngineState}
 use Rattle.play_session.specs.declared.changes.Change.{Change}
 use Rattle.play_session.specs.Changes.{Values, are_of_one_store, current_at, saved_at, is_newly_saved, current_change, saved_change, values_in, values_now}
 
--- what an option's store has is the option's value
+-- if a store is an option, its content is the value of the option
 pub content_is_value : (stores : List StoreMeaning) (values : List (List Element)) (n option : ℕ) → option_number stores (Numbered n) ≡ Some option
     → content stores values (Numbered n) ≡ unwrap_or (slice_get values option) []
 content_is_value stores values n option is = content_of_option values (options_before n stores) option (slice_get stores n) is
@@ -42,7 +42,7 @@ pub same_as_itself : (value : List Element) → same_value value value ≡ true
 same_as_itself [] = refl
 same_as_itself (e ∷ value) = ap (λ (t : Bool). t && same_value value value) (same_element_itself e) ∙ same_as_itself value
 
--- what is held as the elements of one store is the same
+-- if two values are held as the elements of the same store, they are the same
 held_in_one : (elements : List (List Element)) (a b : Held) (text other : List ℕ) → are_of_one_store a b ≡ true
     → same_value (held_value elements text a) (held_value elements other b) ≡ true
 held_in_one elements (Store a) (Store b) text other one =
@@ -51,7 +51,7 @@ held_in_one elements (Store a) (Store b) text other one =
 held_in_one elements (Store a) Host text other one = absurd (cc)
 held_in_one elements Host b text other one = absurd (cc)
 
--- an option whose current value is held as before has the value that it had
+-- if the current value of an option is held as the elements of the same store as before, the option has the value that it had
 pub held_as_before : (engine : EngineState) (cells : List Cell) (was : Cell) (store option : ℕ)
     → option_number (tab engine.tables).stores (Numbered store) ≡ Some option → store < length cells
     → option_values (tab engine.tables).stores cells ≡ engine.current
@@ -66,7 +66,7 @@ held_as_before engine cells was store option is within values one =
     sym (ap (same_value (current_value (stated stores) was)) (sym has)
     ∙ held_in_one (stated stores) was.current (cell_at cells store).current was.text (cell_at cells store).text one)
 
--- what an option's cell stands for is the option's value
+-- the value that the cell of an option denotes is the value of the option
 module _ {X : Type 0} (value : Cell → X) (cells : List Cell) (option : ℕ) (d : Cell) (within : option < length cells) where
   value_of_cell : slice_get (map value cells) option ≡ Some (value (get_or cells option d))
   value_of_cell = slice_get-map value cells option ∙ ap (option_map value) (slice_get-get_or cells option d within)
@@ -81,7 +81,7 @@ pub cell_has_saved : (tables : Tables) (cells : List Cell) (option : ℕ) (d : C
 cell_has_saved tables cells option d within =
     ap option_flatten (value_of_cell (saved_value (stated (tab tables).stores)) cells option d within)
 
--- a value that is the same has no change
+-- if a value is the same as before, it has no change
 module _ (before after : Values) (store option : ℕ) (changes : List Change) where
   pub current_stays : (was now : List Element) → was ≡ current_at before option → now ≡ current_at after option → true ≡ same_value was now
       → changes ≡ changes ++ current_change before after store option

@@ -8,8 +8,3 @@ pub mod Printing
 pub mod Readings
 pub mod Rooms
 pub mod Stepping
-mod CaretMoves
-pub mod Places
-pub mod Alone
-mod Errors
-mod Fields

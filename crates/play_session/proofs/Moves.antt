@@ -1,4 +1,4 @@
--- What a caret move, an edit from outside and a setting make of an engine and an editor that are together.
+-- The effect of a caret move, an external edit and an option change on an engine and an editor that are together.
 use Rattle.std.proofs.Common.{◌≡◌, ℕ, ◌+◌, ◌-◌, ◌≤◌, List, ◌++◌, length, map, take, drop, Option, Some, None, refl, sym, ◌∙◌, ap, subst, arith, length-append, length-drop}
 use Rattle.std.specs.Prelude.{◌≢◌, Result, Err}
 use Rattle.std.proofs.lemmas.Option.{none-some}
@@ -12,27 +12,27 @@ use Rattle.kmn_base.specs.declared.items.Element.{Element}
 use Rattle.kmn_base.specs.declared.items.Element.TheVariants.{Char}
 use Rattle.kmn_base.specs.declared.limits.TheConstants.{TEXT_CHARS}
 use Rattle.rule_model.specs.Event.{text_becomes, caret_event, edit_event, edited_text, edit_refusal, moved_caret, event_refusal, whole_text, set_option, setting_event}
-use Rattle.engine_state.specs.Cached.{text_with_context}
+use Rattle.context_cache.specs.Cached.{text_with_context}
 use Rattle.rule_engine.specs.Engine.{EngineState, option_named, with_option, set_by_host}
-use Rattle.play_session.specs.Text.{EditorText, whole, IsAt, HasTextOf}
-use Rattle.play_session.specs.declared.error.EditError.{EditError}
-use Rattle.play_session.specs.declared.error.EditError.TheVariants as edit
-use Rattle.play_session.specs.EditAnswers.{caret_refusal}
-use Rattle.play_session.specs.EditAnswers.{code_of as edit_code}
+use Rattle.editor_model.specs.Text.{EditorText, whole, IsAt, HasTextOf}
+use Rattle.editor_model.specs.declared.error.EditError.{EditError}
+use Rattle.editor_model.specs.declared.error.EditError.TheVariants as edit
+use Rattle.editor_model.specs.Answers.{caret_refusal}
+use Rattle.editor_model.specs.Answers.{code_of as edit_code}
 use Rattle.play_session.specs.declared.session.StepError.{StepError}
 use Rattle.play_session.specs.declared.session.StepError.TheVariants as step
 use Rattle.play_session.specs.Answers.{code_of}
 use Rattle.play_session.specs.Session.{AreTogether, stands_for}
 
--- the whole text of a session is its editor's
+-- the whole text of a session is the whole text of its editor
 pub whole_is : (engine : EngineState) (editor : EditorText) → AreTogether TEXT_CHARS engine editor → whole_text (stands_for engine editor) ≡ whole editor
 whole_is engine editor h = ap (λ (left : List ℕ). left ++ editor.right) h.same
 
--- a text with its caret somewhere is the text
+-- if an editor has a text with the caret at some position, its whole text is that text
 at_whole : (text : List ℕ) (caret : ℕ) (editor : EditorText) → IsAt text caret editor → whole editor ≡ text
 at_whole text caret editor h = (λ i. h.left i ++ h.right i) ∙ take-append-drop caret text
 
--- an editor that has the text of another one serves as well
+-- an editor that has the text of another editor can replace it
 pub record ServesAsWell (limit : ℕ) (engine : EngineState) (editor after : EditorText) : Type 0 where
   pub state : stands_for engine after ≡ stands_for engine editor
   pub together : AreTogether limit engine after
@@ -50,7 +50,7 @@ same_text limit engine editor after h text =
       };
     }
 
--- what is known of a caret that moved
+-- the properties of an editor after a caret move
 pub record IsMoved (engine : EngineState) (editor after : EditorText) (place : ℕ) : Type 0 where
   pub few : length (whole after) ≤ TEXT_CHARS
   pub state : text_becomes after.left after.right (stands_for engine editor) ≡ caret_event place (stands_for engine editor)
@@ -63,12 +63,12 @@ caret_moved engine editor after place h at =
       state = λ i. text_becomes ((at.left ∙ ap (take place) same) i) ((at.right ∙ ap (drop place) same) i) (stands_for engine editor);
     }
 
--- the refusal of a caret move is the session's
+-- an editor refuses a caret move with the same code as the session
 pub caret_refused : (engine : EngineState) (editor : EditorText) (place : ℕ) → AreTogether TEXT_CHARS engine editor
     → caret_refusal place (length (whole editor)) ≡ event_refusal (stands_for engine editor) (event.Caret place)
 caret_refused engine editor place h = ap (λ (text : List ℕ). caret_refusal place (length text)) (sym (whole_is engine editor h))
 
--- an editor's error that isn't want of memory isn't given as it
+-- if an editor's error is not `Memory`, the error of the step is not `Memory`
 abbrev failed : EditError → Result (Unit {0}) EditError
 failed error = Err error
 
@@ -77,7 +77,7 @@ wants_none edit.Place given same apart is = none-some E1 (sym (ap code_of is) �
 wants_none edit.Length given same apart is = none-some E2 (sym (ap code_of is) ∙ same)
 wants_none edit.Memory given same apart is = apart refl
 
--- the same of an edit
+-- the properties of an editor after an edit
 pub record IsEdited (engine : EngineState) (editor after : EditorText) (from to : ℕ) (text : List ℕ) : Type 0 where
   pub few : length (whole after) ≤ TEXT_CHARS
   pub state : text_becomes after.left after.right (stands_for engine editor) ≡ edit_event from to text (stands_for engine editor)
@@ -86,7 +86,7 @@ pub edit_refused : (engine : EngineState) (editor : EditorText) (from to : ℕ) 
     → edit_refusal from to (length text) (length (whole editor)) ≡ event_refusal (stands_for engine editor) (event.Edit from to text)
 edit_refused engine editor from to text h = ap (λ (t : List ℕ). edit_refusal from to (length text) (length t)) (sym (whole_is engine editor h))
 
--- an edit that isn't refused leaves no more than a million characters
+-- if an edit is not refused, the text has at most a million characters after it
 edit_few : (from to count n : ℕ) → edit_refusal from to count n ≡ None → (to ≤ n) × (n - (to - from) + count ≤ 1_000_000) × (from ≤ to)
 edit_few from to count n none = grind (arith, nat_tests, common_steps)
 
@@ -118,7 +118,7 @@ pub ruleset caret_steps = (caret_moved, caret_refused, wants_none, same_text)
 
 pub ruleset edit_steps = (edit_done, edit_refused, same_text)
 
--- what a setting makes of an engine is what it makes of the state
+-- an option change has the same effect on an engine and an editor as on the state that they represent
 option_is_set : (engine : EngineState) (editor : EditorText) (option : Option ℕ) (value : List Element)
     → stands_for (with_option option value engine) editor ≡ set_option option value (stands_for engine editor)
 option_is_set engine editor None value = refl
@@ -128,7 +128,7 @@ pub host_sets : (engine : EngineState) (editor : EditorText) (name value : List 
     → stands_for (set_by_host name value engine) editor ≡ setting_event name value (stands_for engine editor)
 host_sets engine editor name value = option_is_set engine editor (option_named name engine) (map Char value)
 
--- and the text of the session stays, with what the last press did
+-- an option change keeps the text of the session, its tables, and the inserted text and chosen lines of the last press
 texts_stay : (limit : ℕ) (engine : EngineState) (editor : EditorText) (option : Option ℕ) (value : List Element) → AreTogether limit engine editor → AreTogether limit (with_option option value engine) editor
 texts_stay limit engine editor None value h = h
 texts_stay limit engine editor (Some option) value h = record { same = h.same; sound = h.sound; context = h.context; few = h.few }

@@ -1,4 +1,4 @@
--- The stores that are options: their numbers, the values that their cells stand for, and what changed of them.
+-- The stores that are options: their numbers, the values that their cells denote, and their changes.
 use Rattle.std.proofs.Common.{◌≡◌, ℕ, zero, suc, ◌+◌, ◌<◌, Bool, true, false, if◌then◌else◌, List, [], ◌∷◌, ◌++◌, length, get_or, map, Option, Some, None, refl, sym, ap, subst, ◌∙◌, arith}
 use Rattle.std.specs.Prelude.{slice_get, unwrap_or}
 use Rattle.std.specs.Option.{option_flatten}
@@ -9,9 +9,9 @@ use Rattle.rule_model.specs.Plain.{of_options, option_numbers}
 use Rattle.rule_model.specs.Tab.{tab}
 use Rattle.rule_model.proofs.PlainOptions.{number_found, length-option_numbers}
 use Rattle.rule_matching.proofs.StoreContents as contents
-use Rattle.engine_state.specs.declared.options.Cell.{Cell}
-use Rattle.engine_state.specs.Cells.{first_cell, cell_at, current_value, saved_value}
-use Rattle.engine_state.specs.Meaning.{option_values, option_saves}
+use Rattle.option_store.specs.declared.options.Cell.{Cell}
+use Rattle.option_store.specs.Cells.{first_cell, cell_at, current_value, saved_value}
+use Rattle.option_store.specs.Meaning.{option_values, option_saves}
 use Rattle.rule_engine.specs.Engine.{EngineState}
 use Rattle.play_session.specs.declared.changes.Change.{Change}
 use Rattle.play_session.specs.Changes.{Values, options_from, option_stores, values_in, values_now, current_change, saved_change, changes_from, changes_between}
@@ -72,7 +72,7 @@ pub option_within : (tables : Tables) (options : List ℕ) (o d : ℕ) → optio
 option_within tables options o d are within =
     contents.option_within tables (get_or options o d) o (number_of_option tables options o d are within)
 
--- ---- what their cells stand for
+-- ---- the values that their cells denote
 
 module _ {X : Type 0} (value : Cell → X) (all : List Cell) where
   values_from : (n k : ℕ) (stores : List StoreMeaning) (cells : List Cell) → length cells ≡ length stores → ((i : ℕ) → slice_get all (n + i) ≡ slice_get cells i)
@@ -108,7 +108,7 @@ module _ {X : Type 0} (value : Cell → X) (all : List Cell) where
       none : (i : ℕ) → 0 + i ≡ i
       none i = omega arith
 
--- the cells of the options stand for the values of an engine
+-- the cells of the options denote the values of an engine
 pub values_of_cells : (engine : EngineState) (all cells : List Cell) (options : List ℕ) → options ≡ option_stores engine.tables → cells ≡ map (cell_at all) options
     → length all ≡ length (tab engine.tables).stores
     → option_values (tab engine.tables).stores all ≡ engine.current → option_saves (tab engine.tables).stores all ≡ engine.saved
@@ -120,10 +120,10 @@ values_of_cells engine all cells options are is count current saved =
     ∙ (λ i. record { current = values_of_options (current_value (stated stores)) all stores count i; saved = values_of_options (saved_value (stated stores)) all stores count i })
     ∙ (λ i. record { current = current i; saved = saved i })
 
--- ---- what changed of them
+-- ---- their changes
 
 module _ (before after : Values) where
-  -- what changed of the options from a number on, which are these stores
+  -- the changes of the options from an option number on, given their stores
   abbrev pub changes_of : ℕ → List ℕ → List Change
   changes_of option [] = []
   changes_of option (store ∷ stores) =

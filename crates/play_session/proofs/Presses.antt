@@ -1,4 +1,4 @@
--- What a key press makes of an engine and an editor that are together, and what the editor's default does.
+-- The effect of a key press on an engine and an editor that are together, and the effect of the editor's default.
 use Rattle.std.proofs.Common.{◌≡◌, ℕ, ◌+◌, ◌≤◌, Bool, true, false, cond, List, ◌++◌, length, refl, sym, ◌∙◌, ap, inl, inr, arith}
 use Rattle.std.proofs.lemmas.Bool.{cases_Bool}
 use Rattle.kmn_base.specs.declared.items.Item.{Item}
@@ -9,7 +9,7 @@ use Rattle.kmn_base.specs.Lists.{characters, without_last, window, IsSound, read
 use Rattle.rule_model.specs.declared.event_state.EventState.{EventState}
 use Rattle.rule_model.specs.ChosenLines.{chosen, lines_of_press}
 use Rattle.rule_model.specs.KeyEvent.{begin_event, after_key, outcome_of, inserted}
-use Rattle.rule_model.specs.Fits.{is_plain}
+use Rattle.virtual_keys.specs.Fits.{is_plain}
 use Rattle.rule_model.specs.Event.{State, text_becomes, editor_left, editor_right, by_editor}
 use Rattle.rule_model.specs.Tab.{tab}
 use Rattle.rule_model.specs.Trace.{first_state}
@@ -18,13 +18,13 @@ use Rattle.rule_model.proofs.Budget.{press_is_within_budget}
 use Rattle.rule_model.proofs.Edits.{edit_gives_the_text}
 use Rattle.rule_model.proofs.Soundness.{press_keeps_sound}
 use Rattle.rule_engine.specs.Engine.{EngineState, pressed, press_outcome, press_leaves, synced}
-use Rattle.play_session.specs.Text.{EditorText, left_after, right_after}
+use Rattle.editor_model.specs.Text.{EditorText, left_after, right_after}
 use Rattle.play_session.specs.Session.{AreTogether, stands_for}
 use Rattle.play_session.specs.Playing.{press_gives, acted}
 use Rattle.play_session.proofs.Contexts.{read_the_same, stands_for_list, together_on_list}
 use Rattle.play_session.proofs.Readings.{is_read}
 
--- what is known of a press on a state that gave this outcome and left this engine; the editor has the edited text then
+-- the properties of a press that returns this outcome and results in this engine; its edit results in the text of the new list
 pub record IsPressed (engine : EngineState) (editor : EditorText) (press : KeyPress) (outcome : Outcome) (after : EngineState) : Type 0 where
   pub tells : outcome ≡ outcome_of (stands_for engine editor).left (press_gives engine.tables press (stands_for engine editor))
   pub inserts : after.inserted ≡ inserted (stands_for engine editor).left (press_gives engine.tables press (stands_for engine editor)).left
@@ -66,13 +66,13 @@ press_is_done engine editor press outcome after text h is_text told gave =
       few = omega (arith, h.few);
     }
 
--- what it inserts
+-- the engine inserts the text that a press inserts by its meaning
 pub press_inserts : (engine : EngineState) (editor : EditorText) (press : KeyPress) (text : List ℕ) → AreTogether 995_000 engine editor → text ≡ editor.left
     → (press_leaves text press engine).inserted ≡ inserted (stands_for engine editor).left (press_gives engine.tables press (stands_for engine editor)).left
 press_inserts engine editor press text h is_text =
     (press_is_done engine editor press (press_outcome text press engine) (press_leaves text press engine) text h is_text refl refl).inserts
 
--- what is known then of both
+-- the properties of the engine and the editor after the edit of a press
 pub record IsEditedBy (engine : EngineState) (editor : EditorText) (press : KeyPress) (after : EngineState) (edited : EditorText) : Type 0 where
   pub state : stands_for after edited ≡ acted (press_gives engine.tables press (stands_for engine editor)) (stands_for engine editor)
   pub together : AreTogether 999_096 after edited
@@ -97,7 +97,7 @@ press_is_edited engine editor press outcome after edited p lefts rights =
 
 -- ---- the editor's default
 
--- a text that is chosen by a test before it is read again
+-- selecting a text by a test and reading it again is the same as selecting one of the states after reading again
 text_chosen : (state : State) (test : Bool) (left right other_left other_right : List ℕ)
     → text_becomes (cond test left other_left) (cond test right other_right) state ≡ cond test (text_becomes left right state) (text_becomes other_left other_right state)
 text_chosen state true left right other_left other_right = refl
@@ -110,7 +110,7 @@ default_adds_one press left right = elim (cases_Bool (is_plain press)) [
   | inr held ↦ rw held (omega arith)
 ]
 
--- what is known of the editor's default
+-- the properties of the engine and the editor after the editor's default
 pub record IsPassedOn (engine : EngineState) (editor after : EditorText) (press : KeyPress) : Type 0 where
   pub state : stands_for (synced after.left engine) after ≡ by_editor press (stands_for engine editor)
   pub together : AreTogether 1_000_000 (synced after.left engine) after

@@ -10,7 +10,7 @@ use Rattle.kmn_base.specs.declared.items.Element.TheVariants as element
 use Rattle.kmn_base.specs.declared.events.Event.{Event}
 use Rattle.kmn_base.specs.declared.events.Event.TheVariants as event
 use Rattle.kmn_base.specs.declared.keys.KeyPress.{KeyPress}
-use Rattle.rule_model.specs.Fits.{is_plain}
+use Rattle.virtual_keys.specs.Fits.{is_plain}
 use Rattle.rule_model.specs.declared.event_state.EventState.{EventState}
 use Rattle.rule_model.specs.declared.tables.Tables.{Tables}
 use Rattle.rule_model.specs.Content.{option_number}
@@ -31,7 +31,7 @@ use Rattle.play_session.specs.Changes.{Values, current_at, saved_at, is_newly_sa
 use Rattle.play_session.specs.Printed.{change_line, change_lines, IsSession, printed_changes}
 use Rattle.play_session.specs.Session.{SessionState, first_session, after_step, values_of}
 
--- ---- the options of a state stay
+-- ---- an event keeps the options of a state
 
 record SameOptions (before after : State) : Type 0 where
   names : after.names ≡ before.names
@@ -93,7 +93,7 @@ module _ (front : List ℕ) (line : Change → List ℕ) (change : Change) where
     | false ↦ append-nil (line change) ∙ is
   ]
 
--- the first value that is left of a list
+-- if a position is in a list, the rest of the list from there begins with the value at that position
 current_left : (values : List (List Element)) (k : ℕ) → k < length values → drop k values ≡ unwrap_or (slice_get values k) [] ∷ drop (k + 1) values
 current_left values k within = drop_more values k [] within ∙ ap (λ value. value ∷ drop (k + 1) values) (sym (unwrap_or-slice_get values k []))
 
@@ -107,14 +107,14 @@ module _ (front : List ℕ) (session : SessionState) (before : Values) where
   abbrev pub after : Values
   after = values_of session.state
 
-  -- how many options there are from one of them on, for each list of values
+  -- the number of options from one of them on, which is the same for each list of values
   pub record HasOptions (k count : ℕ) : Type 0 where
     pub current : length before.current ≡ k + count
     pub saved : length before.saved ≡ k + count
     pub current_after : length after.current ≡ k + count
     pub saved_after : length after.saved ≡ k + count
 
-  -- the stores that are left: their names, and their option numbers
+  -- the remaining stores: their names and their option numbers
   record IsLeft (n k : ℕ) (rest : List StoreMeaning) : Type 0 where
     names : (i : ℕ) → name_of session.tables (n + i) ≡ name_in (slice_get rest i)
     numbers : (i : ℕ) → option_number stores (Numbered (n + i)) ≡ option_flatten (slice_get (option_numbers k rest) i)
@@ -125,7 +125,7 @@ module _ (front : List ℕ) (session : SessionState) (before : Values) where
   abbrev Printed : ℕ → ℕ → List StoreMeaning → Type 0
   Printed n k rest = lines_left k rest ≡ flat_map (change_line front session) (changes_from before after n (option_numbers k rest))
 
-  -- the lines of one option, and those behind it
+  -- the lines of one option, followed by the lines of the later options
   option_printed : (n k : ℕ) (name : List ℕ) (numbers : List (Option ℕ)) → name_of session.tables n ≡ name → option_number stores (Numbered n) ≡ Some k
       → transcript.current_change front name (current_at before k) (current_at after k)
       ++ (transcript.saved_change front name (saved_at before k) (saved_at after k) ++ flat_map (change_line front session) (changes_from before after (n + 1) numbers))

@@ -1,15 +1,15 @@
--- An engine that reads the text of an editor that was changed.
+-- An engine reads the text of an editor after a change.
 use Rattle.std.proofs.Common.{◌≡◌, ℕ, ◌+◌, ◌≤◌, List, length, refl, sym, ◌∙◌, ap}
 use Rattle.kmn_base.specs.declared.items.Item.{Item}
 use Rattle.kmn_base.specs.Lists.{characters, read_again}
 use Rattle.kmn_base.proofs.ReadingAgain.{reading_again_gives_the_text, reading_again_is_sound}
 use Rattle.rule_model.specs.Event.{text_becomes}
 use Rattle.rule_engine.specs.Engine.{EngineState, synced}
-use Rattle.play_session.specs.Text.{EditorText}
+use Rattle.editor_model.specs.Text.{EditorText}
 use Rattle.play_session.specs.Session.{AreTogether, stands_for}
 use Rattle.play_session.proofs.Contexts.{read_by_context, stands_for_list, together_on_list}
 
--- both stand then for the text that was read again
+-- the engine and the editor then represent the text that was read again
 pub record IsReadAgain (limit : ℕ) (engine : EngineState) (editor after : EditorText) : Type 0 where
   pub state : stands_for (synced after.left engine) after ≡ text_becomes after.left after.right (stands_for engine editor)
   pub together : AreTogether limit (synced after.left engine) after

@@ -1,11 +1,11 @@
--- A session at its start: its two texts are empty, and there is room for the changes of all options.
+-- A session before its first event: its two texts are empty, and there is capacity for the changes of all options.
 use Rattle.std.proofs.Common.{◌≡◌, ℕ, ◌*◌, ◌≤◌, List, [], length, refl, sym, subst, false, arith}
 use Rattle.std.proofs.lemmas.List.Elements.{All-nil}
 use Rattle.kmn_base.specs.declared.limits.TheConstants.{TEXT_CHARS}
 use Rattle.kmn_base.specs.Lists.{is_mark}
 use Rattle.rule_model.specs.declared.tables.Tables.{Tables}
 use Rattle.rule_engine.specs.Engine.{EngineState, first_engine}
-use Rattle.play_session.specs.Text.{EditorText}
+use Rattle.editor_model.specs.Text.{EditorText}
 use Rattle.play_session.specs.Changes.{option_stores}
 use Rattle.play_session.specs.Session.{AreTogether, HasRoom}
 

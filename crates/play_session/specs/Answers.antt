@@ -1,4 +1,4 @@
--- What a session answers to an event.
+-- The result of an event in a session.
 use Rattle.std.specs.Prelude.{Bool, true, false, Option, Some, None}
 use Rattle.kmn_base.specs.declared.events.Event.{Event}
 use Rattle.kmn_base.specs.declared.events.Event.TheVariants as event
@@ -10,17 +10,17 @@ use Rattle.play_session.specs.declared.session.StepError.{StepError}
 use Rattle.play_session.specs.declared.session.StepError.TheVariants.{Place, Length, Memory}
 use Rattle.play_session.specs.Session.{SessionState, happened}
 
--- the step that an event is
+-- the step that an event returns
 abbrev pub step_of : SessionState → Event → Step
 step_of session event = record { number = one_more session.number; outcome = (happened session event).outcome }
 
--- the refusal that an error tells; want of memory tells none
+-- the refusal that an error reports; running out of memory is not a refusal
 abbrev pub code_of : StepError → Option Code
 code_of Place = Some E1
 code_of Length = Some E2
 code_of Memory = None
 
--- an event takes memory, so that its step may answer want of it; a caret move takes none
+-- whether an event allocates, so that its step may run out of memory; a caret move does not allocate
 abbrev pub takes_memory : Event → Bool
 takes_memory (event.Key press) = true
 takes_memory (event.Setting name value) = true

@@ -3,7 +3,3 @@ pub mod Changes
 pub mod Playing
 pub mod Printed
 pub mod Session
-pub mod EditAnswers
-pub mod Text
-pub mod Alone
-pub mod Host

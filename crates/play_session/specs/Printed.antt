@@ -1,4 +1,4 @@
--- What a session tells of a store, and that its changes are those that a transcript prints.
+-- The value of a store in a session, and the changes of a session as a transcript prints them.
 use Rattle.std.specs.Prelude.{◌≡◌, ℕ, Bool, true, false, List, [], ◌++◌, flat_map, length, Option, Some, unwrap_or}
 use Rattle.kmn_base.specs.declared.items.Element.{Element}
 use Rattle.kmn_base.specs.declared.events.Event.{Event}
@@ -14,13 +14,13 @@ use Rattle.rule_matching.specs.Moment.{saved_of}
 use Rattle.play_session.specs.declared.changes.Change.{Change}
 use Rattle.play_session.specs.Session.{SessionState, first_session, after_step}
 
--- the current value of a store, or the saved one that there may be; a store that is no option has its elements, and
--- nothing is saved
+-- the current value of a store, or its saved value if any; a store that is not an option has its elements as its current value and
+-- no saved value
 abbrev pub value_of : SessionState → ℕ → Bool → Option (List Element)
 value_of session store true = saved_of (tab session.tables).stores session.state.saved store
 value_of session store false = Some (content (tab session.tables).stores session.state.current (Numbered store))
 
--- the line of a change of the last step: the store's name and its new value, and so much at its front
+-- the line of a change of the last step, with this front: the name of the store and its new value
 abbrev pub change_line : (front : List ℕ) → SessionState → Change → List ℕ
 change_line front session change =
     front ++ value_line change.saved (name_of session.tables change.store) (unwrap_or (value_of session change.store change.saved) [])
@@ -28,7 +28,7 @@ change_line front session change =
 abbrev pub change_lines : (front : List ℕ) → SessionState → List ℕ
 change_lines front session = flat_map (change_line front session) session.changes
 
--- a session of tables: it has the names of their options, and of each option a current value and what is saved
+-- a session has the names of the options of its tables, and a current value and an optional saved value for each option
 pub record IsSession (session : SessionState) : Type 0 where
   pub names : session.state.names ≡ (first_state (tab session.tables)).names
   pub current : length session.state.current ≡ length (options_of (tab session.tables).stores)
@@ -38,12 +38,12 @@ pub record IsSession (session : SessionState) : Type 0 where
 abbrev pub printed_changes : (front : List ℕ) → State → State → List ℕ
 printed_changes front before after = changes front before.names before.current before.saved after.current after.saved
 
--- the changes of a step are those that are printed, in this order, whatever stands at the front of each line
+-- the changes of a step are those that a transcript prints, in the same order, with any front of each line
 abbrev pub ChangesArePrinted : Type 0
 ChangesArePrinted = (front : List ℕ) (session : SessionState) (event : Event) → IsSession session →
     printed_changes front session.state (after_step session event).state ≡ change_lines front (after_step session event)
 
--- before the first event it is a session, and an event leaves one
+-- a session has these before its first event, and it keeps them after an event
 abbrev pub SessionsBegin : Type 0
 SessionsBegin = (tables : Tables) → IsSession (first_session tables)
 

@@ -1,5 +1,5 @@
 ghost use Rattle.std.specs.Prelude.{◌≡◌, ◌+◌, ◌*◌, ◌<◌, ◌≤◌, [], ◌++◌, length, Some, option_map, vec_len, vec_capacity};
-ghost use Rattle.engine_state.specs.Cells.{current_value, saved_value};
+ghost use Rattle.option_store.specs.Cells.{current_value, saved_value};
 ghost use Rattle.rule_model.specs.Content.{option_number};
 ghost use Rattle.rule_model.specs.Keyboard.{Numbered, stated};
 ghost use Rattle.rule_model.specs.Match.{same_value};
@@ -7,7 +7,7 @@ ghost use Rattle.rule_model.specs.Tab.{tab};
 ghost use Rattle.rule_matching.specs.StoreValues.{elements_in};
 ghost use Rattle.play_session.specs.Changes.{option_stores, are_of_one_store, current_at, saved_at, is_newly_saved, current_change, saved_change, changes_between, values_in, values_now};
 
-use engine_state::{Cell, Held};
+use option_store::{Cell, Held};
 use rule_engine::{Engine, StoreValue};
 
 /// An option value that a step changed: the current or the saved value of a store.
@@ -17,7 +17,7 @@ pub struct Change {
     pub saved: bool,
 }
 
-/// Appends what changed of all options, where they held this before. Stores that are no options are not looked at.
+/// Appends the changes of all options, given the cells that they had before. Ignores stores that are not options.
 #[tactic(auto, using(crate::proofs::OptionStores::number_of_option))]
 pub(crate) fn put_changes(
     changes: &mut Vec<Change>,
@@ -38,7 +38,7 @@ pub(crate) fn put_changes(
     }
 }
 
-/// Appends the change of an option's current value, where it changed.
+/// Appends the change of an option's current value, if it changed.
 fn put_current_change(
     changes: &mut Vec<Change>,
     store: u32,
@@ -61,7 +61,7 @@ fn put_current_change(
     }
 }
 
-/// Appends the change of an option's saved value, where it changed.
+/// Appends the change of an option's saved value, if it changed.
 fn put_saved_change(
     changes: &mut Vec<Change>,
     store: u32,
@@ -82,7 +82,7 @@ fn put_saved_change(
     }
 }
 
-/// Whether the current value of an option is what it was.
+/// Returns whether the current value of an option is unchanged.
 #[tactic(auto, using(crate::proofs::Comparing::cell_has_value))]
 fn current_stays(engine: &Engine, before: &[Cell], store: u32, option: usize) -> bool
     requires number { option_number (tab engine.now.tables).stores (Numbered store) ≡ Some option }
@@ -92,8 +92,8 @@ fn current_stays(engine: &Engine, before: &[Cell], store: u32, option: usize) ->
     is_current(engine, &before[option], store, option)
 }
 
-/// Whether the current value of an option is the one that a cell holds. Nothing is compared where both are of one store. The
-/// number of the option is for the contract alone: the body looks its store up.
+/// Returns whether the current value of an option is the current value in a cell. Does not compare elements if both values are the
+/// elements of the same store. Only the contract uses the number of the option: the body looks up its store.
 #[tactic(auto, using(crate::proofs::Comparing::content_is_value))]
 fn is_current(engine: &Engine, was: &Cell, store: u32, option: usize) -> bool
     requires { option_number (tab engine.now.tables).stores (Numbered store) ≡ Some option }
@@ -106,7 +106,7 @@ fn is_current(engine: &Engine, was: &Cell, store: u32, option: usize) -> bool
     held.is_same(engine.content(store))
 }
 
-/// Whether two are held as the elements of one store of the file.
+/// Returns whether two values are held as the elements of the same store of the file.
 fn are_of_one_store(a: Held, b: Held) -> bool
     ensures { result ≡ are_of_one_store a b }
 {
@@ -116,7 +116,7 @@ fn are_of_one_store(a: Held, b: Held) -> bool
     }
 }
 
-/// The saved value that an option had.
+/// Returns the saved value that an option had, if any.
 #[tactic(auto, using(crate::proofs::Comparing::cell_has_saved))]
 fn saved_before<'c>(engine: &'c Engine, before: &'c [Cell], option: usize) -> Option<StoreValue<'c>>
     requires { option < length before.now }
@@ -125,7 +125,7 @@ fn saved_before<'c>(engine: &'c Engine, before: &'c [Cell], option: usize) -> Op
     saved_in(engine, &before[option])
 }
 
-/// The saved value that a cell has.
+/// Returns the saved value in a cell, if any.
 fn saved_in<'c>(engine: &'c Engine, cell: &'c Cell) -> Option<StoreValue<'c>>
     ensures { option_map elements_in result ≡ saved_value (stated (tab engine.now.tables).stores) cell.now }
 {
@@ -133,7 +133,7 @@ fn saved_in<'c>(engine: &'c Engine, cell: &'c Cell) -> Option<StoreValue<'c>>
     Some(engine.held(saved, cell.text.as_slice()))
 }
 
-/// Whether there is a saved value now that was not saved before.
+/// Returns whether a value is saved now that was not saved before.
 fn is_newly_saved(before: Option<StoreValue>, after: Option<StoreValue>) -> bool
     ensures { result ≡ is_newly_saved (option_map elements_in before.entry) (option_map elements_in after.entry) }
 {

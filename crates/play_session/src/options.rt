@@ -1,13 +1,13 @@
 ghost use Rattle.std.specs.Prelude.{◌≡◌, ◌<◌, ◌^◌, length, vec_len, IfOk};
-ghost use Rattle.engine_state.specs.Cells.{cell_at};
+ghost use Rattle.option_store.specs.Cells.{cell_at};
 ghost use Rattle.play_session.specs.Changes.{option_stores, values_in, values_now};
 
-use engine_state::{Cell, Options};
 use kmn_base::{Memory, Seq};
+use option_store::{Cell, Options};
 use rule_engine::Engine;
 use std::alloc::Global;
 
-/// The stores that are options, in order.
+/// Returns the stores that are options, in order.
 #[tactic(auto, using(crate::proofs::OptionStores::count_of_numbers))]
 pub(crate) fn option_stores(alloc: Global, engine: &Engine) -> Result<Vec<u32>, Memory>
     ensures stores { IfOk result (λ stores. stores.items ≡ option_stores engine.now.tables) }
@@ -23,7 +23,7 @@ pub(crate) fn option_stores(alloc: Global, engine: &Engine) -> Result<Vec<u32>, 
     Ok(stores)
 }
 
-/// What the options hold now: the cell of each, in order.
+/// Copies the current cells of the options, in order.
 #[tactic(auto, using(crate::proofs::OptionStores::option_within))]
 pub(crate) fn cells_now(
     alloc: Global,
@@ -42,7 +42,7 @@ pub(crate) fn cells_now(
     Ok(cells)
 }
 
-/// What a store holds.
+/// Copies the cell of a store.
 fn cell_of(alloc: Global, held: &Options, store: u32) -> Result<Cell, Memory>
     requires { store < length held.now }
     ensures { IfOk result (λ cell. cell ≡ cell_at held.now store) }

@@ -9,24 +9,24 @@ ghost use Rattle.play_session.specs.Answers.{code_of};
 ghost use Rattle.play_session.specs.Session.{AreTogether, stands_for};
 ghost use Rattle.play_session.specs.Playing.{press_gives, acted};
 
-use crate::Editor;
 use crate::session::StepError;
+use editor_model::Editor;
 use kmn_base::limits::EVENT_PUTS;
 use kmn_base::{KeyPress, Memory, Outcome};
 use rule_engine::{Engine, Preview};
 use std::alloc::Global;
 
-/// What a key press inserts at most, and one character that the editor may insert by itself.
+/// The largest number of characters that a key press inserts, and one character that the editor may insert by itself.
 const KEY_CHARS: usize = EVENT_PUTS as usize + 1;
 
-/// Where an edit begins, and where what it replaces ends.
+/// The positions where an edit begins and where the text that it replaces ends.
 #[derive(Clone, Copy)]
 pub(crate) struct Places {
     pub(crate) from: u32,
     pub(crate) to: u32,
 }
 
-/// Presses a key, and makes its edit before the caret.
+/// Presses a key and makes its edit before the caret.
 fn press_key(engine: &mut Engine, editor: &mut Editor, press: KeyPress) -> Outcome
     requires together { AreTogether TEXT_CHARS_AT_KEY engine.old editor.old }
     requires room { EVENT_PUTS + 1 ≤ editor.old.spare }
@@ -43,7 +43,7 @@ fn press_key(engine: &mut Engine, editor: &mut Editor, press: KeyPress) -> Outco
     outcome
 }
 
-/// Does the editor's default for a key that was passed on, and reads the text before the caret again.
+/// Performs the editor's default for a key that was passed on, and reads the text before the caret again.
 fn pass_on(engine: &mut Engine, editor: &mut Editor, press: KeyPress)
     requires together { AreTogether (TEXT_CHARS_AT_KEY + EVENT_PUTS) engine.old editor.old }
     requires room { 1 ≤ editor.old.spare }
@@ -57,7 +57,7 @@ fn pass_on(engine: &mut Engine, editor: &mut Editor, press: KeyPress)
     engine.sync(editor.left());
 }
 
-/// A key event. The room for all that it may insert is made first, so want of memory leaves the text as it was.
+/// Performs a key event. Reserves space for all that it may insert first, so the text is unchanged if an allocation fails.
 #[tactic(auto, using(crate::proofs::Moves::same_text))]
 pub(crate) fn key_event(
     alloc: Global,
@@ -83,7 +83,7 @@ pub(crate) fn key_event(
     Ok(outcome)
 }
 
-/// What a key press would do. Nothing changes.
+/// Returns what a key press would do. Changes neither the engine nor the editor.
 #[tactic(auto, using(crate::proofs::Presses::press_is_done, crate::proofs::Presses::press_inserts))]
 pub(crate) fn preview_key(
     alloc: Global,
@@ -98,7 +98,7 @@ pub(crate) fn preview_key(
     engine.preview(alloc, editor.left(), press)
 }
 
-/// A caret event, which takes no memory.
+/// Performs a caret event. Does not allocate.
 #[tactic(auto, using(crate::proofs::Moves::caret_steps))]
 pub(crate) fn caret_event(
     engine: &mut Engine,
@@ -121,7 +121,7 @@ pub(crate) fn caret_event(
     Ok(())
 }
 
-/// An edit from outside.
+/// Performs an external edit.
 #[tactic(auto, using(crate::proofs::Moves::edit_steps))]
 pub(crate) fn edit_event(
     alloc: Global,
@@ -145,7 +145,7 @@ pub(crate) fn edit_event(
     Ok(())
 }
 
-/// A setting of the host. The editor is for the contract alone: a state has its text.
+/// Performs an option change by the host. Only the contract uses the editor: a state contains its text.
 #[tactic(auto, using(crate::proofs::Moves::setting_steps))]
 pub(crate) fn setting_event(
     alloc: Global,

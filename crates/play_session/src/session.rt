@@ -12,7 +12,7 @@ ghost use Rattle.rule_model.specs.Trace.{first_state};
 use crate::changes::{Change, put_changes};
 use crate::options::{cells_now, option_stores};
 use crate::playing::{Places, caret_event, edit_event, key_event, preview_key, setting_event};
-use crate::{EditError, Editor};
+use editor_model::{EditError, Editor};
 use kmn_base::limits::TEXT_CHARS_AT_KEY;
 use kmn_base::{Element, Event, KeyPress, Memory, Outcome, Seq, Text};
 use kmx_verifier::Verified;
@@ -21,7 +21,7 @@ use std::alloc::Global;
 use std::marker::Model;
 use thiserror::Error;
 
-/// The outcome of an event that is no key press.
+/// The outcome of an event that is not a key press.
 const NO_OUTCOME: Outcome = Outcome {
     delete: 0,
     pass: false,
@@ -31,10 +31,10 @@ const NO_OUTCOME: Outcome = Outcome {
     saved: 0,
 };
 
-/// Why an event was not done.
+/// The reason why an event was not done.
 #[derive(Debug, Drop, Error)]
 pub enum StepError {
-    /// A place is past the text.
+    /// A position is past the end of the text.
     #[error("refused E1")]
     Place,
     /// The text is or would be too long.
@@ -57,7 +57,7 @@ impl From<Memory> for StepError {
 
 impl From<EditError> for StepError {
     ghost use Rattle.std.specs.Prelude.{◌≡◌};
-    ghost use Rattle.play_session.specs.EditAnswers.{code_of as edit_code};
+    ghost use Rattle.editor_model.specs.Answers.{code_of as edit_code};
     ghost use Rattle.play_session.specs.Answers.{code_of};
 
     ghost from_gives = { λ error given. code_of given ≡ edit_code error };
@@ -71,7 +71,7 @@ impl From<EditError> for StepError {
     }
 }
 
-/// What was done, with its number: steps count from 1, and stay at the end of the type.
+/// The outcome of an event that was done, with the number of the step. Numbers start at 1 and saturate at the maximum of the type.
 #[derive(Clone, Copy, Debug, PartialEq, Eq)]
 pub struct Step {
     pub number: u32,
@@ -83,14 +83,15 @@ pub struct Session<'a> {
     engine: Engine<'a>,
     editor: Editor,
     number: u32,
-    /// Whether the last step was a press, so that what the engine inserted and chose is what the step did.
+    /// Whether the last step was a press, so that the engine's inserted text and chosen lines are those of the step. Also true before
+    /// the first step.
     typed: bool,
-    /// The stores that are options, in order: an event can change no other, so it costs by these alone.
+    /// The stores that are options, in order. An event can change only these, so its cost depends only on their number.
     options: Vec<u32>,
     changes: Vec<Change>,
 }
 
-/// One call in proofs, where a derived drop is written out in each exit.
+/// Keeps drops short in proofs: this drop is one call, and a derived drop is written out at each exit.
 impl Drop for Session<'_> {
     fn drop(self) {
         let Session {
@@ -118,20 +119,22 @@ impl<'a> Model for Session<'a> {
 }
 
 impl<'a> Session<'a> {
-    ghost use Rattle.engine_state.specs.Cached.{text_with_context};
+    ghost use Rattle.context_cache.specs.Cached.{text_with_context};
     ghost use Rattle.play_session.specs.Session.{TellsPress, engine_of, first_session, happened, after_step};
     ghost use Rattle.play_session.specs.Answers.{step_of, code_of, takes_memory};
     ghost use Rattle.rule_engine.specs.Engine.{name_of};
     ghost use Rattle.play_session.specs.Printed.{value_of};
 
-    /// A session before its first event: an empty text, each option with its elements, and none saved.
+    /// Creates a session before its first event: the text is empty, each option has its elements, and no value is saved.
+    ///
+    /// Errors: `Memory` if an allocation fails.
     pub fn start(alloc: Global, file: &Verified<'a>) -> Result<Session<'a>, Memory>
         ensures { IfOk result (λ session. session ≡ first_session (tables_of file.now)) }
     {
         Session::with_engine(alloc, Engine::start(alloc, file)?)
     }
 
-    /// A session with an engine before its first press.
+    /// Creates a session with an engine that is before its first press.
     pub(crate) fn with_engine(alloc: Global, engine: Engine<'a>) -> Result<Session<'a>, Memory>
         requires { engine ≡ first_engine engine.tables }
         ensures { IfOk result (λ session. session ≡ first_session engine.entry.tables) }
@@ -148,14 +151,14 @@ impl<'a> Session<'a> {
         })
     }
 
-    /// A new session on the same file, as `start` gives it. The file isn't walked again: both share what is looked up in it.
+    /// Creates a session on the same file, as `start` does. Does not scan the file again: both sessions share the lookup data of the file.
     pub fn fresh(&self, alloc: Global) -> Result<Session<'a>, Memory>
         ensures { IfOk result (λ session. session ≡ first_session self.now.tables) }
     {
         Session::with_engine(alloc, self.engine.fresh(alloc)?)
     }
 
-    /// A session on the same file and in the same state. What one of both does then changes nothing of the other.
+    /// Creates a session on the same file and in the same state. Later events in one of the two do not change the other.
     pub fn copy(&self, alloc: Global) -> Result<Session<'a>, Memory>
         ensures { IfOk result (λ session. session ≡ self.now) }
     {
@@ -175,8 +178,10 @@ impl<'a> Session<'a> {
         })
     }
 
-    /// Does an event. `Place` and `Length` come exactly where its meaning refuses it. They and want of memory change nothing:
-    /// all memory of an event is taken before it acts. A caret move takes none.
+    /// Performs an event and returns its step. An event allocates before it acts, and a caret move does not allocate.
+    ///
+    /// Errors: `Place` or `Length` exactly when the meaning refuses the event; `Memory` if an allocation fails. After an error the
+    /// session is unchanged.
     pub fn step(&mut self, alloc: Global, event: &Event) -> Result<Step, StepError>
         ensures happens { IfOk result (λ _. event_of (tab self.old.tables) self.old.state event.now ≡ Ok (happened self.old event.now)) }
         ensures answer { IfOk result (λ step. step ≡ step_of self.old event.now) }
@@ -195,8 +200,8 @@ impl<'a> Session<'a> {
         }
     }
 
-    /// A key press. Of the stores it copies and compares the options alone, the layer and the platform among them, so it costs by
-    /// their count and not by that of all stores.
+    /// Performs a key press. Copies and compares only the stores that are options, which include the layer and the platform, so the
+    /// cost depends on their number and not on the number of all stores.
     #[tactic(auto, unfolding(rule_model::specs::Event::happening))]
     fn key(&mut self, alloc: Global, press: KeyPress) -> Result<Step, StepError>
         ensures happens { IfOk result (λ _. event_of (tab self.old.tables) self.old.state (event.Key press) ≡ Ok (happened self.old (event.Key press))) }
@@ -221,7 +226,7 @@ impl<'a> Session<'a> {
         Ok(next_step(&mut self.number, outcome))
     }
 
-    /// A setting of the host.
+    /// Performs an option change by the host.
     #[tactic(auto, unfolding(rule_model::specs::Event::happening))]
     fn setting(&mut self, alloc: Global, name: &[u8], value: &[char]) -> Result<Step, StepError>
         ensures happens { IfOk result (λ _. event_of (tab self.old.tables) self.old.state (event.Setting name.now value.now) ≡ Ok (happened self.old (event.Setting name.now value.now))) }
@@ -243,7 +248,7 @@ impl<'a> Session<'a> {
         Ok(next_step(&mut self.number, NO_OUTCOME))
     }
 
-    /// A caret move.
+    /// Performs a caret move.
     #[tactic(auto, using(crate::proofs::Changing::nothing_changes), unfolding(rule_model::specs::Event::happening))]
     fn caret(&mut self, place: u32) -> Result<Step, StepError>
         ensures happens { IfOk result (λ _. event_of (tab self.old.tables) self.old.state (event.Caret place) ≡ Ok (happened self.old (event.Caret place))) }
@@ -259,7 +264,7 @@ impl<'a> Session<'a> {
         Ok(next_step(&mut self.number, NO_OUTCOME))
     }
 
-    /// An edit from outside.
+    /// Performs an external edit.
     #[tactic(auto, using(crate::proofs::Changing::nothing_changes), unfolding(rule_model::specs::Event::happening))]
     fn edit(&mut self, alloc: Global, from: u32, to: u32, text: &[char]) -> Result<Step, StepError>
         ensures happens { IfOk result (λ _. event_of (tab self.old.tables) self.old.state (event.Edit from to text.now) ≡ Ok (happened self.old (event.Edit from to text.now))) }
@@ -275,8 +280,10 @@ impl<'a> Session<'a> {
         Ok(next_step(&mut self.number, NO_OUTCOME))
     }
 
-    /// What a key press would do as the next event: its outcome, and the text that it would insert. `Length` comes exactly where
-    /// the event would be refused so; nothing changes.
+    /// Returns what a key press would do as the next event: its outcome, and the text that it would insert. Does not change the
+    /// session.
+    ///
+    /// Errors: `Length` exactly when the event would be refused with it; `Memory` if an allocation fails.
     #[tactic(auto, unfolding(rule_model::specs::Event::happening))]
     pub fn preview(&self, alloc: Global, press: KeyPress) -> Result<Preview, StepError>
         ensures happens { IfOk result (λ _. event_of (tab self.now.tables) self.now.state (event.Key press) ≡ Ok (happened self.now (event.Key press))) }
@@ -290,8 +297,8 @@ impl<'a> Session<'a> {
         Ok(preview_key(alloc, &self.engine, &self.editor, press)?)
     }
 
-    /// The text with its caret. The list before the caret that a session stands for is this text, whose last items are the
-    /// engine's context.
+    /// Returns the text with its caret. The left list of the state that the session represents is the text before the caret, with the
+    /// engine's cached context as its last items.
     pub fn editor(&self) -> &Editor
         ensures left { result.now.left ≡ characters self.now.state.left }
         ensures right { result.now.right ≡ self.now.state.right }
@@ -301,16 +308,17 @@ impl<'a> Session<'a> {
         &self.editor
     }
 
-    /// The engine, with its context.
+    /// Returns the engine, with its cached context. Its inserted text and chosen lines are those of the last key event, even if other
+    /// steps followed it. Before the first key event, both are empty.
     pub fn engine(&self) -> &Engine<'a>
-        ensures value { result.now ≡ engine_of self.now result.now.inserted result.now.chosen }
+        ensures value { result.now ≡ engine_of self.now }
         ensures press { TellsPress self.now result.now }
         ensures names { self.now.state.names ≡ (first_state (tab self.now.tables)).names }
     {
         &self.engine
     }
 
-    /// The characters that the last step inserted, before what the editor did by itself; none where it was no press.
+    /// Returns the characters that the last step inserted, before the editor's default. Returns none if the step was not a press.
     pub fn inserted(&self) -> &[char]
         ensures { result.now ≡ self.now.inserted }
     {
@@ -321,7 +329,8 @@ impl<'a> Session<'a> {
         }
     }
 
-    /// The lines of the rules that the last step chose, in the order in which their groups were entered; none where it was no press.
+    /// Returns the lines of the rules that fired in the last step, in the order in which their groups were entered. Returns none if
+    /// the step was not a press.
     pub fn chosen(&self) -> &[u32]
         ensures value { result.now ≡ self.now.chosen }
         ensures few { length result.now ≤ EVENT_ENTRIES }
@@ -333,16 +342,19 @@ impl<'a> Session<'a> {
         }
     }
 
-    /// The option values that the last step changed: by store number, the current value before the saved one. The layer and the
-    /// platform have the two numbers behind the stores of the file.
+    /// Returns the option values that the last step changed, by store number, the current value before the saved value. The layer and
+    /// the platform have the two numbers after the stores of the file.
     pub fn changes(&self) -> &[Change]
         ensures { result.now ≡ self.now.changes }
     {
         self.changes.as_slice()
     }
 
-    /// The current or the saved value of a store, or of the layer or the platform, which have the two numbers behind the stores.
-    /// A store that is no option has its elements, and nothing is saved; None comes exactly for a saved value that there is none of.
+    /// Returns the current or the saved value of a store, or of the layer or the platform, which have the two numbers after the stores.
+    /// The current value of a store that is not an option is its elements, and it has no saved value. Returns `None` exactly for a
+    /// saved value that does not exist.
+    ///
+    /// Errors: `Memory` if an allocation fails.
     pub fn value(
         &self,
         alloc: Global,
@@ -360,7 +372,9 @@ impl<'a> Session<'a> {
         }
     }
 
-    /// The name of a store, or of the layer or the platform; empty where it has none or there is no such store.
+    /// Returns the name of a store, or of the layer or the platform. The name is empty if the store has no name or does not exist.
+    ///
+    /// Errors: `Memory` if an allocation fails.
     pub fn name(&self, alloc: Global, store: u32) -> Result<Text, Memory>
         ensures { IfOk result (λ name. name ≡ name_of self.now.tables store) }
     {
@@ -368,7 +382,7 @@ impl<'a> Session<'a> {
     }
 }
 
-/// The step of the next number.
+/// Increments the number and returns the step with this number.
 fn next_step(number: &mut u32, outcome: Outcome) -> Step
     ensures number { number.new ≡ one_more number.old }
     ensures step { result ≡ record { number = one_more number.old; outcome = outcome } }

@@ -1,10 +1,10 @@
-//! The errors of the calls that a program in another language makes, as they are printed.
+//! Tests the printed texts of the errors of calls from a program in another language.
 
 use curlew_calls::CallError;
 use std::alloc::{AllocError, Global};
 use std::test::Fail;
 
-/// Errors, and how they are printed.
+/// Errors and their printed texts.
 const PRINTED: &[(CallError, &str)] = &[
     (CallError::Memory, "out of memory"),
     (CallError::Place, "a place past the text"),
@@ -13,7 +13,7 @@ const PRINTED: &[(CallError, &str)] = &[
     (CallError::NoOption, "no option of this name"),
 ];
 
-/// Whether an error is printed so.
+/// Returns whether an error has this printed text.
 fn is_printed(alloc: Global, error: &CallError, wanted: &str) -> Result<bool, AllocError> {
     Ok(format!(in alloc; "{error}")?.as_str() == wanted)
 }

@@ -1,24 +1,24 @@
-//! Changes of a text with a caret.
+//! Tests changes of a text with a caret.
 
+use editor_model::{EditError, Editor};
 use kmn_base::{KeyPress, Memory};
-use play_session::{EditError, Editor};
 use std::alloc::{AllocError, Global};
 use std::test::Fail;
 
-/// What is done to a text with a caret.
+/// A change of a text with a caret.
 enum Change {
     /// A key that was passed on: its code, and the modifiers held.
     Key(u16, u16),
-    /// A caret move to a place.
+    /// A caret move to a position.
     Caret(u32),
-    /// An edit: its places and its text.
+    /// An edit: its positions and its text.
     Edit(u32, u32, &'static str),
 }
 
-/// The text before a caret and the text after it, a change, and what it makes of them.
+/// The text before a caret and the text after it, a change, and its result.
 type ChangeRow = (&'static str, &'static str, Change, &'static str);
 
-/// In what a change makes the caret is `|`, a line feed `/` and a tab `~`; behind a refusal stands the text as it is then.
+/// In the result of a change the caret is `|`, a line feed `/` and a tab `~`. A refusal is followed by the text after the call.
 const CHANGES: &[ChangeRow] = &[
     ("ab", "cd", Change::Key(13, 0), "ab/|cd"),
     ("", "", Change::Key(13, 0), "/|"),
@@ -64,7 +64,7 @@ const CHANGES: &[ChangeRow] = &[
     ("ab", "cd", Change::Edit(4, 4, "\t"), "ab|cd~"),
 ];
 
-/// Puts a text before the caret.
+/// Inserts a text before the caret.
 fn put(alloc: Global, editor: &mut Editor, text: &str) -> Result<(), Memory> {
     for c in text.chars() {
         editor.reserve(alloc, 1)?;
@@ -73,7 +73,7 @@ fn put(alloc: Global, editor: &mut Editor, text: &str) -> Result<(), Memory> {
     Ok(())
 }
 
-/// A text with a caret in it.
+/// Returns a text with a caret in it.
 fn editor_of(alloc: Global, left: &str, right: &str) -> Result<Editor, Memory> {
     let mut editor = Editor::new(alloc);
     put(alloc, &mut editor, left)?;
@@ -85,7 +85,7 @@ fn editor_of(alloc: Global, left: &str, right: &str) -> Result<Editor, Memory> {
     Ok(editor)
 }
 
-/// A character as the table writes it.
+/// Returns a character in the notation of the table.
 fn written(c: char) -> char {
     match c {
         '\n' => '/',
@@ -94,7 +94,7 @@ fn written(c: char) -> char {
     }
 }
 
-/// Appends characters as the table writes them.
+/// Appends characters in the notation of the table.
 fn put_written(text: &mut String, chars: &[char]) -> Result<(), Memory> {
     for c in chars {
         text.push(written(*c))?;
@@ -102,7 +102,7 @@ fn put_written(text: &mut String, chars: &[char]) -> Result<(), Memory> {
     Ok(())
 }
 
-/// A text with its caret as the table writes it.
+/// Returns a text with its caret in the notation of the table.
 fn shown(alloc: Global, editor: &Editor) -> Result<String, Memory> {
     let mut text = String::new(alloc);
     put_written(&mut text, editor.left())?;
@@ -111,7 +111,7 @@ fn shown(alloc: Global, editor: &Editor) -> Result<String, Memory> {
     Ok(text)
 }
 
-/// What a change made of an editor, as the table writes it.
+/// Returns the result of a change of an editor in the notation of the table.
 fn answered(
     alloc: Global,
     editor: &Editor,
@@ -127,7 +127,7 @@ fn answered(
     Ok(text)
 }
 
-/// Makes a change.
+/// Performs a change.
 fn make(
     alloc: Global,
     editor: &mut Editor,
@@ -150,7 +150,7 @@ fn make(
     }
 }
 
-/// Whether a row is right.
+/// Returns whether a row is right.
 fn is_right(alloc: Global, row: &ChangeRow) -> Result<bool, Memory> {
     let (left, right, change, wanted) = row;
     let mut editor = editor_of(alloc, left, right)?;
@@ -166,7 +166,7 @@ fn changes(rt: HostRuntime) -> Result<(), Fail> {
     Ok(())
 }
 
-/// Whether a text of a million characters takes no more, and one in the place of another.
+/// Returns whether a text of a million characters does not accept another one, but accepts one that replaces another.
 fn keeps_its_length(alloc: Global) -> Result<bool, Fail> {
     let text = vec![in alloc; 'x'; 1_000_000]?;
     let mut editor = Editor::new(alloc);
@@ -182,7 +182,7 @@ fn keeps_its_length(alloc: Global) -> Result<bool, Fail> {
     )
 }
 
-/// Whether a text is put in the place of two characters before the caret, and a copy made before stays as it was.
+/// Returns whether a text replaces two characters before the caret, and a copy made before is unchanged.
 fn replaces_two(alloc: Global) -> Result<bool, Fail> {
     let mut editor = editor_of(alloc, "abc", "de")?;
     editor.reserve(alloc, 4_097)?;
@@ -200,14 +200,14 @@ fn long_texts_and_copies(rt: HostRuntime) -> Result<(), Fail> {
     Ok(())
 }
 
-/// Errors, and how they are printed.
+/// Errors and their printed texts.
 const PRINTED: &[(EditError, &str)] = &[
     (EditError::Place, "refused E1"),
     (EditError::Length, "refused E2"),
     (EditError::Memory, "out of memory"),
 ];
 
-/// Whether an error is printed so.
+/// Returns whether an error has this printed text.
 fn is_printed(alloc: Global, error: &EditError, wanted: &str) -> Result<bool, AllocError> {
     Ok(format!(in alloc; "{error}")?.as_str() == wanted)
 }

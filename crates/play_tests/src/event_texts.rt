@@ -1,9 +1,9 @@
-//! The edit and the last items that the steps of an event leave.
+//! Tests the edit and the last items after the steps of an event.
 
 ghost use Rattle.std.specs.Prelude.{◌≡◌, ◌<◌, ◌^◌, length};
 ghost use Rattle.kmn_base.specs.declared.limits.TheConstants.{EVENT_PUTS, WINDOW_ITEMS};
 
-use engine_state::{Cache, Edited, Inserted, Left};
+use event_text::{CacheBox, Edited, Inserted, Left};
 use kmn_base::Item::{Char, Mark};
 use kmn_base::limits::EVENT_PUTS;
 use kmn_base::{Item, Memory};
@@ -12,9 +12,10 @@ use std::alloc::Global;
 use std::fmt::Write;
 use std::test::Fail;
 
-/// On each line a lent text and the steps on it, parted by a bar, and behind ` ⇒ ` how many of its characters are deleted, what
-/// is inserted, and the last items, parted by bars. A step is a character that is put, `*` for a mark that is put, `<` for an
-/// item that is taken, and `#` for the last character with the marks around it.
+/// Each line contains the caller's text and the steps on it, separated by a bar, and after ` ⇒ ` the number of deleted
+/// characters, the inserted characters, and the last items, separated by bars. A step is a character to append, `*` to append a
+/// mark (a deadkey in the item list), `<` to remove the last item, or `#` to remove the last character with the marks around
+/// it.
 const CASES: &str = "\
 | ⇒ 0||
 abc|xy ⇒ 0|xy|abcxy
@@ -26,14 +27,14 @@ abc|*d ⇒ 0|d|abc*d
 abc|*d*# ⇒ 0||abc
 ab|<<<<*#x ⇒ 2|x|x";
 
-/// Puts an item, if one more may be put.
+/// Appends an item, if the limit of an event allows it.
 fn put(left: &mut Left, item: Item) {
     if left.puts() < EVENT_PUTS {
         left.put(item);
     }
 }
 
-/// Takes the last item, if there is one.
+/// Removes the last item, if there is one.
 fn take(left: &mut Left) {
     left.fill();
     if !left.cache().is_empty() {
@@ -41,7 +42,7 @@ fn take(left: &mut Left) {
     }
 }
 
-/// One step.
+/// Performs one step.
 fn act(left: &mut Left, step: char) {
     match step {
         '<' => take(left),
@@ -51,8 +52,8 @@ fn act(left: &mut Left, step: char) {
     }
 }
 
-/// What is left of a text after these steps.
-fn edited(text: &[char], inserted: Inserted, cache: Cache, steps: &str) -> Edited
+/// Returns the edit of a text by these steps.
+fn edited(text: &[char], inserted: Inserted, cache: CacheBox, steps: &str) -> Edited
     requires few { length text.now < 2 ^ 32 }
     requires room { inserted.room ≡ EVENT_PUTS }
     requires places { cache.room ≡ WINDOW_ITEMS }
@@ -64,7 +65,7 @@ fn edited(text: &[char], inserted: Inserted, cache: Cache, steps: &str) -> Edite
     left.finish()
 }
 
-/// How many characters are deleted, what is inserted, and the last items, as a row writes them.
+/// Returns the number of deleted characters, the inserted characters, and the last items, in the notation of the rows.
 fn shown(alloc: Global, edited: &Edited) -> Result<String, Memory> {
     let mut text = String::new(alloc);
     write!(text, "{}|", edited.deleted)?;
@@ -76,17 +77,17 @@ fn shown(alloc: Global, edited: &Edited) -> Result<String, Memory> {
     Ok(text)
 }
 
-/// What these steps leave of a text, as a row writes it.
+/// Returns the result of these steps on a text, in the notation of the rows.
 fn left_of(alloc: Global, text: &[char], steps: &str) -> Result<String, Fail> {
     if text.len() >= 0x1_0000_0000 {
         return Err(Fail::from("too long a text"));
     }
     let inserted = Inserted::with_room(alloc)?;
-    let cache = Cache::with_room(alloc)?;
+    let cache = CacheBox::with_room(alloc)?;
     Ok(shown(alloc, &edited(text, inserted, cache, steps))?)
 }
 
-/// Whether a row tells what its steps leave.
+/// Returns whether the steps of a row have the result in the row.
 fn tells(alloc: Global, row: &str) -> Result<bool, Fail> {
     let (lent, wanted) = parted(row)?;
     let (text, steps) = lent.split_once('|').unwrap_or((lent, ""));
@@ -102,7 +103,7 @@ fn edits_of_events(rt: HostRuntime) -> Result<(), Fail> {
     Ok(())
 }
 
-/// Whether the text before the window comes to hand when all of the window was taken.
+/// Returns whether the text before the window becomes available after all items of the window are removed.
 fn comes_to_hand(alloc: Global) -> Result<bool, Fail> {
     let steps = "<".repeat(alloc, 100)?;
     Ok(left_of(alloc, &['a'; 100], steps.as_str())?.as_str() == "100||")

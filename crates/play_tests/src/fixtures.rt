@@ -1,11 +1,10 @@
-//! What several tests take: a keyboard, a cache with a mark, and copies of a text.
+//! Helpers of several tests: a keyboard, a cache with a mark (a deadkey in the item list), and copies of a text.
 
 ghost use Rattle.std.specs.Prelude.{◌≡◌, ◌∷◌, ◌++◌, [], IfOk};
 ghost use Rattle.std.specs.List.{repeat};
 ghost use Rattle.kmn_base.specs.declared.items.Item.TheVariants as item;
-ghost use Rattle.kmn_base.specs.declared.limits.TheConstants.{WINDOW_ITEMS};
 
-use engine_state::Cache;
+use context_cache::Cache;
 use kmn_base::Item::{Char, Mark};
 use kmn_base::Memory;
 use std::alloc::{AllocError, Global};
@@ -14,17 +13,17 @@ use std::alloc::{AllocError, Global};
 pub const KEYBOARD: &[u8] =
     b"begin Unicode > use(main)\ngroup(main) using keys\n+ '`' > dk(g)\ndk(g) + 'a' > U+00E0\n";
 
-/// A character and a mark at the end of the text before the caret.
-pub fn marked(alloc: Global) -> Result<Cache, Memory>
-    ensures { IfOk result (λ cache. cache ≡ record { items = item.Char 97 ∷ item.Mark 1 ∷ []; room = WINDOW_ITEMS }) }
+/// Returns a cache that contains a character and a mark, the last items before the caret.
+pub fn marked() -> Cache
+    ensures { result ≡ item.Char 97 ∷ item.Mark 1 ∷ [] }
 {
-    let mut cache = Cache::with_room(alloc)?;
+    let mut cache = Cache::new();
     cache.put(Char('a'));
     cache.put(Mark(1));
-    Ok(cache)
+    cache
 }
 
-/// Appends so many copies of a text.
+/// Appends `count` copies of a text.
 pub fn put_copies(
     alloc: Global,
     script: &mut Vec<u8>,
@@ -37,7 +36,7 @@ pub fn put_copies(
     script.extend_from_slice(copies.as_bytes())
 }
 
-/// A word, so many copies of a text, and what stands behind them.
+/// Returns a word followed by `count` copies of a text and by another text.
 pub fn with_copies(
     alloc: Global,
     word: &str,

@@ -1,15 +1,16 @@
-//! Scripts for many fields with the entries that they give or the rule that they break.
+//! Tests scripts for several fields: the entries that they contain or the rule that they break.
 
 use crate::fixtures::put_copies;
 use kmn_base::{Event, Refusal};
-use play_script::{HostEntry, ScriptError, read_host};
-use rule_model::KeyDictionary;
+use play_script::ScriptError;
 use source_tests::fixtures::parted;
 use std::alloc::Global;
 use std::test::Fail;
+use text_host::{HostEntry, read_host};
+use virtual_keys::KeyDictionary;
 
-/// A script in each row, and behind ` ⇒ ` its entries, each with its line, or the rule that it breaks. `¶` is a line feed. What
-/// stands between `|` are parts of the script, each once or as often as the number before its `×` says.
+/// Each row contains a script and, after ` ⇒ `, its entries, each with its line, or the rule that it breaks. `¶` is a line
+/// feed. `|` separates the parts of the script. A part occurs once, or as often as the number before its `×` specifies.
 const ROWS: &str = "\
 # x¶ ⇒ 
  ⇒ 
@@ -47,7 +48,7 @@ open¶|100001×preview [K_F5]¶ ⇒ P07 100002
 open¶|100000×preview [K_F5]¶|preview [K_F5] x ⇒ P07 100002
 4194305×# ⇒ P06 1";
 
-/// The bytes of a row's script.
+/// Returns the bytes of the script of a row.
 fn script_of(alloc: Global, row: &str) -> Result<Vec<u8>, Fail> {
     let text = row.replace(alloc, "¶", "\n")?;
     let mut script = Vec::new(alloc);
@@ -65,7 +66,7 @@ fn script_of(alloc: Global, row: &str) -> Result<Vec<u8>, Fail> {
     Ok(script)
 }
 
-/// Appends an entry as a row has it.
+/// Appends an entry in the notation of the rows.
 fn show_entry(shown: &mut String, entry: &HostEntry) -> Result<(), Fail> {
     match entry {
         HostEntry::Open { line } => write!(shown, "{line}:open")?,
@@ -85,7 +86,7 @@ fn show_entry(shown: &mut String, entry: &HostEntry) -> Result<(), Fail> {
     Ok(())
 }
 
-/// Entries as a row has them.
+/// Returns entries in the notation of the rows.
 fn shown_entries(alloc: Global, entries: &[HostEntry]) -> Result<String, Fail> {
     let mut shown = String::new(alloc);
     for entry in entries {
@@ -97,7 +98,7 @@ fn shown_entries(alloc: Global, entries: &[HostEntry]) -> Result<String, Fail> {
     Ok(shown)
 }
 
-/// What a script gives, as a row has it.
+/// Returns the entries of a script or its refusal, in the notation of the rows.
 fn given(alloc: Global, script: &[u8]) -> Result<String, Fail> {
     match read_host(alloc, script, &KeyDictionary::new(alloc)) {
         Ok(entries) => shown_entries(alloc, entries.as_slice()),
@@ -108,7 +109,7 @@ fn given(alloc: Global, script: &[u8]) -> Result<String, Fail> {
     }
 }
 
-/// The first row that says what its script doesn't give.
+/// Returns the first row with a different result.
 fn wrong_row(alloc: Global) -> Result<Option<&'static str>, Fail> {
     for row in ROWS.lines() {
         let (text, wanted) = parted(row)?;

@@ -1,20 +1,20 @@
-//! Fields of one host.
+//! Tests the fields of one host.
 
 use crate::fixtures::KEYBOARD;
 use kmn_base::limits::FIELDS;
 use kmn_base::{Event, KeyPress};
 use kmn_compiler::compile;
 use kmx_verifier::{Verified, verify};
-use play_session::{Host, HostError};
 use std::alloc::{AllocError, Global};
 use std::test::Fail;
+use text_host::{Host, HostError};
 
-/// The accent's key.
+/// The key of the accent.
 const ACCENT: KeyPress = KeyPress { code: 192, mods: 0 };
-/// The vowel's.
+/// The key of the vowel.
 const VOWEL: KeyPress = KeyPress { code: 65, mods: 0 };
 
-/// A host with so many fields.
+/// Returns a host with `fields` fields.
 fn host_with<'a>(
     alloc: Global,
     file: &'a Verified<'a>,
@@ -27,7 +27,7 @@ fn host_with<'a>(
     Ok(host)
 }
 
-/// Whether a host of two fields has no other.
+/// Returns whether a host of two fields has no other.
 fn has_two(alloc: Global, file: &Verified) -> Result<bool, HostError> {
     let mut host = host_with(alloc, file, 2)?;
     let step = host.step(alloc, 9, &Event::Key(VOWEL));
@@ -40,14 +40,14 @@ fn has_two(alloc: Global, file: &Verified) -> Result<bool, HostError> {
     )
 }
 
-/// Whether a host has the most fields that it can have, and no more.
+/// Returns whether a host has the maximum number of fields, and no more.
 fn is_full(alloc: Global, file: &Verified) -> Result<bool, HostError> {
     let mut host = host_with(alloc, file, FIELDS)?;
     let more = host.add(alloc);
     Ok(matches!(more, Err(HostError::Full)) && host.field(64).is_some() && host.field(65).is_none())
 }
 
-/// Whether a press in a field inserts a character, and a preview before it says the same.
+/// Returns whether a press in a field inserts these characters, and a preview made before returns the same.
 fn inserts(
     alloc: Global,
     host: &mut Host,
@@ -67,7 +67,7 @@ fn inserts(
     )
 }
 
-/// Whether an accent waits in its own field alone.
+/// Returns whether an accent waits only in its own field.
 fn are_apart(alloc: Global, file: &Verified) -> Result<bool, HostError> {
     let mut host = host_with(alloc, file, 2)?;
     Ok(
@@ -77,13 +77,13 @@ fn are_apart(alloc: Global, file: &Verified) -> Result<bool, HostError> {
     )
 }
 
-/// Whether all of it holds of a host over the keyboard of a file.
+/// Returns whether a host over the keyboard of a file passes all these checks.
 fn is_right_over(alloc: Global, bytes: &[u8]) -> Result<bool, Fail> {
     let file = verify(alloc, bytes)?;
     Ok(has_two(alloc, &file)? && is_full(alloc, &file)? && are_apart(alloc, &file)?)
 }
 
-/// Whether all of it holds of a host over that keyboard.
+/// Returns whether a host over that keyboard passes all these checks.
 fn is_right(alloc: Global) -> Result<bool, Fail> {
     let compiled = compile(alloc, KEYBOARD, &[])?;
     is_right_over(alloc, compiled.bytes.as_slice())
@@ -95,7 +95,7 @@ fn fields_of_a_host(rt: HostRuntime) -> Result<(), Fail> {
     Ok(())
 }
 
-/// Errors, and how they are printed.
+/// Errors and their printed texts.
 const PRINTED: &[(HostError, &str)] = &[
     (HostError::NoField, "no such field"),
     (HostError::Full, "no room for another field"),
@@ -104,7 +104,7 @@ const PRINTED: &[(HostError, &str)] = &[
     (HostError::Memory, "out of memory"),
 ];
 
-/// Whether an error is printed so.
+/// Returns whether an error has this printed text.
 fn is_printed(alloc: Global, error: &HostError, wanted: &str) -> Result<bool, AllocError> {
     Ok(format!(in alloc; "{error}")?.as_str() == wanted)
 }

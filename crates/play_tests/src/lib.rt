@@ -1,11 +1,11 @@
-//! The tests of what a play is told and what it changes: `caches`, `event_texts` and `option_values` of `engine_state`, `scripts`
-//! and, for many fields, `host_scripts` of `play_script`, `editing` of the editor of `play_session` and `hosts` of its host, and
-//! `plays` of `play_transcript`; and what errors print: `refusals` of
-//! `kmn_base`, and `calls` of `curlew_calls`.
+//! Tests the input and the effects of a play: `caches` tests `context_cache`, `event_texts` tests `event_text`, `option_values`
+//! tests `option_store`, `scripts` tests `play_script`, `editing` tests `editor_model`, `hosts` and `host_scripts` test
+//! `text_host`, and `plays` tests `play_transcript`. Also tests the printed texts of errors: `refusals` for `kmn_base`, and
+//! `calls` for `curlew_calls`.
 //!
-//! They stand here because a crate with tests is proved twice, once with them and once without: so each of those crates is
-//! proved once, and the tests are proved over them, beside those of `source_tests`, which parts their rows. `fixtures` has what
-//! several of them take. No layer stands above.
+//! A crate with tests is proved twice, once with them and once without. The tests are in this crate so that each tested crate
+//! is proved only once. Depends on the tested crates, and on `source_tests`, which splits the rows of tables. `fixtures` has
+//! helpers of several tests. No crate depends on this one.
 #![tactic(auto)]
 
 #[cfg(test)]

@@ -1,14 +1,14 @@
-//! What stores hold after calls on them.
+//! Tests the values of stores after calls on them.
 
 ghost use Rattle.std.specs.Prelude.{◌≡◌, ◌<◌, length};
 
-use engine_state::Held::{Host, Store};
-use engine_state::{Held, Options};
 use kmn_base::Memory;
+use option_store::Held::{Host, Store};
+use option_store::{Held, Options};
 use std::alloc::Global;
 use std::test::Fail;
 
-/// A call on a store; the host gives it one character.
+/// A call on a store. The host sets one character.
 #[derive(Clone, Copy, Debug)]
 enum Call {
     Set(u32),
@@ -17,10 +17,10 @@ enum Call {
     HostSet(char),
 }
 
-/// What a store then holds: its current value, its saved one, and the host's character.
+/// The values of a store after a call: its current value, its saved value, and the character that the host set.
 type Wanted = (Held, Option<Held>, Option<char>);
 
-/// Calls one after the other on the first two of three stores, and what both then hold.
+/// Successive calls on the first two of three stores, and the values of both after each call.
 const CALLS: &[(u32, Call, Wanted, Wanted)] = &[
     (
         1,
@@ -90,8 +90,8 @@ const CALLS: &[(u32, Call, Wanted, Wanted)] = &[
     ),
 ];
 
-/// One call.
-#[tactic(auto, using(engine_state::proofs::FirstCells::changed_count))]
+/// Performs one call.
+#[tactic(auto, using(option_store::proofs::FirstCells::changed_count))]
 fn act(alloc: Global, options: &mut Options, store: u32, call: Call) -> Result<(), Memory>
     requires { store < length options.old }
     ensures { length options.new ≡ length options.old }
@@ -105,7 +105,7 @@ fn act(alloc: Global, options: &mut Options, store: u32, call: Call) -> Result<(
     Ok(())
 }
 
-/// What a store holds.
+/// Returns the values of a store.
 fn held(options: &Options, store: u32) -> Wanted
     requires { store < length options.now }
 {
@@ -116,7 +116,7 @@ fn held(options: &Options, store: u32) -> Wanted
     )
 }
 
-/// Whether the first two stores hold what they should.
+/// Returns whether the first two stores have these values.
 fn hold(options: &Options, first: Wanted, second: Wanted) -> bool
     requires { 1 < length options.now }
 {

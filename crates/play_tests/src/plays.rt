@@ -1,18 +1,17 @@
-//! Plays of scripts for many fields, with all that they print.
+//! Tests plays of scripts for several fields, with all lines that they print.
 
 use crate::fixtures::KEYBOARD;
 use kmn_base::Seq;
 use kmn_compiler::compile;
 use kmn_outside::MemorySink;
 use kmx_verifier::{Verified, verify};
-use play_script::read_host;
-use play_session::Host;
 use play_transcript::{PlayEnd, play_host};
-use rule_model::KeyDictionary;
 use std::alloc::Global;
 use std::test::Fail;
+use text_host::{Host, read_host};
+use virtual_keys::KeyDictionary;
 
-/// A script, what its play prints, and how it ends. `¶` is a line feed.
+/// A script, the output of its play, and how the play ends. `¶` is a line feed.
 const PLAYS: &[(&str, &str, PlayEnd)] = &[
     (
         "open¶[K_BKQUOTE]¶open¶[K_A]¶field 1¶preview [K_A]¶[K_A]¶",
@@ -33,7 +32,7 @@ const PLAYS: &[(&str, &str, PlayEnd)] = &[
     ),
 ];
 
-/// Whether a play prints what is wanted and ends so.
+/// Returns whether a play prints the expected lines and ends like this.
 fn is_right(
     alloc: Global,
     file: &Verified,
@@ -49,7 +48,7 @@ fn is_right(
     Ok(ended == end && out.written() == printed.as_bytes())
 }
 
-/// The first script whose play with the keyboard of a file is another.
+/// Returns the first script that plays differently with the keyboard of a file.
 fn wrong_over(alloc: Global, bytes: &[u8]) -> Result<Option<&'static str>, Fail> {
     let file = verify(alloc, bytes)?;
     for &(script, printed, end) in PLAYS {
@@ -60,7 +59,7 @@ fn wrong_over(alloc: Global, bytes: &[u8]) -> Result<Option<&'static str>, Fail>
     Ok(None)
 }
 
-/// The first script whose play with that keyboard is another.
+/// Returns the first script that plays differently with that keyboard.
 fn wrong_play(alloc: Global) -> Result<Option<&'static str>, Fail> {
     let compiled = compile(alloc, KEYBOARD, &[])?;
     wrong_over(alloc, compiled.bytes.as_slice())

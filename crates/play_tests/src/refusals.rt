@@ -1,4 +1,4 @@
-//! What errors print, gathered in a list, and look-ups.
+//! Tests the printed texts of errors, collected in a list, and look-ups of names and digits.
 
 use kmn_base::bytes::hex_digit;
 use kmn_base::names::named_in;
@@ -8,21 +8,21 @@ use std::alloc::{AllocError, Global};
 use std::fmt::Write;
 use std::test::Fail;
 
-/// What the errors of `printed` print.
+/// The lines that the errors of `printed` print.
 const LINES: &str =
     "refused L04 line 3\nrefused S10 line 12\nrefused C23 size 67108865\nout of memory\n";
 
-/// Appends what an error prints, as a line.
+/// Appends the line that an error prints.
 fn print(lines: &mut String, error: CompileError) -> Result<(), AllocError> {
     write!(lines, "{error}\n")
 }
 
-/// The refusal of a line.
+/// Returns the refusal of a line.
 fn refused(line: u32, code: Code) -> CompileError {
     CompileError::Refused(Refusal { line, code })
 }
 
-/// Appends what errors of each kind print.
+/// Appends the lines that errors of each kind print.
 fn print_errors(lines: &mut String) -> Result<(), AllocError> {
     let code = Code::C23;
     let size = 67_108_865;
@@ -32,7 +32,7 @@ fn print_errors(lines: &mut String) -> Result<(), AllocError> {
     print(lines, CompileError::Memory)
 }
 
-/// What errors of each kind print.
+/// Returns the lines that errors of each kind print.
 fn printed(alloc: Global) -> Result<String, AllocError> {
     let mut lines = String::new(alloc);
     print_errors(&mut lines)?;
@@ -48,7 +48,7 @@ fn gather(list: &mut Text, lines: &str) -> Result<(), Memory> {
     Ok(())
 }
 
-/// Whether the list of the lines that are printed has its length, beginning and end.
+/// Returns whether the printed lines are right, and their list has the right length, beginning and end.
 fn are_gathered(alloc: Global) -> Result<bool, Fail> {
     let printed = printed(alloc)?;
     let mut list: Text = Seq::new(alloc);
@@ -61,7 +61,7 @@ fn are_gathered(alloc: Global) -> Result<bool, Fail> {
     )
 }
 
-/// Whether a name and a digit are found.
+/// Returns whether a name and a digit are found.
 fn are_found() -> bool {
     named_in(&[("Shift", 16), ("Caps", 256)], b"CAPS") == Some(256) && hex_digit(b'f') == Some(15)
 }

@@ -1,4 +1,4 @@
-//! Scripts with the entries that they give or the rule that they break, and the lines of a transcript.
+//! Tests scripts: the entries that they contain or the rule that they break, and the lines of a transcript.
 
 use crate::fixtures::with_copies;
 use kmn_base::{Code, Element, Event, Item, Outcome, Refusal, Text};
@@ -6,14 +6,15 @@ use play_script::{
     ScriptError, end_line, expect_line, line_of, read_script, refused_event_line, text_line,
     value_line,
 };
-use rule_model::{Entry, KeyDictionary};
+use rule_model::Entry;
 use source_tests::fixtures::{is_refusal, parted};
 use std::alloc::{AllocError, Global};
 use std::test::Fail;
+use virtual_keys::KeyDictionary;
 
-/// A script in each row, and behind ` ⇒ ` its entries, each with its line, or the rule that it breaks. `¶` is a line feed, `␍` a
-/// carriage return, `␉` a tab, `⌖` U+FEFF, and a backquote the byte FF. A press has its code and its modifiers. The keyboard
-/// has the names `T_flip` and `U_0041`.
+/// Each row contains a script and, after ` ⇒ `, its entries, each with its line, or the rule that it breaks. `¶` is a line
+/// feed, `␍` a carriage return, `␉` a tab, `⌖` U+FEFF, and a backquote the byte FF. A key press has its code and its modifiers.
+/// The keyboard has the names `T_flip` and `U_0041`.
 const ROWS: &str = "\
 [K_A] ⇒ 1:65:0
  ⇒ 
@@ -98,7 +99,7 @@ caret 0 0 ⇒ P08 1
 [K_A]] ⇒ P08 1
 [K_A]¶[K_A] x [K_QQ] ⇒ P08 2";
 
-/// The character that one of a row stands for.
+/// Returns the character that a character of a row stands for.
 fn character(c: char) -> char {
     match c {
         '¶' => '\n',
@@ -109,7 +110,7 @@ fn character(c: char) -> char {
     }
 }
 
-/// The bytes of a row's script.
+/// Returns the bytes of the script of a row.
 fn script_of(alloc: Global, text: &str) -> Result<Vec<u8>, Fail> {
     let mut script = Vec::new(alloc);
     for c in text.chars() {
@@ -122,7 +123,7 @@ fn script_of(alloc: Global, text: &str) -> Result<Vec<u8>, Fail> {
     Ok(script)
 }
 
-/// Appends a text behind a word.
+/// Appends a word, a space and a text.
 fn show_text(shown: &mut String, word: &str, text: &[char]) -> Result<(), Fail> {
     write!(shown, "{word} ")?;
     for c in text {
@@ -131,7 +132,7 @@ fn show_text(shown: &mut String, word: &str, text: &[char]) -> Result<(), Fail> 
     Ok(())
 }
 
-/// Appends an event as a row has it.
+/// Appends an event in the notation of the rows.
 fn show_event(shown: &mut String, event: &Event) -> Result<(), Fail> {
     match event {
         Event::Key(press) => write!(shown, "{}:{}", press.code, press.mods)?,
@@ -150,7 +151,7 @@ fn show_event(shown: &mut String, event: &Event) -> Result<(), Fail> {
     Ok(())
 }
 
-/// Appends an entry as a row has it.
+/// Appends an entry in the notation of the rows.
 fn show_entry(shown: &mut String, entry: &Entry) -> Result<(), Fail> {
     match entry {
         Entry::Act { line, event } => {
@@ -164,7 +165,7 @@ fn show_entry(shown: &mut String, entry: &Entry) -> Result<(), Fail> {
     }
 }
 
-/// Entries as a row has them.
+/// Returns entries in the notation of the rows.
 fn shown_entries(alloc: Global, entries: &[Entry]) -> Result<String, Fail> {
     let mut shown = String::new(alloc);
     for entry in entries {
@@ -176,13 +177,13 @@ fn shown_entries(alloc: Global, entries: &[Entry]) -> Result<String, Fail> {
     Ok(shown)
 }
 
-/// Whether entries are those of a row.
+/// Returns whether the entries are the expected ones.
 fn are_entries(alloc: Global, entries: &[Entry], wanted: &str) -> Result<bool, Fail> {
     let shown = shown_entries(alloc, entries)?;
     Ok(shown.as_str() == wanted)
 }
 
-/// Whether a script gives what a row says.
+/// Returns whether a script has the expected entries or refusal.
 fn gives(alloc: Global, script: &[u8], names: &KeyDictionary, wanted: &str) -> Result<bool, Fail> {
     match read_script(alloc, script, names) {
         Ok(entries) => are_entries(alloc, entries.as_slice(), wanted),
@@ -191,13 +192,14 @@ fn gives(alloc: Global, script: &[u8], names: &KeyDictionary, wanted: &str) -> R
     }
 }
 
-/// Whether a row says what its script gives.
+/// Returns whether the script of a row has the result in the row.
 fn is_right(alloc: Global, names: &KeyDictionary, row: &str) -> Result<bool, Fail> {
     let (text, wanted) = parted(row)?;
     gives(alloc, script_of(alloc, text)?.as_slice(), names, wanted)
 }
 
-/// A line, how often it stands in a script, what stands behind it, and what the script gives. `¶` is a line feed.
+/// A line, the number of its copies in a script, the text after them, and the entries or the refusal of the script. `¶` is a
+/// line feed.
 const LIMITS: &[(&str, usize, &str, &str)] = &[
     ("#", 4_194_304, "", ""),
     ("#", 4_194_305, "", "P06 1"),
@@ -208,8 +210,8 @@ const LIMITS: &[(&str, usize, &str, &str)] = &[
     ("'a' ", 4_096, "¶", "P02 1"),
 ];
 
-/// A word, what stands so many times behind it, and the end of the line: a string of so many characters, or a name; and
-/// whether it is read.
+/// A word, a text, the number of its copies after the word, and the end of the line; and whether the line is read. The copies
+/// are a string or a name of this many characters.
 const LENGTHS: &[(&str, &str, usize, &str, bool)] = &[
     ("expect ", "'é'", 4_096, "", true),
     ("expect ", "'é'", 4_097, "", false),
@@ -217,7 +219,7 @@ const LENGTHS: &[(&str, &str, usize, &str, bool)] = &[
     ("option ", "é", 81, " 'a'", false),
 ];
 
-/// Whether a script of one line is read as one entry.
+/// Returns whether a script of one line is read as one entry.
 fn is_read(alloc: Global, names: &KeyDictionary, script: &[u8]) -> bool {
     match read_script(alloc, script, names) {
         Ok(entries) => entries.len() == 1,
@@ -225,7 +227,7 @@ fn is_read(alloc: Global, names: &KeyDictionary, script: &[u8]) -> bool {
     }
 }
 
-/// The names of the keyboard's own keys.
+/// Returns the names of the custom keys of the keyboard.
 fn names(alloc: Global) -> Result<KeyDictionary, Fail> {
     let mut names = KeyDictionary::new(alloc);
     names.add(b"T_flip")?;
@@ -233,7 +235,7 @@ fn names(alloc: Global) -> Result<KeyDictionary, Fail> {
     Ok(names)
 }
 
-/// The first row that says what its script doesn't give.
+/// Returns the first row whose script has a different result.
 fn wrong_row(alloc: Global) -> Result<Option<&'static str>, Fail> {
     let names = names(alloc)?;
     for row in ROWS.lines() {
@@ -244,7 +246,7 @@ fn wrong_row(alloc: Global) -> Result<Option<&'static str>, Fail> {
     Ok(None)
 }
 
-/// The script of a row of `LIMITS`.
+/// Returns the script of a row of `LIMITS`.
 fn limit_script(
     alloc: Global,
     line: &str,
@@ -256,7 +258,7 @@ fn limit_script(
     with_copies(alloc, "", line.as_str(), count, last.as_str())
 }
 
-/// The first row of `LIMITS` that isn't right, by what it wants.
+/// Returns the expected result of the first row of `LIMITS` that isn't right.
 fn wrong_limit(alloc: Global) -> Result<Option<&'static str>, Fail> {
     let names = names(alloc)?;
     for &(line, count, last, wanted) in LIMITS {
@@ -268,7 +270,7 @@ fn wrong_limit(alloc: Global) -> Result<Option<&'static str>, Fail> {
     Ok(None)
 }
 
-/// The first row of `LENGTHS` that isn't right, by its word.
+/// Returns the word of the first row of `LENGTHS` that isn't right.
 fn wrong_length(alloc: Global) -> Result<Option<&'static str>, Fail> {
     let names = names(alloc)?;
     for &(word, token, count, end, read) in LENGTHS {
@@ -296,7 +298,7 @@ fn scripts_have_limits(rt: HostRuntime) -> Result<(), Fail> {
     Ok(())
 }
 
-/// Whether the lines of an event and of two values are as they should be.
+/// Returns whether the lines of an event and of two values are right.
 fn are_event_lines(alloc: Global) -> Result<bool, Fail> {
     let outcome = Outcome {
         delete: 2,
@@ -327,7 +329,7 @@ fn are_event_lines(alloc: Global) -> Result<bool, Fail> {
     )
 }
 
-/// Whether the other lines are as they should be.
+/// Returns whether the other lines are right.
 fn are_other_lines(alloc: Global) -> Result<bool, Fail> {
     let expected = expect_line(alloc, 12)?;
     let refused = refused_event_line(alloc, 3, Code::E1)?;
@@ -352,7 +354,7 @@ fn lines_of_a_transcript(rt: HostRuntime) -> Result<(), Fail> {
     Ok(())
 }
 
-/// Errors, and how they are printed.
+/// Errors and their printed texts.
 const PRINTED: &[(ScriptError, &str)] = &[
     (
         ScriptError::Refused(Refusal {
@@ -364,7 +366,7 @@ const PRINTED: &[(ScriptError, &str)] = &[
     (ScriptError::Memory, "out of memory"),
 ];
 
-/// Whether an error is printed so.
+/// Returns whether an error has this printed text.
 fn is_printed(alloc: Global, error: &ScriptError, wanted: &str) -> Result<bool, AllocError> {
     Ok(format!(in alloc; "{error}")?.as_str() == wanted)
 }

@@ -1,4 +1,4 @@
--- What is left of a play behind an entry, where it goes on and where it stops.
+-- The rest of a play after an entry, if the play continues and if it stops.
 use Rattle.std.proofs.Common.{◌≡◌, ℕ, zero, suc, ◌+◌, ◌<◌, ◌≤◌, Bool, true, false, List, [], ◌∷◌, ◌++◌, length, drop, get_or, cond, Option, Some, None, Result, refl, sym, ap, ◌∙◌, subst, arith, add-one, drop-cons, append-nil}
 use Rattle.std.specs.Prelude.{nat_le}
 use Rattle.std.specs.Str.{bytes_eq}
@@ -16,9 +16,9 @@ use Rattle.play_transcript.specs.Printing.{AppendsBut, IsBegun, Prints}
 use Rattle.play_transcript.specs.declared.playing.PlayEnd.{PlayEnd}
 use Rattle.play_transcript.specs.declared.playing.PlayEnd.TheVariants as ended
 use Rattle.play_transcript.proofs.PrintingLaws.{none_appended, appended_more, appended_all, begun_within, prints_rest}
-use Rattle.play_session.specs.Host.{HostState, with_field, with_new_field}
-use Rattle.play_script.specs.declared.entries.HostEntry.{HostEntry}
-use Rattle.play_script.specs.declared.entries.HostEntry.TheVariants.{Open, Field, Preview, Act, Expect}
+use Rattle.text_host.specs.Host.{HostState, with_field, with_new_field}
+use Rattle.text_host.specs.declared.entries.HostEntry.{HostEntry}
+use Rattle.text_host.specs.declared.entries.HostEntry.TheVariants.{Open, Field, Preview, Act, Expect}
 use Rattle.play_transcript.specs.declared.host_playing.Play.{Play}
 use Rattle.play_transcript.specs.declared.host_playing.Played.TheVariants as played
 use Rattle.play_transcript.specs.EachEntry.{AreSessions, PlaysBy, Plays}
@@ -26,7 +26,7 @@ use Rattle.play_transcript.specs.HostText.{entry_lines, end_lines, end_unless, l
 use Rattle.play_transcript.specs.HostPlaying.{first_play, turned_to, entry_refusal, shown, stepped, compared, after_entry, rest_unless}
 use Rattle.play_transcript.proofs.FieldLaws.{of_field}
 
--- what an entry keeps
+-- the properties of a play that an entry keeps
 pub record Keeps (before after : Play) : Type 0 where
   pub sessions : AreSessions after.host
   pub events : after.events ≤ before.events + 1
@@ -101,7 +101,7 @@ module _ (before : Play) (entries : List HostEntry) (i : ℕ) (d entry : HostEnt
   first_entry = let first : drop i entries ≡ get_or entries i d ∷ drop (i + 1) entries = rw add-one (drop-cons entries i d within) in
       first ∙ ap (λ (x : HostEntry). x ∷ drop (i + 1) entries) (sym at)
 
-  -- the lines and the end that are left, by whether the entry is refused
+  -- the remaining lines and the end of the play, given whether the entry is refused
   lines_by : (refusal : Option Code) → entry_refusal before entry ≡ refusal
       → lines_left before (drop i entries) ≡ entry_lines before entry ++ rest_unless refusal (lines_left (after_entry before entry) (drop (i + 1) entries))
   lines_by refusal is =
@@ -120,7 +120,7 @@ module _ (before : Play) (entries : List HostEntry) (i : ℕ) (d entry : HostEnt
       → AppendsBut (entry_lines before entry ++ rest_unless refusal (lines_left (after_entry before entry) (drop (i + 1) entries))) start put_before whole
   appends_by refusal is start put_before whole = subst (λ (lines : List ℕ). AppendsBut lines start put_before whole) (lines_by refusal is)
 
-  -- an entry that went on
+  -- the properties of a play that continues after an entry
   pub record HasGoneOn (after : Play) : Type 0 where
     pub sessions : AreSessions after.host
     pub events : after.events ≤ before.events + 1
@@ -144,7 +144,7 @@ module _ (before : Play) (entries : List HostEntry) (i : ℕ) (d entry : HostEnt
   pub gone_on : SessionsBegin → SessionsGoOn → (after : Play) → AreSessions before.host → Plays before after entry played.On → HasGoneOn after
   gone_on begin go_on after are plays = goes_on_by (entry_refusal before entry) refl after (entry_keeps begin go_on before entry are) plays
 
-  -- an entry that was refused ends the play
+  -- if an entry is refused, the play ends
   record Stops : Type 0 where
     refusal : Code
     is : entry_refusal before entry ≡ Some refusal
@@ -165,13 +165,13 @@ module _ (before : Play) (entries : List HostEntry) (i : ℕ) (d entry : HostEnt
       appended_all (entry_lines before entry) start put_before put_after whole
       (subst (λ (lines : List ℕ). AppendsBut lines start put_before whole) (append-nil (entry_lines before entry)) (appends_by (Some h.refusal) h.is start put_before whole appended)) put
 
-  -- a first part of the lines of an entry is one of all lines that are left
+  -- if the beginning of the lines of an entry is printed, it is the beginning of all remaining lines
   pub entry_stops : (start put_before put_after whole : List ℕ) → Appends start put_before whole → IsBegun put_before put_after (entry_lines before entry) → IsBegun start put_after whole
   entry_stops start put_before put_after whole appended begun =
       begun_within (entry_lines before entry) (rest_unless (entry_refusal before entry) (lines_left (after_entry before entry) (drop (i + 1) entries))) start put_before put_after whole
       (appends_by (entry_refusal before entry) refl start put_before whole appended) begun
 
--- behind the last entry the last lines are printed
+-- if there are no more entries and the last lines are printed, everything is printed
 pub play_ends : {A E : Type 0} (play : Play) (entries : List HostEntry) (i : ℕ) (start before after whole : List ℕ) (result : Result A E)
     → length entries ≤ i → AppendsBut (lines_left play (drop i entries)) start before whole → Prints before after (end_lines play) result → Prints start after whole result
 play_ends play entries i start before after whole result all appended prints =

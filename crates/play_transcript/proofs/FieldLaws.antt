@@ -1,4 +1,4 @@
--- What an event, a preview and an expected text print and leave in the field that is turned to.
+-- The lines that an event, a preview and an expected text print in the current field, and the session after them.
 use Rattle.std.proofs.Common.{◌≡◌, ℕ, zero, suc, ◌+◌, ◌<◌, Bool, true, false, List, [], ◌∷◌, ◌++◌, length, drop, get_or, cond, Option, Some, None, Result, Ok, Err, refl, sym, ap, ◌∙◌, subst, add-one, drop-cons}
 use Rattle.std.specs.Prelude.{IsSomeAnd}
 use Rattle.std.specs.List.{All}
@@ -22,8 +22,8 @@ use Rattle.play_transcript.specs.Playing.{happening_lines}
 use Rattle.play_transcript.specs.Printing.{AppendsBut, IsBegun}
 use Rattle.play_transcript.proofs.PlayingLaws.{step_of_stores, happened_prints}
 use Rattle.play_transcript.proofs.PrintingLaws.{begun_within}
-use Rattle.play_session.specs.Host.{HostState, field_of, with_field}
-use Rattle.play_session.proofs.Alone.{acted}
+use Rattle.text_host.specs.Host.{HostState, field_of, with_field}
+use Rattle.text_host.proofs.Alone.{acted}
 use Rattle.play_transcript.specs.declared.host_playing.Play.{Play}
 use Rattle.play_transcript.specs.EachEntry.{AreSessions, told_lines, TellsOfStores, is_text_of}
 use Rattle.play_transcript.specs.HostText.{front, preview_line, event_text, preview_text, expect_text, text_or_refusal, event_lines, preview_lines, field_text, field_texts}
@@ -31,21 +31,21 @@ use Rattle.play_transcript.specs.HostPlaying.{turned_to, refusal_in}
 
 -- ---- the session of a field
 
--- what holds of all sessions holds of a field's
+-- if a property is true for all sessions of a host, it is true for the session of a field
 pub of_field : (P : SessionState → Type 0) (host : HostState) (field : ℕ) (session : SessionState) → All P host.sessions → field_of host field ≡ Some session → P session
 of_field P host zero session all there = absurd (cc)
 of_field P host (suc place) session all there =
     let within : place < length host.sessions = slice_get_within host.sessions place session there in
     subst P (get_or_from_slice_get host.sessions place session session there) (All-get_or P host.sessions place session within all)
 
--- the session that a field has after an event in it
+-- if an event is done in a field, the field has the session after the event
 behind_step : (before after : HostState) (field : ℕ) (session : SessionState) (event : Event) → field_of before field ≡ Some session → after ≡ with_field field (after_step session event) before
     → field_of after field ≡ Some (after_step session event)
 behind_step before after field session event there left = ap (λ (h : HostState). field_of h field) left ∙ acted before field session (after_step session event) there
 
 -- ---- an event that was done
 
--- it isn't refused
+-- if an event is done, it is not refused
 not_refused : (refusal : Option Code) (session : SessionState) (event : Event) → event_refusal session.state event ≡ refusal → event_of (tab session.tables) session.state event ≡ Ok (happened session event)
     → refusal ≡ None
 not_refused None session event is at = refl
@@ -61,7 +61,7 @@ done : (there : Option SessionState) (session : SessionState) (event : Event) �
     → refusal_in there event ≡ None
 done there session event is at = ap (λ (t : Option SessionState). refusal_in t event) is ∙ not_refused (event_refusal session.state event) session event refl at
 
--- the lines of a step are those that the session behind it tells
+-- the lines of a step by the session after it are the lines of its event
 step_lines_told : ChangesArePrinted → (field : ℕ) (number : ℕ) (before after : Option SessionState) (session : SessionState) (event : Event) (step : Step) → IsSession session
     → before ≡ Some session → after ≡ Some (after_step session event) → event_of (tab session.tables) session.state event ≡ Ok (happened session event) → step ≡ step_of session event
     → told_lines field step after ≡ text_or_refusal (refusal_in before event) number (event_text field event before)
@@ -72,7 +72,7 @@ step_lines_told printed field number before after session event step is there le
     ∙ ap (event_text field event) (sym there)
     ∙ ap (λ (c : Option Code). text_or_refusal c number (event_text field event before)) (sym (done before session event there at))
 
--- and what it tells is of its stores
+-- the changes of the session after a step are changes of its stores
 step_tells : (after : Option SessionState) (session : SessionState) (event : Event) → after ≡ Some (after_step session event) → TellsOfStores after
 step_tells after session event left = subst TellsOfStores (sym left) (step_of_stores session (after_step session event) event refl)
 
@@ -109,9 +109,9 @@ pub expect_differs : (field line : ℕ) (text : List ℕ) (there : Option Sessio
 expect_differs field line text None is = absurd (cc)
 expect_differs field line text (Some session) is = differs_by (bytes_eq (whole_text session.state) text) (front field ++ expect_line line) is
 
--- ---- what the functions take of these
+-- ---- lemmas that the functions use
 
--- a step in the field that is turned to: the session behind it tells its lines
+-- a step in the current field, whose lines the session after it determines
 pub record StepTold (before : Play) (after : HostState) (event : Event) (step : Step) : Type 0 where
   pub stores : TellsOfStores (field_of after before.field)
   pub lines : told_lines before.field step (field_of after before.field) ≡ event_lines before event
@@ -135,7 +135,7 @@ step_told printed before after event step are = by_there (turned_to before) refl
               (of_field IsSession before.host before.field session are there) there behind at made;
         }
 
--- a preview there
+-- if a preview is shown in the current field, the printed line is the line of its press
 pub shown_lines : (before : Play) (press : KeyPress) (outcome : Outcome) (inserted : List ℕ)
     → IsSomeAnd (turned_to before) (λ session. event_of (tab session.tables) session.state (event.Key press) ≡ Ok (happened session (event.Key press)))
     → IsSomeAnd (turned_to before) (λ session. outcome ≡ (happened session (event.Key press)).outcome)

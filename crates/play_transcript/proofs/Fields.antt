@@ -1,4 +1,4 @@
--- Each field of a play answers the steps of the trace of its own events.
+-- Each field of a play returns the steps of the trace of the field's own events.
 use Rattle.std.proofs.Common.{◌≡◌, ◌≢◌, ℕ, zero, suc, ◌+◌, ◌<◌, ◌≤◌, Bool, true, false, eqb, cond, List, [], ◌∷◌, ◌++◌, length, set, slice_get, refl, sym, ap, ◌∙◌, subst, inl, inr, arith, length-set, length-append, leb-true, leb-false}
 use Rattle.std.specs.Prelude.{nat_le, Option, Some, None}
 use Rattle.std.specs.Str.{bytes_eq}
@@ -15,11 +15,11 @@ use Rattle.rule_model.specs.declared.tables.Tables.{Tables}
 use Rattle.rule_model.specs.Event.{event_refusal, unless_refused, whole_text}
 use Rattle.rule_model.specs.Trace.{Step}
 use Rattle.play_session.specs.Session.{SessionState, first_session, happened, after_step}
-use Rattle.play_session.specs.Host.{HostState, field_of, with_field, with_new_field}
-use Rattle.play_session.specs.Alone.{HostCall, Opens, Turns, answer_to, gone_on, with_answer, answered_from, session_after, turned, after_calls}
-use Rattle.play_session.proofs.Alone.{steps_are_those_alone, fields_begin, fields_are_apart, opened, acted}
-use Rattle.play_script.specs.declared.entries.HostEntry.{HostEntry}
-use Rattle.play_script.specs.declared.entries.HostEntry.TheVariants.{Open, Field, Preview, Act, Expect}
+use Rattle.text_host.specs.Host.{HostState, field_of, with_field, with_new_field}
+use Rattle.text_host.specs.Alone.{HostCall, Opens, Turns, answer_to, gone_on, with_answer, answered_from, session_after, turned, after_calls}
+use Rattle.text_host.proofs.Alone.{steps_are_those_alone, fields_begin, fields_are_apart, opened, acted, states_are_those_alone}
+use Rattle.text_host.specs.declared.entries.HostEntry.{HostEntry}
+use Rattle.text_host.specs.declared.entries.HostEntry.TheVariants.{Open, Field, Preview, Act, Expect}
 use Rattle.play_transcript.specs.declared.host_playing.Play.{Play}
 use Rattle.play_transcript.specs.HostPlaying.{first_play, turned_to, refusal_in, shown, stepped, compared, rest_unless, play_unless, after_entries}
 use Rattle.play_transcript.specs.HostText.{step_in}
@@ -28,17 +28,17 @@ use Rattle.play_transcript.specs.Fields.{FieldsAreTraces, calls_since}
 
 -- ---- hosts
 
--- the play with one field more
+-- the play with one more field, which is current
 abbrev wider : Play → Play
 wider play = record play { host = with_new_field play.host; field = length play.host.sessions + 1 }
 
--- an event leaves a field of another number
+-- if two fields differ, an event in one does not change the session of the other
 apart : (host : HostState) (field other : ℕ) (session : SessionState) → field ≢ other → field_of (with_field other session host) field ≡ field_of host field
 apart host field zero session differ = refl
 apart host zero (suc place) session differ = refl
 apart host (suc k) (suc place) session differ = slice_get-set_other host.sessions place k session (λ same. differ (ap suc same))
 
--- it leaves as many fields, and the tables
+-- an event changes neither the number of fields nor the tables
 with_field_count : (host : HostState) (field : ℕ) (session : SessionState) → length (with_field field session host).sessions ≡ length host.sessions
 with_field_count host zero session = refl
 with_field_count host (suc place) session = length-set host.sessions place session
@@ -47,7 +47,7 @@ with_field_tables : (host : HostState) (field : ℕ) (session : SessionState) �
 with_field_tables host zero session = refl
 with_field_tables host (suc place) session = refl
 
--- a session written where it is
+-- if a list has an element at a position, writing the element there does not change the list
 set_same : {X : Type 0} (xs : List X) (n : ℕ) (x : X) → slice_get xs n ≡ Some x → set xs n x ≡ xs
 set_same [] n x is = refl
 set_same (y ∷ xs) zero x is = cc
@@ -57,11 +57,11 @@ with_same : (host : HostState) (field : ℕ) (session : SessionState) → field_
 with_same host zero session is = refl
 with_same host (suc place) session is = ap (λ (sessions : List SessionState). record host { sessions = sessions }) (set_same host.sessions place session is)
 
--- a field behind the last
+-- if the number of a field exceeds the number of fields, there is no such field
 past_last : (host : HostState) (field opens : ℕ) → field ≡ suc (length host.sessions + opens) → field_of host field ≡ None
 past_last host field opens is = ap (field_of host) is ∙ slice_get_past host.sessions (length host.sessions + opens) (omega arith)
 
--- its number passes 64 where there is no room for one more
+-- if the host is full, the number of such a field exceeds 64
 no_room : (host : HostState) (field opens : ℕ) → field ≡ suc (length host.sessions + opens) → field ≤ FIELDS → nat_le FIELDS (length host.sessions) ≡ true → ⊥
 no_room host field opens is few full =
     let room : FIELDS ≤ length host.sessions = leb-true FIELDS (length host.sessions) full in
@@ -73,7 +73,7 @@ none_behind (call ∷ calls) = refl
 
 -- ---- a field that is open
 
--- it answers these steps from a session on
+-- the printed steps of the field are the steps that it returns from its session on
 abbrev Answers : ℕ → List HostEntry → Play → Type 0
 Answers field entries play = (session : SessionState) → field_of play.host field ≡ Some session → steps_left field play entries ≡ answered_from field session (calls_left play entries)
 
@@ -82,7 +82,7 @@ module _ (field : ℕ) (entries : List HostEntry) (more : (play : Play) → Answ
   open_add true = more play session there
   open_add false = more (wider play) session (opened play.host field session there)
 
-  -- what does nothing to the field, and may be refused
+  -- if an entry that may be refused does not change the session of the field, the printed steps of the rest are the returned steps
   open_unless : (refusal : Option Code) (next : Play) → field_of next.host field ≡ Some session
       → rest_unless refusal (steps_left field next entries) ≡ answered_from field session (rest_unless refusal (calls_left next entries))
   open_unless None next is = more next session is
@@ -93,7 +93,7 @@ module _ (field : ℕ) (entries : List HostEntry) (more : (play : Play) → Answ
   open_show press None = more play session there
   open_show press (Some s) = open_unless (event_refusal s.state (event.Key press)) (shown play (Some s)) there
 
-  -- the field's own event
+  -- if an event is in the field, the printed steps from it on are the returned steps
   own_event : (event : Event) → play.field ≡ field → (refusal : Option Code)
       → rest_unless refusal (step_in session event ∷ steps_left field (stepped play event (Some session)) entries)
       ≡ with_answer session (unless_refused refusal (happened session event))
@@ -104,7 +104,7 @@ module _ (field : ℕ) (entries : List HostEntry) (more : (play : Play) → Answ
       (ap (λ (n : ℕ). field_of (with_field n (after_step session event) play.host) field) same ∙ acted play.host field session (after_step session event) there))
   own_event event same (Some code) = refl
 
-  -- an event of another
+  -- if an event is in another field, the printed steps from it on are the returned steps
   other_event : (event : Event) (t : Option SessionState) → field ≢ play.field → rest_unless (refusal_in t event) (steps_left field (stepped play event t) entries)
       ≡ answered_from field session (rest_unless (refusal_in t event) (calls_left (stepped play event t) entries))
   other_event event None differ = more play session there
@@ -144,9 +144,9 @@ open_steps field (Preview line press ∷ entries) play session there = open_show
 open_steps field (Act line event ∷ entries) play session there = open_act field entries (open_steps field entries) play session there event
 open_steps field (Expect line text ∷ entries) play session there = open_expect field entries (open_steps field entries) play session there text (turned_to play)
 
--- ---- a field that is still to be opened
+-- ---- a field that is not open yet
 
--- it is behind the last one, and answers these steps once it is open
+-- the field comes after the last one, and its printed steps are the steps that it returns once it is open
 abbrev WillAnswer : ℕ → Tables → List HostEntry → Play → Type 0
 WillAnswer field tables entries play = (opens : ℕ) → field ≡ suc (length play.host.sessions + opens) → play.host.tables ≡ tables
     → steps_left field play entries ≡ answered_from field (first_session tables) (calls_behind (suc opens) (calls_left play entries))
@@ -206,11 +206,11 @@ module _ (field : ℕ) (tables : Tables) (entries : List HostEntry) (more : (pla
     new_expect text None = more play opens is over
     new_expect text (Some s) = new_differ (bytes_eq (whole_text s.state) text)
 
-    -- the field isn't turned to
+    -- if the number of the current field is the number of the field, there is no current session
     not_turned : eqb play.field field ≡ true → turned_to play ≡ None
     not_turned same = ap (field_of play.host) (eqb-true play.field field same) ∙ past_last play.host field opens is
 
--- so it is of each number that a host has room for
+-- this is true for each field number that a host can have
 new_steps : (field : ℕ) (tables : Tables) → field ≤ FIELDS → (entries : List HostEntry) (play : Play) → WillAnswer field tables entries play
 new_steps field tables few [] play opens is over = refl
 new_steps field tables few (Open line ∷ entries) play opens is over =
@@ -222,7 +222,7 @@ new_steps field tables few (Act line event ∷ entries) play opens is over =
     (not_turned field tables entries (new_steps field tables few entries) play over opens is)
 new_steps field tables few (Expect line text ∷ entries) play opens is over = new_expect field tables entries (new_steps field tables few entries) play over opens is text (turned_to play)
 
--- ---- the hosts behind entries and behind their calls
+-- ---- the hosts after entries and after their calls
 
 abbrev LeavesHost : List HostEntry → Play → Type 0
 LeavesHost entries play = (after_entries play entries).host ≡ after_calls play.host (calls_left play entries)
@@ -286,7 +286,7 @@ session_of_some a b same = cc
 none_isnt : (session : SessionState) → None ≡ Some session → ⊥
 none_isnt session same = cc
 
--- calls leave no more fields than a host has room for
+-- if a host has at most 64 fields, it still does after calls
 few_opened : (host : HostState) (full : Bool) → nat_le FIELDS (length host.sessions) ≡ full → length host.sessions ≤ FIELDS
     → length (cond full host (with_new_field host)).sessions ≤ FIELDS
 few_opened host true is few = few
@@ -348,8 +348,11 @@ fields_are_traces tables entries (suc opens) session there =
     = ap (λ (h : HostState). field_of h (suc opens)) (sym (leaves_host entries (first_play tables))) ∙ there in
     let few : suc opens ≤ FIELDS
     = few_there (after_calls host (calls_of tables entries)) opens session (few_after (calls_of tables entries) host (omega arith)) behind in
+    let left : session ≡ session_after (suc opens) (first_session tables) (calls_since (suc opens) tables entries)
+    = has_session (suc opens) tables few (calls_of tables entries) host opens session place refl behind in
     record {
       steps = new_steps (suc opens) tables few entries (first_play tables) opens place refl
           ∙ sym (steps_are_those_alone (suc opens) tables (calls_since (suc opens) tables entries));
-      left = has_session (suc opens) tables few (calls_of tables entries) host opens session place refl behind;
+      left = left;
+      state = ap (λ (s : SessionState). s.state) left ∙ states_are_those_alone (suc opens) tables (calls_since (suc opens) tables entries);
     }

@@ -1,4 +1,4 @@
--- Tables that mean one keyboard have records of the same lines.
+-- If tables mean the same keyboard, their records have the same lines.
 use Rattle.std.proofs.Common.{◌≡◌, ℕ, List, [], ◌∷◌, ◌++◌, map, Bool, refl, sym, ap, ◌∙◌}
 use Rattle.std.specs.Prelude.{flat_map}
 use Rattle.kmn_base.specs.Rising.{rising}
@@ -8,7 +8,7 @@ use Rattle.rule_model.specs.declared.tables.Store.{Store}
 use Rattle.rule_model.specs.declared.tables.Tables.{Tables}
 use Rattle.rule_model.specs.Keyboard.{RuleMeaning, GroupMeaning, Keyboard}
 use Rattle.rule_model.specs.Tab.{tab, tab_rule, tab_group}
-use Rattle.plain_event.specs.Coverage.{rule_lines, record_lines, lines_of_tables}
+use Rattle.rule_trace.specs.Coverage.{rule_lines, record_lines, lines_of_tables}
 
 abbrev lines_of_rules : List RuleMeaning → List ℕ
 lines_of_rules rules = map (λ (rule : RuleMeaning). rule.line) rules

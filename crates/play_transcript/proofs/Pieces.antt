@@ -1,4 +1,4 @@
--- What a play prints is the text of its pieces, and the steps of a field are those that they tell.
+-- The printed text of a play is the text of its pieces, and the steps of a field are the steps that they report.
 use Rattle.std.proofs.Common.{◌≡◌, ℕ, Bool, true, false, List, [], ◌∷◌, ◌++◌, Option, Some, None, refl, sym, ap, ◌∙◌, append-nil}
 use Rattle.std.specs.Prelude.{nat_eq, if◌then◌else◌}
 use Rattle.std.specs.List.{cons_option, filter_map, flat_map}
@@ -10,8 +10,8 @@ use Rattle.rule_model.specs.declared.tables.Tables.{Tables}
 use Rattle.rule_model.specs.Act.{one_more}
 use Rattle.rule_model.specs.Trace.{Step}
 use Rattle.play_session.specs.Session.{SessionState}
-use Rattle.play_script.specs.declared.entries.HostEntry.{HostEntry}
-use Rattle.play_script.specs.declared.entries.HostEntry.TheVariants.{Open, Field, Preview, Act, Expect}
+use Rattle.text_host.specs.declared.entries.HostEntry.{HostEntry}
+use Rattle.text_host.specs.declared.entries.HostEntry.TheVariants.{Open, Field, Preview, Act, Expect}
 use Rattle.play_transcript.specs.declared.host_playing.Play.{Play}
 use Rattle.play_transcript.specs.HostCalls.{event_steps, entry_steps, steps_left}
 use Rattle.play_transcript.specs.HostText.{step_in, event_text, text_or_refusal, entry_lines, end_lines, lines_left, host_text}

@@ -1,4 +1,4 @@
--- What stands in a sink where a play goes on, and where it stops.
+-- The content of a sink after an entry, if the play continues and if it stops.
 use Rattle.std.proofs.Common.{◌≡◌, ℕ, ◌+◌, ◌<◌, ◌≤◌, Bool, true, false, if◌then◌else◌, ◌&&◌, List, [], ◌∷◌, ◌++◌, length, take, drop, get_or, Option, Some, None, Result, Ok, Err, refl, ap, sym, ◌∙◌, subst, arith, add-one, drop-cons, append-nil}
 use Rattle.std.specs.Prelude.{flat_map, nat_eq, IfOk}
 use Rattle.std.specs.Str.{bytes_eq}
@@ -33,11 +33,21 @@ use Rattle.play_transcript.specs.declared.playing.PlayEnd.{PlayEnd}
 use Rattle.play_transcript.specs.declared.playing.PlayEnd.TheVariants as ended
 use Rattle.play_transcript.specs.Ends.{end_after, play_end}
 use Rattle.play_transcript.specs.Failures.{failures_from}
-use Rattle.play_transcript.specs.Playing.{no_counts, steps_left, lines_left, end_left, happening_lines, event_lines, happened_lines, entry_lines, end_lines, event_counted, text_counted, AreOfStores, PlaysBy, Plays}
+use Rattle.play_transcript.specs.Playing.{no_counts, steps_left, happening_lines, event_lines, happened_lines, entry_lines, end_lines, event_counted, text_counted, AreOfStores, PlaysBy, Plays}
 use Rattle.play_transcript.specs.Printing.{AppendsBut, IsBegun, Prints}
 use Rattle.play_transcript.proofs.PrintingLaws.{none_appended, appended_more, appended_all, begun_within, prints_rest}
 
--- a text in two parts is one where its front is the first part and the rest the second
+-- how the rest of a play ends
+abbrev pub end_left : SessionState → Counts → List Entry → PlayEnd
+end_left session counts entries =
+    end_after (steps_left session entries).refused (failures_from counts.failed session.state entries (steps_left session entries).done)
+
+-- the lines that remain to be printed, given the counts
+abbrev pub lines_left : SessionState → Counts → List Entry → List ℕ
+lines_left session counts entries =
+    lines_from counts.events counts.failed session.state entries (steps_left session entries).done (steps_left session entries).refused
+
+-- two parts together are a text if and only if its front is the first part and its rest is the second part
 pub text_in_parts : (left right text : List ℕ) → bytes_eq (left ++ right) text ≡ (bytes_eq left (take (length left) text) && bytes_eq right (drop (length left) text))
 text_in_parts [] right text = refl
 text_in_parts (c ∷ left) right [] = refl
@@ -47,7 +57,7 @@ text_in_parts (c ∷ left) right (d ∷ text) = more (nat_eq c d) (bytes_eq left
     more true front back is = is
     more false front back is = refl
 
--- at first the whole transcript is to be printed, and the play ends as that of the trace
+-- before the first entry, the whole transcript remains to be printed, and the play ends as the trace states
 all_lines : (tables : Tables) (entries : List Entry) → lines_left (first_session tables) no_counts entries ≡ transcript (tab tables) entries
 unfolding trace transcript
 all_lines tables entries = refl
@@ -56,7 +66,7 @@ all_end : (tables : Tables) (entries : List Entry) → end_left (first_session t
 unfolding trace
 all_end tables entries = refl
 
--- an entry behind which the play goes on
+-- an entry after which the play continues
 pub record GoesOn (before after : SessionState) (counts next : Counts) (entry : Entry) (entries : List Entry) : Type 0 where
   pub lines : lines_left before counts (entry ∷ entries) ≡ entry_lines before entry ++ lines_left after next entries
   pub end : end_left before counts (entry ∷ entries) ≡ end_left after next entries
@@ -75,7 +85,7 @@ Follows before after counts entry entries (played.On next) = GoesOn before after
 Follows before after counts entry entries played.Refused = Stops before counts entry entries
 
 module _ (session : SessionState) (counts : Counts) (line : ℕ) (event : Event) (entries : List Entry) where
-  -- the steps from the event on, by what it does
+  -- the steps from the event on, by its result
   abbrev steps_by : Result Happening Code → Steps
   steps_by result = step_then (one_more session.number) (steps_from (tab session.tables) (one_more (one_more session.number)) (events_of entries)) result
 
@@ -103,7 +113,7 @@ unless_happened : (code : Option Code) (done happening : Happening) → unless_r
 unless_happened None done happening is = cc
 unless_happened (Some code) done happening is = absurd (cc)
 
--- the happening of an event that isn't refused
+-- if an event is not refused, its result is what happens
 pub happens_so : (session : SessionState) (event : Event) (done : Happening) → event_of (tab session.tables) session.state event ≡ Ok done → done ≡ happened session event
 happens_so session event done at = unless_happened (event_refusal session.state event) (happening (tab session.tables) session.state event) done at
 
@@ -121,7 +131,7 @@ happened_goes_on go_on session after counts next line event entries done is at l
       failed = omega (arith, ap (λ (c : Counts). c.failed) counted);
     }
 
--- an expected text, by whether it is the whole text
+-- the counts after an expected text, by whether it is the whole text
 abbrev counted_by : Bool → Counts → Counts
 counted_by same counts = if same then counts else record counts { failed = counts.failed + 1 }
 
@@ -135,7 +145,7 @@ end_by : (same : Bool) (more : ℕ → ℕ) (refused : Option (ℕ × Code)) (co
 end_by true more refused counts = refl
 end_by false more refused counts = refl
 
--- what stays of the counts
+-- an expected text changes only the count of texts that differ, by at most one
 record Counted (counts next : Counts) : Type 0 where
   number : next.number ≡ counts.number
   events : next.events ≡ counts.events
@@ -173,7 +183,7 @@ played_event go_on before after counts line event entries (Ok done) played.Refus
 played_event go_on before after counts line event entries (Err code) (played.On next) is at plays = absurd plays
 played_event go_on before after counts line event entries (Err code) played.Refused is at plays = refused_stops before counts line event entries code at
 
--- an entry that was played goes on, or stops
+-- if an entry is played, the play continues or stops as stated
 pub plays_follow : SessionsGoOn → (before after : SessionState) (counts : Counts) (entry : Entry) (entries : List Entry) (end : Played)
     → IsSession before → before.number ≡ counts.number → Plays before after counts entry end → Follows before after counts entry entries end
 plays_follow go_on before after counts (Act line event) entries end is numbered plays =
@@ -181,7 +191,7 @@ plays_follow go_on before after counts (Act line event) entries end is numbered 
 plays_follow go_on before after counts (Expect line text) entries (played.On next) is numbered plays = expect_goes_on before after counts next line text entries is numbered plays.0 plays.1
 plays_follow go_on before after counts (Expect line text) entries played.Refused is numbered plays = absurd plays
 
--- what a step changed is of the stores of its tables
+-- the changes of a step are changes of the stores of its tables
 module _ (before after : Values) where
   abbrev IsWithin : ℕ → Change → Type 0
   IsWithin count change = change.store < count
@@ -212,7 +222,7 @@ step_of_stores before after event left =
     subst AreOfStores (sym left)
     (changes_within (values_of before.state) (values_of (happened before event).after) 0 (option_numbers 0 (tab before.tables).stores) (length (tab before.tables).stores) (omega (arith, length-option_numbers 0 (tab before.tables).stores)))
 
--- what is printed of a step is what its session tells of it
+-- the lines of a step by the session after it are the lines of its event
 pub happened_prints : ChangesArePrinted → (front : List ℕ) (before after : SessionState) (event : Event) (step : Step) → IsSession before
     → event_of (tab before.tables) before.state event ≡ Ok (happened before event) → step ≡ step_of before event → after ≡ after_step before event
     → happened_lines front after step ≡ event_lines front before event
@@ -221,7 +231,7 @@ happened_prints printed front before after event step is at made left =
     ∙ (λ i. (front ++ event_line (one_more before.number) (happened before event).outcome (happened before event).inserted (window (happened before event).after.left)) ++ sym (printed front before event is) i)
     ∙ (λ i. happening_lines front before.state (one_more before.number) (sym at i))
 
--- a session at its start
+-- a session before its first event
 pub record Begins (session : SessionState) (tables : Tables) (entries : List Entry) : Type 0 where
   pub options : IsSession session
   pub number : session.number ≡ 0
@@ -239,7 +249,7 @@ session_begins begin session tables entries is =
           (none_appended before (transcript (tab tables) entries));
     })
 
--- the lines of what is left begin with those of the first entry
+-- the remaining lines begin with the lines of the first entry
 record LinesFirst (before : SessionState) (counts : Counts) (entry : Entry) (entries : List Entry) : Type 0 where
   rest : List ℕ
   is : lines_left before counts (entry ∷ entries) ≡ entry_lines before entry ++ rest
@@ -265,7 +275,7 @@ module _ (before : SessionState) (counts : Counts) (entries : List Entry) (i : �
   first_entry = let first : drop i entries ≡ get_or entries i d ∷ drop (i + 1) entries = rw add-one (drop-cons entries i d within) in
       first ∙ ap (λ (x : Entry). x ∷ drop (i + 1) entries) (sym at)
 
-  -- an entry that went on
+  -- the properties of a play that continues after an entry
   pub record HasGoneOn (after : SessionState) (next : Counts) : Type 0 where
     pub session : IsSession after
     pub number : after.number ≡ next.number
@@ -289,7 +299,7 @@ module _ (before : SessionState) (counts : Counts) (entries : List Entry) (i : �
             (subst (λ (lines : List ℕ). AppendsBut lines start put_before whole) (ap (lines_left before counts) first_entry ∙ h.lines) appended) put;
       }
 
-  -- an entry whose event was refused ends the play
+  -- if the event of an entry is refused, the play ends
   pub refused_ends : SessionsGoOn → (after : SessionState) → IsSession before → before.number ≡ counts.number → Plays before after counts entry played.Refused
       → (how : PlayEnd) → end_left before counts (drop i entries) ≡ how → how ≡ ended.Refused
   refused_ends go_on after is numbered plays how ends =
@@ -304,7 +314,7 @@ module _ (before : SessionState) (counts : Counts) (entries : List Entry) (i : �
       appended_all (entry_lines before entry) start put_before put_after whole
       (subst (λ (lines : List ℕ). AppendsBut lines start put_before whole) (ap (lines_left before counts) first_entry ∙ h.lines) appended) put
 
-  -- a first part of the lines of an entry is one of all lines that are left
+  -- if the beginning of the lines of an entry is printed, it is the beginning of all remaining lines
   pub play_stops : (start put_before put_after whole : List ℕ)
       → AppendsBut (lines_left before counts (drop i entries)) start put_before whole → IsBegun put_before put_after (entry_lines before entry) → IsBegun start put_after whole
   play_stops start put_before put_after whole appended begun =
@@ -312,7 +322,7 @@ module _ (before : SessionState) (counts : Counts) (entries : List Entry) (i : �
       begun_within (entry_lines before entry) parts.rest start put_before put_after whole
       (subst (λ (lines : List ℕ). AppendsBut lines start put_before whole) (ap (lines_left before counts) first_entry ∙ parts.is) appended) begun
 
--- behind the last entry the two last lines are printed
+-- if there are no more entries and the last two lines are printed, everything is printed
 pub play_ends : {A E : Type 0} (session : SessionState) (counts : Counts) (entries : List Entry) (i : ℕ) (start before after whole : List ℕ) (result : Result A E)
     → length entries ≤ i → AppendsBut (lines_left session counts (drop i entries)) start before whole
     → Prints before after (end_lines session counts) result → Prints start after whole result
@@ -328,7 +338,7 @@ pub ends_so : (session : SessionState) (counts : Counts) (entries : List Entry) 
     → end_after None counts.failed ≡ how
 ends_so session counts entries i how all ends = sym (ap (end_left session counts) (drop_of_length-le entries all)) ∙ ends
 
--- the changes of a step that are still to be printed
+-- before the first change of a step is printed, the lines of all its changes remain to be printed
 pub changes_begin : (front : List ℕ) (session : SessionState) (changes : List Change) (before : List ℕ) → AppendsBut (flat_map (change_line front session) changes) before before (flat_map (change_line front session) changes)
 changes_begin front session changes before = none_appended before (flat_map (change_line front session) changes)
 

@@ -1,4 +1,4 @@
--- What stands in a sink where a script goes on, and where it stops.
+-- The content of a sink after an entry of a traced script, if the script continues and if it stops.
 use Rattle.std.proofs.Common.{◌≡◌, ℕ, ◌+◌, ◌<◌, ◌≤◌, List, [], ◌∷◌, ◌++◌, length, drop, get_or, map, Result, Ok, Err, refl, ap, sym, ◌∙◌, subst, arith, add-one, drop-cons, append-nil}
 use Rattle.std.specs.Prelude.{suc, All, IfOk}
 use Rattle.std.specs.List.{Contains}
@@ -15,9 +15,9 @@ use Rattle.rule_model.specs.Keyboard.{Keyboard}
 use Rattle.rule_model.specs.Tab.{tab}
 use Rattle.rule_model.specs.Trace.{Steps, trace, steps_from, step_then}
 use Rattle.rule_model.specs.Transcript.{events_of}
-use Rattle.plain_event.specs.declared.coverage.Hit.{Hit}
-use Rattle.plain_event.specs.Coverage.{with_lines, lines_of_tables, hit_lines, not_chosen, AreLinesOf}
-use Rattle.plain_event.proofs.Counting.{with_lines-lines}
+use Rattle.rule_trace.specs.declared.coverage.Hit.{Hit}
+use Rattle.rule_trace.specs.Coverage.{with_lines, lines_of_tables, hit_lines, not_chosen, AreLinesOf}
+use Rattle.rule_trace.proofs.Counting.{with_lines-lines}
 use Rattle.play_session.specs.Session.{SessionState, first_session, happened, after_step}
 use Rattle.play_transcript.specs.Printing.{AppendsBut, IsBegun, Prints}
 use Rattle.play_transcript.proofs.PrintingLaws.{none_appended, appended_more, appended_all, begun_within, prints_rest}
@@ -27,11 +27,21 @@ use Rattle.play_transcript.specs.declared.following.Followed.{Followed}
 use Rattle.play_transcript.specs.declared.following.Followed.TheVariants as followed
 use Rattle.play_transcript.specs.declared.following.TraceEnd.{TraceEnd}
 use Rattle.play_transcript.specs.declared.following.TraceEnd.TheVariants as ended
-use Rattle.play_transcript.specs.TraceEntry.{no_counts, text_left, end_left, event_line, entry_line, event_counted, happening_line, lines_chosen, Covers, FollowsBy, Follows}
+use Rattle.play_transcript.specs.TraceEntry.{no_counts, event_line, entry_line, event_counted, happening_line, lines_chosen, Covers, FollowsBy, Follows}
 use Rattle.play_transcript.specs.TraceEnds.{end_after, trace_end}
 use Rattle.play_transcript.specs.TraceText.{fired_from, hits_text, trace_text_of, trace_text}
+use Rattle.play_transcript.specs.Playing.{steps_left}
 
--- at first the whole text is to be printed, and the script ends as that of the trace
+-- how the rest of a script ends
+abbrev pub end_left : SessionState → List Entry → TraceEnd
+end_left session entries = end_after (steps_left session entries).refused
+
+-- the text that remains to be printed, given the hits and the counts
+abbrev pub text_left : SessionState → List Hit → TraceCounts → List Entry → List ℕ
+text_left session hits counts entries =
+    fired_from (chosen (tab session.tables)) counts.events hits session.state (events_of entries) (steps_left session entries).done (steps_left session entries).refused
+
+-- before the first entry, the whole text remains to be printed, and the script ends as the trace states
 all_text : (tables : Tables) (lines : List ℕ) (entries : List Entry) → text_left (first_session tables) (map not_chosen lines) no_counts entries ≡ trace_text (tab tables) lines entries
 unfolding trace trace_text
 all_text tables lines entries = refl
@@ -40,13 +50,13 @@ all_end : (tables : Tables) (entries : List Entry) → end_left (first_session t
 unfolding trace
 all_end tables entries = refl
 
--- hits with no count are lines that weren't chosen yet
+-- if the count of each hit is 0, the hits are lines that were not chosen yet
 nothing_chosen : (hits : List Hit) → All (λ (hit : Hit). hit.count ≡ 0) hits → hits ≡ map not_chosen (hit_lines hits)
 nothing_chosen [] none = refl
 nothing_chosen (hit ∷ hits) none =
     λ i. record { line = hit.line; count = none 0 hit (omega arith) i } ∷ nothing_chosen hits (λ k d less. none (suc k) d (omega arith)) i
 
--- a session and its coverage at their start
+-- a session and its coverage before the first event
 pub record Begins (session : SessionState) (hits : List Hit) (tables : Tables) (entries : List Entry) : Type 0 where
   pub number : session.number ≡ 0
   pub end : end_left session entries ≡ trace_end (trace (tab tables) (events_of entries))
@@ -64,7 +74,7 @@ script_begins session hits tables entries is none are =
       printed = λ before. subst (λ (lines : List ℕ). AppendsBut lines before before whole) (sym all) (none_appended before whole);
     }
 
--- an entry behind which the script goes on
+-- an entry after which the script continues
 pub record GoesOn (before after : SessionState) (hits hits_after : List Hit) (counts next : TraceCounts) (entry : Entry) (entries : List Entry) : Type 0 where
   pub text : text_left before hits counts (entry ∷ entries) ≡ entry_line before entry ++ text_left after hits_after next entries
   pub end : end_left before (entry ∷ entries) ≡ end_left after entries
@@ -79,7 +89,7 @@ pub record Stops (before : SessionState) (hits : List Hit) (counts : TraceCounts
   pub end : end_left before (entry ∷ entries) ≡ ended.Refused
 
 module _ (session : SessionState) (hits : List Hit) (counts : TraceCounts) (line : ℕ) (event : Event) (entries : List Entry) where
-  -- the steps from the event on, by what it does
+  -- the steps from the event on, by its result
   abbrev steps_by : Result Happening Code → Steps
   steps_by result = step_then (one_more session.number) (steps_from (tab session.tables) (one_more (one_more session.number)) (events_of entries)) result
 
@@ -148,7 +158,7 @@ followed_event before after hits hits_after counts line event entries (Ok done) 
 followed_event before after hits hits_after counts line event entries (Err code) (followed.On next) at follows = absurd follows
 followed_event before after hits hits_after counts line event entries (Err code) followed.Refused at follows = refused_stops before hits counts line event entries code at
 
--- an entry that was played leads on, or stops
+-- if an entry is played, the script continues or stops as stated
 follows_lead : (before after : SessionState) (hits hits_after : List Hit) (counts : TraceCounts) (entry : Entry) (entries : List Entry) (end : Followed)
     → before.number ≡ counts.number → Follows before after hits hits_after counts entry end → Leads before after hits hits_after counts entry entries end
 follows_lead before after hits hits_after counts (Act line event) entries end numbered follows =
@@ -157,7 +167,7 @@ follows_lead before after hits hits_after counts (Expect line text) entries (fol
     expect_goes_on before after hits hits_after counts next line text entries numbered follows.0 follows.1 follows.2
 follows_lead before after hits hits_after counts (Expect line text) entries followed.Refused numbered follows = absurd follows
 
--- what is left begins with the line of the first entry
+-- the remaining text begins with the line of the first entry
 record TextFirst (before : SessionState) (hits : List Hit) (counts : TraceCounts) (entry : Entry) (entries : List Entry) : Type 0 where
   rest : List ℕ
   is : text_left before hits counts (entry ∷ entries) ≡ entry_line before entry ++ rest
@@ -183,7 +193,7 @@ module _ (before : SessionState) (hits : List Hit) (counts : TraceCounts) (entri
   abbrev Appends : List ℕ → List ℕ → List ℕ → Type 0
   Appends start put_before whole = AppendsBut (text_left before hits counts (drop i entries)) start put_before whole
 
-  -- an entry that went on
+  -- the properties of a script that continues after an entry
   pub record HasGoneOn (after : SessionState) (hits_after : List Hit) (next : TraceCounts) : Type 0 where
     pub tables : after.tables ≡ before.tables
     pub lines : hit_lines hits_after ≡ hit_lines hits
@@ -209,7 +219,7 @@ module _ (before : SessionState) (hits : List Hit) (counts : TraceCounts) (entri
             (subst (λ (lines : List ℕ). AppendsBut lines start put_before whole) (ap (text_left before hits counts) first_entry ∙ h.text) appended) put;
       }
 
-  -- an entry whose event was refused ends the script
+  -- if the event of an entry is refused, the script ends
   refused_is_last : (after : SessionState) (hits_after : List Hit) → before.number ≡ counts.number → Follows before after hits hits_after counts entry followed.Refused
       → Stops before hits counts entry (drop (i + 1) entries)
   refused_is_last after hits_after numbered follows = follows_lead before after hits hits_after counts entry (drop (i + 1) entries) followed.Refused numbered follows
@@ -225,14 +235,14 @@ module _ (before : SessionState) (hits : List Hit) (counts : TraceCounts) (entri
       appended_all (entry_line before entry) start put_before put_after whole
       (subst (λ (lines : List ℕ). AppendsBut lines start put_before whole) (ap (text_left before hits counts) first_entry ∙ (refused_is_last after hits_after numbered follows).text) appended) put
 
-  -- a first part of the line of an entry is one of all that is left
+  -- if the beginning of the line of an entry is printed, it is the beginning of all remaining text
   pub entry_stops : (start put_before put_after whole : List ℕ) → Appends start put_before whole → IsBegun put_before put_after (entry_line before entry) → IsBegun start put_after whole
   entry_stops start put_before put_after whole appended begun =
       let parts : TextFirst before hits counts entry (drop (i + 1) entries) = text_first before hits counts entry (drop (i + 1) entries) in
       begun_within (entry_line before entry) parts.rest start put_before put_after whole
       (subst (λ (lines : List ℕ). AppendsBut lines start put_before whole) (ap (text_left before hits counts) first_entry ∙ parts.is) appended) begun
 
--- behind the last entry the counts are printed
+-- if there are no more entries and the hits are printed, everything is printed
 pub script_ends : {A E : Type 0} (session : SessionState) (hits told : List Hit) (counts : TraceCounts) (entries : List Entry) (i : ℕ) (start before after whole : List ℕ) (result : Result A E)
     → length entries ≤ i → told ≡ hits → AppendsBut (text_left session hits counts (drop i entries)) start before whole
     → Prints before after (hits_text counts.events told) result → Prints start after whole result
@@ -248,7 +258,7 @@ ends_if (Err error) given how is same = tt
 pub ends_so : (session : SessionState) (entries : List Entry) (i : ℕ) (how : TraceEnd) → length entries ≤ i → end_left session (drop i entries) ≡ how → ended.Done ≡ how
 ends_so session entries i how all ends = sym (ap (end_left session) (drop_of_length-le entries all)) ∙ ends
 
--- the lines that a step chose are covered, and stay so
+-- if lines cover the tables of a session, they contain the lines that its step chose, and they still cover the tables after it
 pub step_is_covered : (before after : SessionState) (event : Event) (lines known : List ℕ) → Covers before.tables known → after ≡ after_step before event → lines ≡ after.chosen
     → All (Contains known) lines
 step_is_covered before after event lines known covers left is =
@@ -258,7 +268,7 @@ pub still_covers : (tables after : Tables) (known known_after : List ℕ) → af
 still_covers tables after known known_after same_tables same_lines covers =
     subst (λ (t : Tables). Covers t known_after) (sym same_tables) (subst (Covers tables) (sym same_lines) covers)
 
--- keyboards that take the same steps and choose the same lines print the same
+-- if two keyboards take the same steps and choose the same lines, they print the same text
 pub same_text : (kb other : Keyboard) → ((events : List Event) → trace kb events ≡ trace other events) → ((state : State) (event : Event) → chosen kb state event ≡ chosen other state event)
     → (lines : List ℕ) (entries : List Entry) → trace_text kb lines entries ≡ trace_text other lines entries
 unfolding trace_text

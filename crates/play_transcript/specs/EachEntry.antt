@@ -1,4 +1,4 @@
--- What the functions that play an entry leave, and what they print.
+-- The play after an entry and the lines that the entry prints, as the functions that play it produce them.
 use Rattle.std.specs.Prelude.{◌≡◌, ℕ, true, Bool, List, [], Option, Some, None}
 use Rattle.std.specs.List.{All}
 use Rattle.std.specs.Str.{bytes_eq}
@@ -8,8 +8,8 @@ use Rattle.play_session.specs.declared.session.Step.{Step}
 use Rattle.play_session.specs.Printed.{IsSession}
 use Rattle.play_session.specs.Session.{SessionState}
 use Rattle.play_transcript.specs.Playing.{happened_lines, AreOfStores}
-use Rattle.play_session.specs.Host.{HostState, HostRefusal, NoField, Full, Refused}
-use Rattle.play_script.specs.declared.entries.HostEntry.{HostEntry}
+use Rattle.text_host.specs.Host.{HostState, HostRefusal, NoField, Full, Refused}
+use Rattle.text_host.specs.declared.entries.HostEntry.{HostEntry}
 use Rattle.play_transcript.specs.declared.host_playing.Play.{Play}
 use Rattle.play_transcript.specs.declared.host_playing.Played.{Played}
 use Rattle.play_transcript.specs.declared.host_playing.Played.TheVariants as played
@@ -20,39 +20,39 @@ use Rattle.play_transcript.specs.HostText.{front}
 abbrev pub AreSessions : HostState → Type 0
 AreSessions host = All IsSession host.sessions
 
--- what isn't refused leaves this play behind it, and the play goes on; what is refused ends it
+-- an entry that is not refused results in this play, which continues; a refused entry ends the play
 abbrev pub PlaysBy : Option Code → Play → Play → Played → Type 0
 PlaysBy None next after played.On = after ≡ next
 PlaysBy None next after played.Refused = ⊥
 PlaysBy (Some code) next after played.On = ⊥
 PlaysBy (Some code) next after played.Refused = Unit {0}
 
--- so it is of an entry
+-- the effect of playing an entry on a play
 abbrev pub Plays : Play → Play → HostEntry → Played → Type 0
 Plays before after entry end = PlaysBy (entry_refusal before entry) (after_entry before entry) after end
 
--- the code of an event that a host refuses; that there is no such field or no room for one has none
+-- the code of an event that a host refuses; a missing field and a full host have no code
 abbrev pub code_in : HostRefusal → Option Code
 code_in NoField = None
 code_in Full = None
 code_in (Refused code) = Some code
 
--- what a code makes of a play
+-- the effect of an optional code on a play: a code ends it
 abbrev pub played_by : Option Code → Played
 played_by None = played.On
 played_by (Some code) = played.Refused
 
--- the lines of a step as the session of its field tells them behind it
+-- the lines of a step by the session of its field after the step, if there is such a field
 abbrev pub told_lines : ℕ → Step → Option SessionState → List ℕ
 told_lines field step None = []
 told_lines field step (Some session) = happened_lines (front field) session step
 
--- the changes that it tells are of its stores
+-- the changes of the session of a field are changes of its stores, if there is such a field
 abbrev pub TellsOfStores : Option SessionState → Type 0
 TellsOfStores None = Unit {0}
 TellsOfStores (Some session) = AreOfStores session
 
--- a text is the whole text of a field; any is where there is no such field
+-- whether a text is the whole text of a field; true if there is no such field
 abbrev pub is_text_of : List ℕ → Option SessionState → Bool
 is_text_of text None = true
 is_text_of text (Some session) = bytes_eq (whole_text session.state) text

@@ -7,12 +7,12 @@ use Rattle.play_transcript.specs.Failures.{failures}
 use Rattle.play_transcript.specs.declared.playing.PlayEnd.{PlayEnd}
 use Rattle.play_transcript.specs.declared.playing.PlayEnd.TheVariants as ended
 
--- with the refusal of an event that there may be, else with expected texts that differed, else well
+-- a play ends with a refusal if an event was refused, else with failed expectations if expected texts differed, else well
 abbrev pub end_after : Option (ℕ × Code) → ℕ → PlayEnd
 end_after (Some refused) failed = ended.Refused
 end_after None zero = ended.Done
 end_after None (suc failed) = ended.ExpectFailed
 
--- of a script whose events have this trace
+-- how the play of a script ends whose events have this trace
 abbrev pub play_end : Trace → List Entry → PlayEnd
 play_end traced entries = end_after traced.refused (failures traced entries)

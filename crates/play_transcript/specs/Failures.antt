@@ -6,7 +6,7 @@ use Rattle.rule_model.specs.declared.script.Entry.TheVariants.{Act, Expect}
 use Rattle.rule_model.specs.Event.{State, whole_text}
 use Rattle.rule_model.specs.Trace.{Step, Trace}
 
--- along a script's entries and the steps of their events, with so many before them: the whole text is compared
+-- the number after more entries of a script and the steps of their events, given the number before; the whole text is compared
 abbrev pub failures_from : ℕ → State → List Entry → List Step → ℕ
 failures_from failed state [] steps = failed
 failures_from failed state (Expect line text ∷ entries) steps =
@@ -14,6 +14,6 @@ failures_from failed state (Expect line text ∷ entries) steps =
 failures_from failed state (Act line event ∷ entries) [] = failed
 failures_from failed state (Act line event ∷ entries) (step ∷ steps) = failures_from failed step.happened.after entries steps
 
--- along a trace from its first state
+-- the number of expected texts that differ along a trace from its first state
 abbrev pub failures : Trace → List Entry → ℕ
 failures traced entries = failures_from 0 traced.first entries traced.done

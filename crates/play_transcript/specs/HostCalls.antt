@@ -4,14 +4,14 @@ use Rattle.kmn_base.specs.declared.events.Event.{Event}
 use Rattle.rule_model.specs.declared.tables.Tables.{Tables}
 use Rattle.rule_model.specs.Trace.{Step}
 use Rattle.play_session.specs.Session.{SessionState}
-use Rattle.play_session.specs.Alone.{HostCall, Opens, Turns}
-use Rattle.play_script.specs.declared.entries.HostEntry.{HostEntry}
-use Rattle.play_script.specs.declared.entries.HostEntry.TheVariants.{Open, Field, Preview, Act, Expect}
+use Rattle.text_host.specs.Alone.{HostCall, Opens, Turns}
+use Rattle.text_host.specs.declared.entries.HostEntry.{HostEntry}
+use Rattle.text_host.specs.declared.entries.HostEntry.TheVariants.{Open, Field, Preview, Act, Expect}
 use Rattle.play_transcript.specs.declared.host_playing.Play.{Play}
 use Rattle.play_transcript.specs.HostPlaying.{first_play, turned_to, entry_refusal, after_entry, rest_unless}
 use Rattle.play_transcript.specs.HostText.{step_in}
 
--- the calls of an entry: a new field, or an event; a preview changes nothing
+-- the calls of an entry: a new field, or an event; a preview does not change the host
 abbrev pub entry_calls : Play → HostEntry → List HostCall
 entry_calls play (Open line) = Opens ∷ []
 entry_calls play (Field line field) = []
@@ -19,7 +19,7 @@ entry_calls play (Preview line press) = []
 entry_calls play (Act line event) = Turns play.field event ∷ []
 entry_calls play (Expect line text) = []
 
--- the calls of a play up to the entry that is refused
+-- the calls of a play up to the first refused entry, including the call of that entry
 abbrev pub calls_left : Play → List HostEntry → List HostCall
 calls_left play [] = []
 calls_left play (entry ∷ entries) = entry_calls play entry ++ rest_unless (entry_refusal play entry) (calls_left (after_entry play entry) entries)
@@ -27,14 +27,14 @@ calls_left play (entry ∷ entries) = entry_calls play entry ++ rest_unless (ent
 abbrev pub calls_of : Tables → List HostEntry → List HostCall
 calls_of tables entries = calls_left (first_play tables) entries
 
--- the calls behind so many that open a field
+-- the calls after a number of calls that open a field
 abbrev pub calls_behind : ℕ → List HostCall → List HostCall
 calls_behind opens [] = []
 calls_behind zero (call ∷ calls) = call ∷ calls
 calls_behind (suc opens) (Opens ∷ calls) = calls_behind opens calls
 calls_behind (suc opens) (Turns field event ∷ calls) = calls_behind (suc opens) calls
 
--- the steps of a field whose lines an entry prints, where it isn't refused
+-- the steps of a field whose lines an entry prints if it is not refused
 abbrev pub event_steps : Event → Option SessionState → List Step
 event_steps event None = []
 event_steps event (Some session) = step_in session event ∷ []

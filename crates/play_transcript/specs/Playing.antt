@@ -1,4 +1,4 @@
--- What is printed of a script, entry by entry.
+-- The printed text of a script, entry by entry.
 use Rattle.std.specs.Prelude.{◌≡◌, ℕ, ◌+◌, ◌<◌, length, if◌then◌else◌, List, [], ◌++◌, Result, Ok, Err}
 use Rattle.std.specs.List.{All}
 use Rattle.std.specs.Str.{bytes_eq}
@@ -24,26 +24,15 @@ use Rattle.play_transcript.specs.declared.playing.Played.{Played}
 use Rattle.play_transcript.specs.declared.playing.Played.TheVariants as played
 use Rattle.play_transcript.specs.declared.playing.PlayEnd.{PlayEnd}
 
--- before the first entry
+-- the counts before the first entry
 abbrev pub no_counts : Counts
 no_counts = record { number = 0; events = 0; failed = 0 }
 
--- the steps that a script still takes from a session on
+-- the steps of the remaining entries of a script from a session on
 abbrev pub steps_left : SessionState → List Entry → Steps
 steps_left session entries = steps_from (tab session.tables) (one_more session.number) (events_of entries) session.state
 
--- the lines that are still to be printed, where so much was counted
-abbrev pub lines_left : SessionState → Counts → List Entry → List ℕ
-lines_left session counts entries =
-    lines_from counts.events counts.failed session.state entries (steps_left session entries).done (steps_left session entries).refused
-
--- how the play ends
-abbrev pub end_left : SessionState → Counts → List Entry → PlayEnd
-end_left session counts entries =
-    end_after (steps_left session entries).refused (failures_from counts.failed session.state entries (steps_left session entries).done)
-
--- the lines of an event, with so much at the front of each: what happened and what it changed; or its refusal, with nothing at
--- its front
+-- the lines of an event: what happened and what it changed, each line with this front; or its refusal, without a front
 abbrev pub happening_lines : (front : List ℕ) → State → ℕ → Result Happening Code → List ℕ
 happening_lines front before number (Ok happened) = step_lines front before (record { number = number; happened = happened })
 happening_lines front before number (Err code) = refused_event_line number code
@@ -51,15 +40,15 @@ happening_lines front before number (Err code) = refused_event_line number code
 abbrev pub event_lines : (front : List ℕ) → SessionState → Event → List ℕ
 event_lines front session event = happening_lines front session.state (one_more session.number) (event_of (tab session.tables) session.state event)
 
--- the lines of what happened as the session behind it tells them
+-- the lines of a step by the session after the step
 abbrev pub happened_lines : (front : List ℕ) → SessionState → Step → List ℕ
 happened_lines front session step = (front ++ event_line step.number step.outcome session.inserted (window session.state.left)) ++ change_lines front session
 
--- the changes of a session are of its stores, the layer and the platform among them
+-- the changes of a session are changes of its stores, which include the layer and the platform
 abbrev pub AreOfStores : SessionState → Type 0
 AreOfStores session = All (λ (change : Change). change.store < length (tab session.tables).stores) session.changes
 
--- the line of an expected text, where it differs
+-- the line of an expected text, if it differs
 abbrev pub expect_lines : State → ℕ → List ℕ → List ℕ
 expect_lines state line text = if bytes_eq (whole_text state) text then [] else expect_line line
 
@@ -75,7 +64,7 @@ event_counted session counts = record { number = one_more session.number; events
 abbrev pub text_counted : State → List ℕ → Counts → Counts
 text_counted state text counts = if bytes_eq (whole_text state) text then counts else record counts { failed = counts.failed + 1 }
 
--- an event that happened left the session behind it, and the play goes on; one that is refused ends the play
+-- an event that happens results in the session after its step, and the play continues; a refused event ends the play
 abbrev pub PlaysBy : SessionState → SessionState → Counts → Event → Result Happening Code → Played → Type 0
 PlaysBy before after counts event (Ok happened) (played.On next) = (after ≡ after_step before event) × (next ≡ event_counted before counts)
 PlaysBy before after counts event (Ok happened) played.Refused = ⊥
@@ -85,12 +74,12 @@ PlaysBy before after counts event (Err code) played.Refused = Unit {0}
 abbrev pub PlaysEvent : SessionState → SessionState → Counts → Event → Played → Type 0
 PlaysEvent before after counts event end = PlaysBy before after counts event (event_of (tab before.tables) before.state event) end
 
--- an expected text leaves the session as it is
+-- an expected text does not change the session
 abbrev pub PlaysExpect : SessionState → SessionState → Counts → List ℕ → Played → Type 0
 PlaysExpect before after counts text (played.On next) = (after ≡ before) × (next ≡ text_counted before.state text counts)
 PlaysExpect before after counts text played.Refused = ⊥
 
--- the same of an entry
+-- the effect of an entry: of an event or of an expected text
 abbrev pub Plays : SessionState → SessionState → Counts → Entry → Played → Type 0
 Plays before after counts (Act line event) end = PlaysEvent before after counts event end
 Plays before after counts (Expect line text) end = PlaysExpect before after counts text end

@@ -1,15 +1,15 @@
-//! The lines that are printed of a script that is traced, each with its LF.
+//! The lines that are printed for a traced script, each with its LF.
 
 ghost use Rattle.std.specs.Prelude.{◌≡◌, ◌++◌, flat_map, IfOk};
 ghost use Rattle.std.specs.String.{string_bytes};
 ghost use Rattle.play_transcript.specs.TraceText.{fired_line, hit_if_any, never_chosen, never_line, events_line, hits_text};
 
 use kmn_base::{Memory, Text};
-use plain_event::Hit;
 use rule_model::put_numbers;
+use rule_trace::Hit;
 use std::alloc::{AllocError, Global};
 
-/// The line of an event: its number, and the lines of the rules that it chose.
+/// Returns the line of an event: its number, and the lines of the rules that fired.
 pub(crate) fn fired_line(alloc: Global, number: u32, lines: &[u32]) -> Result<Text, Memory>
     ensures { IfOk result (λ line. line ≡ fired_line number lines.now) }
 {
@@ -20,7 +20,7 @@ pub(crate) fn fired_line(alloc: Global, number: u32, lines: &[u32]) -> Result<Te
     Ok(Text::from_string(line))
 }
 
-/// The last lines: how often each line was chosen, which never was, and how many events there were.
+/// Returns the last lines: how often each line fired, which lines never fired, and the number of events.
 #[tactic(auto, unfolding(crate::specs::TraceText::hits_text))]
 pub(crate) fn hits_text(alloc: Global, events: usize, hits: &[Hit]) -> Result<Text, Memory>
     ensures { IfOk result (λ text. text ≡ hits_text events hits.now) }
@@ -32,7 +32,7 @@ pub(crate) fn hits_text(alloc: Global, events: usize, hits: &[Hit]) -> Result<Te
     Ok(Text::from_string(text))
 }
 
-/// A line for each hit that was counted.
+/// Appends a line for each hit whose count is not 0.
 fn put_hits(text: &mut String, hits: &[Hit]) -> Result<(), AllocError>
     ensures { IfOk result (λ _. string_bytes text.new ≡ string_bytes text.old ++ flat_map hit_if_any hits.now) }
 {
@@ -42,7 +42,7 @@ fn put_hits(text: &mut String, hits: &[Hit]) -> Result<(), AllocError>
     Ok(())
 }
 
-/// The line of a hit, where it was counted.
+/// Appends the line of a hit if its count is not 0.
 fn put_hit(text: &mut String, hit: Hit) -> Result<(), AllocError>
     ensures { IfOk result (λ _. string_bytes text.new ≡ string_bytes text.old ++ hit_if_any hit) }
 {
@@ -52,7 +52,7 @@ fn put_hit(text: &mut String, hit: Hit) -> Result<(), AllocError>
     write!(text, "hit {}={}\n", hit.line, hit.count)
 }
 
-/// The line of the lines that were never chosen.
+/// Appends the line that lists the lines that never fired.
 #[tactic(auto, unfolding(crate::specs::TraceText::never_line))]
 fn put_never(alloc: Global, text: &mut String, hits: &[Hit]) -> Result<(), AllocError>
     ensures { IfOk result (λ _. string_bytes text.new ≡ string_bytes text.old ++ never_line hits.now) }
@@ -63,7 +63,7 @@ fn put_never(alloc: Global, text: &mut String, hits: &[Hit]) -> Result<(), Alloc
     text.push_str("\n")
 }
 
-/// The last line: how many events there were.
+/// Appends the last line: the number of events.
 #[tactic(auto, unfolding(crate::specs::TraceText::events_line))]
 fn put_events(text: &mut String, events: usize) -> Result<(), AllocError>
     ensures { IfOk result (λ _. string_bytes text.new ≡ string_bytes text.old ++ events_line events) }
@@ -71,7 +71,7 @@ fn put_events(text: &mut String, events: usize) -> Result<(), AllocError>
     write!(text, "end events={events}\n")
 }
 
-/// The lines of the hits that weren't counted.
+/// Returns the lines of the hits whose count is 0.
 fn never_chosen(alloc: Global, hits: &[Hit]) -> Result<Vec<u32>, AllocError>
     ensures { IfOk result (λ lines. lines.items ≡ never_chosen hits.now) }
 {

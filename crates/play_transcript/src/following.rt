@@ -3,8 +3,8 @@ ghost use Rattle.kmn_outside.specs.Outside.{WriteCounts};
 ghost use Rattle.rule_model.specs.Tab.{tab};
 ghost use Rattle.rule_model.specs.Trace.{trace};
 ghost use Rattle.rule_model.specs.Transcript.{events_of, refused_event_line};
-ghost use Rattle.plain_event.specs.declared.coverage.Hit.{Hit};
-ghost use Rattle.plain_event.specs.Coverage.{lines_of_tables, hit_lines, AreLinesOf};
+ghost use Rattle.rule_trace.specs.declared.coverage.Hit.{Hit};
+ghost use Rattle.rule_trace.specs.Coverage.{lines_of_tables, hit_lines, AreLinesOf};
 ghost use Rattle.play_session.specs.Session.{first_session};
 ghost use Rattle.play_transcript.specs.Printing.{Prints};
 ghost use Rattle.play_transcript.specs.TraceEnds.{trace_end};
@@ -15,28 +15,28 @@ use crate::fired::{fired_line, hits_text};
 use crate::put_all;
 use kmn_base::{Code, Event};
 use kmn_outside::{Sink, WriteError};
-use plain_event::{Coverage, Hit};
 use play_script::refused_event_line;
 use play_session::{Session, StepError};
 use rule_model::Entry;
+use rule_trace::{Coverage, Hit};
 use std::alloc::Global;
 
-/// What was counted of a script: the number of its last step, and events that were done.
+/// The counts of a traced script: the number of its last step, and the number of events that were done.
 #[derive(Clone, Copy)]
 pub(crate) struct TraceCounts {
-    /// Stays at the end of its type.
+    /// Saturates at the maximum of its type.
     pub number: u32,
     pub events: usize,
 }
 
-/// What an entry makes of a script: it goes on, or an event was refused.
+/// The effect of an entry on a script: the script continues, or an event was refused.
 #[derive(Clone, Copy)]
 pub(crate) enum Followed {
     On(TraceCounts),
     Refused,
 }
 
-/// How a script that is traced ends.
+/// How a traced script ends.
 #[derive(Clone, Copy)]
 pub enum TraceEnd {
     Done,
@@ -44,15 +44,15 @@ pub enum TraceEnd {
     Refused,
 }
 
-/// A session with the coverage of the lines that it chooses.
+/// A session with the coverage of the lines that fire in it.
 #[derive(Drop)]
 struct TracedSession<'a> {
     session: Session<'a>,
     coverage: Coverage,
 }
 
-/// Plays a script in a session before its first event, with a coverage of nothing yet: prints the lines of the rules that each
-/// event chose, and in the end how often each line was chosen and which never was.
+/// Plays a script in a session before its first event, with a coverage that has counted no line. Prints the lines of the rules that
+/// fire for each event, and at the end how often each line fired and which lines never fired.
 pub fn trace_play<'a, S: Sink>(
     alloc: Global,
     session: Session<'a>,
@@ -73,7 +73,7 @@ pub fn trace_play<'a, S: Sink>(
     follow(alloc, &mut traced, entries, out)
 }
 
-/// The same on a session and a coverage that are lent.
+/// Does the same as `trace_play`, with a borrowed session and coverage.
 fn follow<S: Sink>(
     alloc: Global,
     traced: &mut TracedSession,
@@ -99,7 +99,7 @@ fn follow<S: Sink>(
     put_end(alloc, counts.events, traced.coverage.hits(), out)
 }
 
-/// Nothing is counted.
+/// Returns the counts before the first entry.
 fn no_counts() -> TraceCounts
     ensures { result ≡ no_counts }
 {
@@ -109,7 +109,7 @@ fn no_counts() -> TraceCounts
     }
 }
 
-/// Plays an entry of a script and prints its line. An expected text does nothing.
+/// Plays an entry of a script and prints its line. An expected text has no effect.
 #[tactic(auto, using(crate::proofs::PrintingLaws::nothing_put))]
 fn follow_entry<S: Sink>(
     alloc: Global,
@@ -132,7 +132,7 @@ fn follow_entry<S: Sink>(
     }
 }
 
-/// Does an event, prints its line and counts the lines of the rules that it chose.
+/// Performs an event, prints its line and counts the lines of the rules that fired.
 #[tactic(auto, using(crate::proofs::PrintingLaws::faults))]
 fn follow_event<S: Sink>(
     alloc: Global,
@@ -166,7 +166,7 @@ fn follow_event<S: Sink>(
     }
 }
 
-/// Prints the lines of the rules that an event chose.
+/// Prints the lines of the rules that fired for an event.
 #[tactic(auto, using(crate::proofs::PrintingLaws::faults))]
 fn put_fired<S: Sink>(
     alloc: Global,
@@ -200,7 +200,7 @@ fn put_refusal<S: Sink>(
     Ok(Followed::Refused)
 }
 
-/// Prints how often each line was chosen, which never was, and how many events there were.
+/// Prints how often each line fired, which lines never fired, and the number of events.
 #[tactic(auto, using(crate::proofs::PrintingLaws::faults))]
 fn put_end<S: Sink>(
     alloc: Global,

@@ -1,4 +1,4 @@
-//! The lines of a field, and those that only a play of many fields has.
+//! The lines of a field, and the lines that only a play with several fields has.
 
 ghost use Rattle.std.specs.Prelude.{◌≡◌, ◌++◌, IfOk, IsTrue};
 ghost use Rattle.kmn_outside.specs.Outside.{WriteCounts};
@@ -11,7 +11,7 @@ use kmn_outside::{Sink, WriteError};
 use play_script::{put_characters, put_counts};
 use std::alloc::Global;
 
-/// What stands at the front of each line of a field.
+/// Returns the text at the front of each line of a field.
 pub(crate) fn front(alloc: Global, field: u32) -> Result<Text, Memory>
     ensures { IfOk result (λ text. text ≡ front field) }
 {
@@ -19,7 +19,7 @@ pub(crate) fn front(alloc: Global, field: u32) -> Result<Text, Memory>
     Ok(Seq::from_vec(text.into_bytes()))
 }
 
-/// Prints a line of a field as one piece.
+/// Prints a line of a field, with its front, as one piece.
 #[tactic(auto, using(crate::proofs::PrintingLaws::faults))]
 pub(crate) fn put_line<S: Sink>(
     alloc: Global,
@@ -36,7 +36,7 @@ pub(crate) fn put_line<S: Sink>(
     put_all(out, line.as_slice())
 }
 
-/// The line of what a key press would do, without its front.
+/// Returns the line of what a key press would do, without its front.
 pub(crate) fn preview_line(
     alloc: Global,
     outcome: Outcome,

@@ -3,7 +3,7 @@ ghost use Rattle.kmn_outside.specs.Outside.{WriteCounts};
 ghost use Rattle.kmn_base.specs.declared.events.Event.TheVariants as event;
 ghost use Rattle.play_transcript.specs.Ends.{end_after};
 ghost use Rattle.play_transcript.specs.Printing.{Prints};
-ghost use Rattle.play_session.specs.Host.{first_host, field_of, refusal_of};
+ghost use Rattle.text_host.specs.Host.{first_host, field_of, refusal_of};
 ghost use Rattle.play_transcript.specs.EachEntry.{AreSessions, Plays, PlaysBy, code_in, played_by, told_lines, TellsOfStores, is_text_of};
 ghost use Rattle.play_transcript.specs.HostText.{host_text, host_end, entry_lines, event_lines, preview_lines, expect_text, text_or_refusal, field_text, field_texts, end_lines};
 ghost use Rattle.play_transcript.specs.HostPlaying.{first_play, turned_to, refusal_in, opened, shown, stepped, compared};
@@ -12,35 +12,36 @@ use crate::host_lines::{front, preview_line, put_line};
 use crate::{PlayEnd, end_after, is_text, put_all, put_step};
 use kmn_base::{Code, Event, KeyPress, Memory};
 use kmn_outside::{Sink, WriteError};
-use play_script::{HostEntry, end_line, expect_line, refused_event_line, text_line};
-use play_session::{Host, HostError, Session, Step};
+use play_script::{end_line, expect_line, refused_event_line, text_line};
+use play_session::{Session, Step};
 use std::alloc::Global;
+use text_host::{Host, HostEntry, HostError};
 
-/// A play of a script for many fields: its host, and what was counted.
+/// A play of a script for several fields: its host and its counts.
 #[derive(Drop)]
 pub(crate) struct Play<'a> {
     pub host: Host<'a>,
-    /// The number of the field that is turned to; 0 before the first one is opened.
+    /// The number of the current field, or 0 before the first field is opened.
     pub field: u32,
-    /// Events that were done and previews that were shown, of all fields; it stays at the end of its type.
+    /// The number of events that were done and previews that were shown, in all fields. Saturates at the maximum of its type.
     pub asked: u32,
-    /// The events among them.
+    /// The number of events that were done.
     pub events: usize,
-    /// Expected texts that differed.
+    /// The number of expected texts that differed.
     pub failed: usize,
 }
 
-/// What an entry makes of a play: it goes on, or an event or a preview was refused.
+/// The effect of an entry on a play: the play continues, or an event or a preview was refused.
 #[derive(Clone, Copy)]
 pub(crate) enum Played {
     On,
     Refused,
 }
 
-/// Plays a script for many fields on a host without fields: prints what each event did, what each preview shows and which expected
-/// texts differ, each line with the number of its field at the front, and in the end the text of each field and the counts. An
-/// event or a preview that is refused ends the play. Where the entries are none of a script that was read, those in a field that
-/// isn't there do nothing, nor do those that open one where the host has no room for it.
+/// Plays a script for several fields on a host without fields. Prints what each event did, what each preview shows and which
+/// expected texts differ, each line with the number of its field at the front, and at the end the text of each field and the
+/// counts. A refused event or preview ends the play. If the entries do not come from a script that was read, an entry in a field
+/// that does not exist has no effect, and neither does an entry that opens a field when the host is full.
 pub fn play_host<'a, S: Sink>(
     alloc: Global,
     host: Host<'a>,
@@ -64,7 +65,7 @@ pub fn play_host<'a, S: Sink>(
     play_entries(alloc, &mut play, entries, out)
 }
 
-/// The same on a play before its first entry.
+/// Does the same as `play_host`, with a borrowed play before its first entry.
 fn play_entries<S: Sink>(
     alloc: Global,
     play: &mut Play,
@@ -114,7 +115,7 @@ fn play_entry<S: Sink>(
     }
 }
 
-/// Opens a field and turns to it.
+/// Opens a field and makes it the current field.
 fn open_field(alloc: Global, play: &mut Play) -> Result<Played, WriteError>
     ensures memory { IfErr result (λ error. error ≡ WriteError.Memory) }
     ensures goes_on { IfOk result (λ end. end ≡ Played.On) }
@@ -130,7 +131,7 @@ fn open_field(alloc: Global, play: &mut Play) -> Result<Played, WriteError>
     }
 }
 
-/// Does an event in the field that is turned to, and prints its lines.
+/// Performs an event in the current field, and prints its lines.
 #[tactic(auto, using(crate::proofs::PrintingLaws::faults))]
 fn play_event<S: Sink>(
     alloc: Global,
@@ -181,7 +182,7 @@ fn put_field_step<S: Sink>(
     put_step(alloc, front.as_slice(), session, step, out)
 }
 
-/// Shows what a key press would do in the field that is turned to.
+/// Prints what a key press would do in the current field.
 #[tactic(auto, using(crate::proofs::PrintingLaws::faults))]
 fn play_preview<S: Sink>(
     alloc: Global,
@@ -209,7 +210,7 @@ fn play_preview<S: Sink>(
     }
 }
 
-/// The code of an event or a preview that a host refuses; none where there is no such field, or no room for one.
+/// Returns the code of an event or a preview that a host refuses, or `None` if there is no such field or the host is full.
 fn refused_with(error: HostError) -> Result<Option<Code>, Memory>
     ensures { IfOk result (λ code. IsSomeAnd (refusal_of error) (λ refusal. code ≡ code_in refusal)) }
 {
@@ -221,7 +222,7 @@ fn refused_with(error: HostError) -> Result<Option<Code>, Memory>
     }
 }
 
-/// Prints the refusal of an event or a preview, where there is a code.
+/// Prints the refusal of an event or a preview, if it has a code.
 #[tactic(auto, using(crate::proofs::PrintingLaws::faults, crate::proofs::PrintingLaws::nothing_put))]
 fn put_refusal<S: Sink>(
     alloc: Global,
@@ -242,7 +243,7 @@ fn put_refusal<S: Sink>(
     Ok(Played::Refused)
 }
 
-/// Compares the whole text of the field that is turned to with an expected one, and prints where it differs.
+/// Compares the whole text of the current field with an expected text, and prints a line if they differ.
 #[tactic(auto, using(crate::proofs::PrintingLaws::faults, crate::proofs::PrintingLaws::nothing_put))]
 fn play_expect<S: Sink>(
     alloc: Global,
@@ -268,7 +269,7 @@ fn play_expect<S: Sink>(
     Ok(Played::On)
 }
 
-/// Whether the whole text of a field is this one, or there is no such field.
+/// Returns whether the whole text of a field is this text, or there is no such field.
 fn is_text_of(host: &Host, field: u32, text: &[char]) -> bool
     ensures { result ≡ is_text_of text.now (field_of host.now field) }
 {
@@ -278,7 +279,7 @@ fn is_text_of(host: &Host, field: u32, text: &[char]) -> bool
     }
 }
 
-/// Prints the texts of the fields and the counts, and answers how the play ends.
+/// Prints the texts of the fields and the counts, and returns how the play ends.
 #[tactic(auto, using(crate::proofs::PrintingLaws::faults))]
 fn put_end<S: Sink>(alloc: Global, play: &Play, out: &mut S) -> Result<PlayEnd, WriteError>
     ensures counts { WriteCounts (S.faults out.old) (S.faults out.new) result }

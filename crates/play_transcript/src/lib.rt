@@ -1,21 +1,21 @@
-//! Scripts that are played on a keyboard, or for many fields on a host, with the lines of what happens put into a sink, or the source
-//! lines of the rules that each event chose.
+//! Plays scripts in a session or on a host, and prints their transcripts to a sink.
 //!
-//! It stands on `play_session`, which does one event after the other, and so in the fields of a host, on `play_script`, which has
-//! the scripts and the lines of a transcript, on `plain_event`, which counts the lines of rules, and on `kmn_outside` for the sink.
-//! The layer above starts a session and calls `play`: it puts the `transcript` of the script's entries for the session's tables, or
-//! where the sink fails or memory is wanting a first part of it, and answers `play_end` of their trace (`specs/Ends`). A line of its
-//! own the layer above puts by `put_all`. What both leave in the sink is `Prints` (`specs/Printing`). Plays of other scripts
-//! are put together from the same parts.
+//! Depends on `play_session`, which performs one event after the other; `text_host`, which does so in several fields; `play_script`,
+//! which has the scripts and the lines of a transcript; `rule_trace`, which counts the lines of rules; and `kmn_outside`, which has
+//! the sink. The layer above starts a session and calls `play`. It prints the `transcript` of the script's entries for the tables
+//! of the session, or only the beginning of it if the sink or an allocation fails, and returns `play_end` of their trace
+//! (`specs/Ends`). The layer above prints other lines with `put_all`. `Prints` states what both append to the sink
+//! (`specs/Printing`). Plays of other scripts are built from the same functions.
 //!
-//! For many fields it makes a host and calls `play_host`: it puts the `host_text` of the entries for the host's tables
-//! (`specs/HostText`), or a first part of it likewise, and answers their `host_end`. The laws in `host_laws` say that the
-//! steps which are printed of a field are those of the trace of its own events (`specs/Fields`), over the calls that the play
-//! makes (`specs/HostCalls`), and which pieces of the text they are (`specs/HostPieces`).
+//! For several fields, the layer above creates a host and calls `play_host`. It prints the `host_text` of the entries for the tables
+//! of the host (`specs/HostText`), or only the beginning of it in the same cases, and returns their `host_end`. The laws in
+//! `host_laws` state that the printed steps of a field are the steps of the trace of the field's own events (`specs/Fields`), over
+//! the calls that the play makes (`specs/HostCalls`), and which pieces of the text they are (`specs/HostPieces`).
 //!
-//! For the lines of rules it starts a coverage of the same tables and calls `trace_play`: it puts the `trace_text` of the script's
-//! entries (`specs/TraceText`) and the lines of the tables' records, or a first part of it likewise, and answers `trace_end` of
-//! their trace. That keyboards which take the same steps and choose the same lines print the same is the lemma `same_text`.
+//! For the lines of rules, the layer above starts a coverage of the same tables and calls `trace_play`. It prints the `trace_text`
+//! of the script's entries and the lines of the tables' records (`specs/TraceText`), or only the beginning of it in the same cases,
+//! and returns `trace_end` of their trace. The lemma `same_text` states that keyboards print the same text if they take the same
+//! steps and choose the same lines.
 #![tactic(auto)]
 
 mod fired;

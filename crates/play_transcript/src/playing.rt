@@ -21,16 +21,16 @@ use play_session::{Change, Session, Step, StepError};
 use rule_model::Entry;
 use std::alloc::Global;
 
-/// What was counted of a play: the number of its last step, events that were done, and expected texts that differed.
+/// The counts of a play: the number of its last step, of events that were done, and of expected texts that differed.
 #[derive(Clone, Copy)]
 pub struct Counts {
-    /// Stays at the end of its type.
+    /// Saturates at the maximum of its type.
     pub number: u32,
     pub events: usize,
     pub failed: usize,
 }
 
-/// What an entry makes of a play: it goes on, or an event was refused.
+/// The effect of an entry on a play: the play continues, or an event was refused.
 #[derive(Clone, Copy)]
 pub enum Played {
     On(Counts),
@@ -43,19 +43,19 @@ pub enum PlayEnd {
     Done,
     /// An event was refused.
     Refused,
-    /// The script came to its end, and an expected text differed.
+    /// The whole script was played, and an expected text differed.
     ExpectFailed,
 }
 
-/// A text that a script expects, and the line that says so.
+/// A text that a script expects, and the number of the line that expects it.
 #[derive(Clone, Copy)]
 struct Expected<'a> {
     line: u32,
     text: &'a [char],
 }
 
-/// Plays a script in a session before its first event: prints what each event did and which expected texts differ, and in the
-/// end the text.
+/// Plays a script in a session before its first event. Prints what each event did and which expected texts differ, and at the end
+/// the text and the counts.
 pub fn play<'a, S: Sink>(
     alloc: Global,
     mut session: Session<'a>,
@@ -79,7 +79,7 @@ pub fn play<'a, S: Sink>(
     put_end(alloc, &session, counts, out)
 }
 
-/// Nothing is counted.
+/// Returns the counts before the first entry.
 fn no_counts() -> Counts
     ensures { result ≡ no_counts }
 {
@@ -119,7 +119,7 @@ fn play_entry<S: Sink>(
     }
 }
 
-/// Does an event and prints its lines.
+/// Performs an event and prints its lines.
 #[tactic(auto, using(crate::proofs::PrintingLaws::faults, crate::proofs::PlayingLaws::step_of_stores))]
 fn play_event<S: Sink>(
     alloc: Global,
@@ -152,7 +152,7 @@ fn play_event<S: Sink>(
     }
 }
 
-/// The code of an event that is refused.
+/// Returns the code of a refused event. Errors: `Memory` if the session ran out of memory.
 pub fn refused_with(error: StepError) -> Result<Code, Memory>
     ensures code { IfOk result (λ code. code_of error ≡ Some code) }
     ensures memory { IfErr result (λ _. code_of error ≡ None) }
@@ -164,8 +164,8 @@ pub fn refused_with(error: StepError) -> Result<Code, Memory>
     }
 }
 
-/// Prints what the last event of a session did, and the values that it changed, with `front` at the front of each line. Each
-/// line goes to the sink as one piece.
+/// Prints what the last event of a session did, and the values that it changed, with `front` at the front of each line. The sink
+/// receives each line as one piece.
 #[tactic(auto, using(crate::proofs::PrintingLaws::faults, crate::proofs::PrintingLaws::prints_behind))]
 pub fn put_step<S: Sink>(
     alloc: Global,
@@ -230,7 +230,7 @@ fn put_change<S: Sink>(
     put_all(out, line.as_slice())
 }
 
-/// A line with so much at its front.
+/// Returns a line with `front` at its front.
 pub fn fronted(alloc: Global, front: &[u8], line: Text) -> Result<Text, Memory>
     ensures { IfOk result (λ all. all ≡ front.now ++ line) }
 {
@@ -242,7 +242,7 @@ pub fn fronted(alloc: Global, front: &[u8], line: Text) -> Result<Text, Memory>
     Ok(all)
 }
 
-/// The line of an option's new value.
+/// Returns the line of an option's new value.
 fn change_line(alloc: Global, session: &Session, change: Change) -> Result<Text, Memory>
     requires { change.store < length (tab session.now.tables).stores }
     ensures { IfOk result (λ line. line ≡ change_line [] session.now change) }
@@ -252,7 +252,7 @@ fn change_line(alloc: Global, session: &Session, change: Change) -> Result<Text,
     value_line(alloc, change.saved, name.as_slice(), elements_of(&value))
 }
 
-/// The elements of a value, none where there is none.
+/// Returns the elements of a value, or no elements if there is no value.
 fn elements_of(value: &Option<Seq<Element>>) -> &[Element]
     ensures { result.now ≡ unwrap_or value.now [] }
 {
@@ -280,7 +280,7 @@ fn put_refusal<S: Sink>(
     Ok(Played::Refused)
 }
 
-/// Compares the whole text with an expected one, and prints where it differs.
+/// Compares the whole text with an expected text, and prints a line if they differ.
 #[tactic(auto, using(crate::proofs::PrintingLaws::faults))]
 fn play_expect<S: Sink>(
     alloc: Global,
@@ -307,7 +307,7 @@ fn play_expect<S: Sink>(
     }))
 }
 
-/// Whether a text before the caret and one after it are together this text.
+/// Returns whether a text before the caret and a text after it together are this text.
 #[tactic(auto, using(crate::proofs::PlayingLaws::text_in_parts))]
 pub fn is_text(left: &[char], right: &[char], text: &[char]) -> bool
     ensures { result ≡ bytes_eq (left.now ++ right.now) text.now }
@@ -315,7 +315,7 @@ pub fn is_text(left: &[char], right: &[char], text: &[char]) -> bool
     left == before(text, left.len()) && right == behind(text, left.len())
 }
 
-/// Prints the text and the counts, and answers how the play ends.
+/// Prints the text and the counts, and returns how the play ends.
 #[tactic(auto, using(crate::proofs::PrintingLaws::faults))]
 fn put_end<S: Sink>(
     alloc: Global,
@@ -335,7 +335,7 @@ fn put_end<S: Sink>(
     Ok(end_after(counts.failed))
 }
 
-/// How a play ends that comes to the end of its script.
+/// Returns how a play ends after its whole script is played.
 pub fn end_after(failed: usize) -> PlayEnd
     ensures { result ≡ end_after None failed }
 {

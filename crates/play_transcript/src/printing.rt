@@ -5,7 +5,7 @@ ghost use Rattle.play_transcript.specs.Printing.{Prints};
 use kmn_base::slices::behind;
 use kmn_outside::{Sink, WriteError};
 
-/// Prints a line as one piece. Where the sink takes a part of it, the rest follows.
+/// Prints a line as one piece. If the sink accepts only the beginning of the line, prints the rest after it.
 #[tactic(auto, using(crate::proofs::PrintingLaws::faults, crate::proofs::PrintingLaws::put_on, crate::proofs::PrintingLaws::put_stops))]
 pub fn put_all<S: Sink>(out: &mut S, line: &[u8]) -> Result<(), WriteError>
     ensures counts { WriteCounts (S.faults out.old) (S.faults out.new) result }

@@ -7,9 +7,9 @@ use Rattle.kmn_base.specs.declared.codes.Code.TheVariants.{C01}
 use Rattle.kmn_base.proofs.Options.{option_or-none}
 use Rattle.rule_model.specs.declared.program.Program.{Program}
 use Rattle.rule_model.specs.Src.{is_unicode}
-use Rattle.kmn_names.specs.First.{broken, earlier, first_of}
-use Rattle.kmn_names.specs.Names.{stated, begin_refusal, store_refusal, group_refusal, rules_refusal, names_refusal}
-use Rattle.kmn_names.specs.Known.{known}
+use Rattle.store_table.specs.First.{broken, earlier, first_of}
+use Rattle.store_table.specs.Names.{stated, begin_refusal, store_refusal, group_refusal, rules_refusal, names_refusal}
+use Rattle.store_table.specs.Known.{known}
 use Rattle.item_checker.specs.Items.{items_refusal, store_refusal as items_store_refusal, rules_refusal as items_rules_refusal}
 use Rattle.rule_checker.specs.Limits.{limits_refusal}
 use Rattle.rule_checker.specs.Refused.{has_no_start, start_refusal, refused}

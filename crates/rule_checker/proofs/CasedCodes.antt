@@ -1,4 +1,4 @@
--- The codes that are found are those of the keys among the elements of `&casedkeys`.
+-- The cased codes that the checker computes are the codes of the keys among the elements of `&casedkeys`.
 use Rattle.std.proofs.Common.{◌≡◌, ℕ, zero, suc, ◌+◌, ◌<◌, ◌≤◌, Bool, true, false, cond, List, [], ◌∷◌, ◌++◌, length, map, set, replicate, Option, Some, None, refl, sym, ap, subst, ◌∙◌, arith, if◌then◌else◌, append-nil, append_assoc}
 use Rattle.std.specs.Prelude.{◌||◌, nat_eq, filter, find, flat_map, option_map, unwrap_or}
 use Rattle.std.specs.List.{list_any}
@@ -10,7 +10,7 @@ use Rattle.std.proofs.lemmas.List.Folds.{list_any-append, find-append}
 use Rattle.std.proofs.Math.Bool.{or-false}
 use Rattle.kmn_base.specs.declared.items.Element.{Element}
 use Rattle.kmn_base.specs.Names.{same_name}
-use Rattle.rule_model.specs.Dictionary.{place_in, code_in}
+use Rattle.virtual_keys.specs.Dictionary.{place_in, code_in}
 use Rattle.rule_model.specs.declared.program.SrcItem.{SrcItem}
 use Rattle.rule_model.specs.declared.program.SrcItem.TheVariants as source
 use Rattle.rule_model.specs.declared.program.KeyName.{KeyName}
@@ -25,9 +25,9 @@ use Rattle.rule_checker.specs.declared.key_codes.KeyCodes.{KeyCodes}
 use Rattle.rule_checker.specs.declared.cased.StoreCodes.{StoreCodes}
 use Rattle.rule_checker.specs.KeyCodes.{is_table_code, has_mark, has_code, no_codes, with_code, either_marks, joined}
 use Rattle.rule_checker.specs.Cased.{codes_at, codes_named, with_item_codes, with_items_codes, with_store_codes, codes_from, no_stores, codes_of_cased}
-use Rattle.rule_model.proofs.NamePlaces.{position_cons, same_either_way}
+use Rattle.virtual_keys.proofs.NamePlaces.{position_cons, same_either_way}
 
--- the codes of the key table among codes, and whether a code is one of them
+-- whether a code is among the codes of a list that are in the key table
 abbrev pub is_among : List ℕ → ℕ → Bool
 is_among codes code = list_any (nat_eq code) (filter is_table_code codes)
 
@@ -44,7 +44,7 @@ nor_this n = grind (arith, nat_tests)
 both_next : (m n : ℕ) → nat_eq m n ≡ nat_eq (suc m) (suc n)
 both_next m n = grind (arith, nat_tests)
 
--- marks
+-- an empty set has no code
 no_mark : (n code : ℕ) → has_mark (replicate n false) code ≡ false
 no_mark zero code = refl
 no_mark (suc n) zero = refl
@@ -74,7 +74,7 @@ put_size [] n = refl
 put_size (m ∷ marks) zero = refl
 put_size (m ∷ marks) (suc n) = omega (arith, put_size marks n)
 
--- a code that is none of the key table is never among codes
+-- if a code is not in the key table, it is not among the codes of a list that are
 pub other_code : (code : ℕ) (codes : List ℕ) → is_table_code code ≡ false → is_among codes code ≡ false
 other_code code [] other = refl
 other_code code (c ∷ codes) other = by (is_table_code c) (nat_eq code c) refl refl (other_code code codes other)
@@ -88,7 +88,7 @@ other_code code (c ∷ codes) other = by (is_table_code c) (nat_eq code c) refl 
     by true false t s rest = ap (λ b. b || is_among codes code) s ∙ rest
     by true true t s rest = let impossible : true ≡ false = sym t ∙ ap is_table_code (same_number c code s) ∙ other in absurd (cc)
 
--- an own key has no code of the table, in a source and as an element
+-- the code of a custom key is not in the key table, in a source and as an element
 no_own_code : (place : Option ℕ) → is_table_code (unwrap_or (option_map (λ p. 256 + p) place) 0) ≡ false
 no_own_code None = refl
 no_own_code (Some p) = grind (arith, nat_tests)
@@ -138,7 +138,7 @@ added_size codes c = by (is_table_code c)
     by true = put_size codes.marks c
     by false = refl
 
--- a set has the codes of the keys among elements
+-- whether a set has the codes of the keys among elements
 pub record AreCodes (codes : KeyCodes) (elements : List Element) : Type 0 where
   pub size : length codes.marks ≡ 256
   pub each : (code : ℕ) → has_code codes code ≡ is_among (codes_among elements) code
@@ -147,7 +147,7 @@ none_are : AreCodes no_codes []
 unfolding no_codes
 none_are = record { size = length-replicate 256 false; each = no_mark 256 }
 
--- a set that has the codes of further elements too
+-- if a set grows by the codes of further elements, it has the codes of all elements
 grown : (codes now : KeyCodes) (elements more : List Element) → AreCodes codes elements → length now.marks ≡ length codes.marks
     → ((code : ℕ) → has_code now code ≡ (has_code codes code || is_among (codes_among more) code)) → AreCodes now (elements ++ more)
 grown codes now elements more are size each = record {
@@ -301,7 +301,7 @@ uncased before (store ∷ defs) none = by (wants_plain_keys store) none (uncased
     by true h rest = absurd (cc)
     by false h rest = rest h
 
--- the codes that are found for a program
+-- the cased codes of a program are the codes of the keys among the elements of its first `&casedkeys`
 found_for : (program : Program) → AreCodes (codes_of_cased program.stores) (store_elements (find is_cased_keys (stores_of program)))
 unfolding stores_of
 found_for program = by (list_any wants_plain_keys program.stores) refl (codes_from_are (names_of program) no_stores [] program.stores (record { names = refl; each = tt }) refl)

@@ -17,8 +17,8 @@ use Rattle.rule_model.specs.declared.tables.Store.{Store}
 use Rattle.rule_model.specs.Tab.{store_elements}
 use Rattle.rule_model.specs.Naming.{stores_of, is_dropped}
 use Rattle.rule_model.specs.Src.{code_of_element, is_cased_keys, cased_keys}
-use Rattle.kmn_names.specs.First.{first_code}
-use Rattle.kmn_names.specs.Known.{Known, known, brought, statement_elements}
+use Rattle.store_table.specs.First.{first_code}
+use Rattle.store_table.specs.Known.{Known, known, brought, statement_elements}
 use Rattle.item_checker.specs.Items.{is_no_plain_key, puts_option, wants_characters, brings_no_character, wants_plain_keys, brings_no_plain_key, store_item_code, store_head_code, store_code, store_refusal}
 use Rattle.rule_checker.specs.Limits.{cased_codes}
 use Rattle.rule_checker.specs.Refused.{IsRead}
@@ -106,7 +106,7 @@ pub cased_counted : (program : Program) → IsRead program → IsUnrefused progr
 unfolding known
 cased_counted program read whole = all_kept (cased_keys program) (cased_in_table program read whole)
 
--- a code that isn't of the key table is no cased key
+-- if a code is not in the key table, it is not the code of a cased key
 pub not_cased : (code : ℕ) → (code ≡ 0) ⊎ (256 ≤ code) → (codes : List ℕ) → All IsTableCode codes → list_any (nat_eq code) codes ≡ false
 not_cased code other codes h = none_passes IsTableCode (nat_eq code) differs codes h
   where

@@ -14,11 +14,11 @@ use Rattle.rule_model.specs.declared.program.SrcItem.{SrcItem}
 use Rattle.rule_model.specs.declared.program.SrcItem.TheVariants as source
 use Rattle.rule_model.specs.declared.program.Program.{Program}
 use Rattle.rule_model.specs.declared.tables.Pat.{Pat}
-use Rattle.kmx_format.specs.Numbers.{Numbers, numbers_of, number_of_store, number_of_value, compiled_stores}
-use Rattle.kmx_format.specs.Compiles.{file_pattern}
-use Rattle.kmx_format.specs.WellNamed.{is_store, is_known_pattern}
-use Rattle.kmx_format.proofs.Linked.{is_value}
-use Rattle.kmx_format.proofs.Known.{has_values}
+use Rattle.compile_laws.specs.Numbers.{Numbers, numbers_of, number_of_store, number_of_value, compiled_stores}
+use Rattle.compile_laws.specs.Compiles.{file_pattern}
+use Rattle.compile_laws.specs.WellNamed.{is_store, is_known_pattern}
+use Rattle.compile_laws.proofs.Linked.{is_value}
+use Rattle.compile_laws.proofs.Known.{has_values}
 use Rattle.kmx_format.specs.FileUnits.{unit_item_of_pattern}
 use Rattle.kmx_format.specs.Writable.{stores_of_pattern, has_system_id, is_any, PointsTo, PointsBack, IsWritableContext}
 use Rattle.rule_model.specs.Patterns.{is_matched}
@@ -89,7 +89,7 @@ module _ (numbers : Numbers) where
       → PointsBack (take place (map (file_pattern numbers) context)) (slice_index_or (map (file_pattern numbers) context) place d)
   context_offsets context h place d within = offsets_from [] context h place d (omega (arith, length-map context (file_pattern numbers)))
 
-  -- a condition that is read asks only for a system option that a file can have
+  -- a condition that is read tests only a system option that a file can have
   system_id : (item : SrcItem) → IsReadItem item → has_system_id (file_pattern numbers item) ≡ true
   system_id (source.SystemEqual id value) is = is.0
   system_id (source.SystemUnequal id value) is = is.0

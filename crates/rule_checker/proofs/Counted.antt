@@ -1,12 +1,12 @@
--- Counts that stay at the end of their type are those of the elements, and of the records of a rule with its key there.
+-- The saturating counts of stores count their elements, and the records of a rule whose key is one of a store.
 use Rattle.std.proofs.Common.{◌≡◌, ℕ, suc, ◌+◌, Bool, true, false, cond, List, [], ◌∷◌, ◌++◌, length, map, Option, Some, None, refl, sym, ap, ◌∙◌, arith, if◌then◌else◌, length-append}
 use Rattle.std.specs.Prelude.{◌&&◌, not, sum, fold, flat_map, filter, find, option_map}
 use Rattle.std.proofs.lemmas.List.{map-append}
 use Rattle.std.proofs.lemmas.List.Sums.{sum_by-append}
 use Rattle.kmn_base.specs.declared.items.Element.{Element}
 use Rattle.kmn_base.specs.Names.{same_name}
-use Rattle.rule_model.specs.Dictionary.{place_in}
-use Rattle.rule_model.specs.Fits.{has, caps, no_caps}
+use Rattle.virtual_keys.specs.Dictionary.{place_in}
+use Rattle.virtual_keys.specs.Fits.{has, caps, no_caps}
 use Rattle.rule_model.specs.declared.program.KeyName.{KeyName}
 use Rattle.rule_model.specs.declared.program.SrcItem.{SrcItem}
 use Rattle.rule_model.specs.declared.program.SrcItem.TheVariants as source
@@ -22,23 +22,23 @@ use Rattle.rule_checker.specs.Cased.{codes_of_cased}
 use Rattle.rule_checker.specs.Counting.{capped, count_at, count_named, records_named, virtual_count_of, count_of, records_of, output_count_of, total, with_store, with_stores, no_counts}
 use Rattle.rule_checker.specs.Limits.{item_size, output_size, virtual_count, element_count}
 use Rattle.rule_checker.proofs.CasedCodes.{is_among, number_is_among, program_codes}
-use Rattle.rule_model.proofs.NamePlaces.{position_cons, same_either_way}
+use Rattle.virtual_keys.proofs.NamePlaces.{position_cons, same_either_way}
 
 pub from_zero : (n : ℕ) → 0 + n ≡ n
 from_zero n = omega arith
 
--- how many records a rule has whose key is one of these elements
+-- the number of records of a rule whose key is one of these elements
 abbrev pub records_size : List ℕ → List Element → ℕ
 records_size cased elements = sum (map (element_count cased) elements)
 
--- counts are those of stores; the cased codes are those of the key table among these codes
+-- whether counts are the counts of stores, and the cased codes are the codes of the key table among these codes
 pub record AreCounts (counted : StoreCounts) (codes : List ℕ) (stores : List Store) : Type 0 where
   pub cased : (code : ℕ) → has_code counted.cased code ≡ is_among codes code
   pub names : counted.names ≡ map (λ (s : Store). s.name) stores
   pub counts : counted.counts ≡ map (λ (s : Store). capped (length s.elements)) stores
   pub records : counted.records ≡ map (λ (s : Store). capped (records_size (filter is_table_code codes) s.elements)) stores
 
--- the size of the elements of a store that may be found
+-- the size of the elements of a store, or 0 if there is no store
 abbrev size_in : (List Element → ℕ) → Option Store → ℕ
 size_in size None = 0
 size_in size (Some s) = capped (size s.elements)
@@ -61,19 +61,19 @@ size_elements : (size : List Element → ℕ) → size [] ≡ 0 → (found : Opt
 size_elements size none None = ap capped (sym none)
 size_elements size none (Some s) = refl
 
--- the count of a name is that of the elements of its store
+-- the count of a name is the number of elements of its store
 pub named_count : (counted : StoreCounts) (codes : List ℕ) (stores : List Store) (name : List ℕ) → AreCounts counted codes stores → count_named counted name ≡ capped (length (elements_named stores name))
 named_count counted codes stores name are =
     (λ j. count_at (are.counts j) (place_in (are.names j) name)) ∙ found_size length stores name ∙ size_elements length refl (find (λ (s : Store). same_name s.name name) stores)
 
--- and so is that of its records
+-- the record count of a name is the number of records of a rule whose key is one of its store
 pub named_records : (counted : StoreCounts) (codes : List ℕ) (stores : List Store) (name : List ℕ) → AreCounts counted codes stores
     → records_named counted name ≡ capped (records_size (filter is_table_code codes) (elements_named stores name))
 named_records counted codes stores name are =
     let size = records_size (filter is_table_code codes) in
     (λ j. count_at (are.records j) (place_in (are.names j) name)) ∙ found_size size stores name ∙ size_elements size refl (find (λ (s : Store). same_name s.name name) stores)
 
--- a key exchanges shift and caps lock where it does with the codes that are cased
+-- the record count of a key is the number of records that the limits count for it
 one_or_two : (b c : Bool) → b ≡ c → (if b then 2 else 1) ≡ capped (if c then 2 else 1)
 one_or_two true c e = ap (λ d. capped (if d then 2 else 1)) e
 one_or_two false c e = ap (λ d. capped (if d then 2 else 1)) e
@@ -106,7 +106,7 @@ no_more sum = omega arith
 pub one_more : (sum a : ℕ) → capped (capped sum + capped a) ≡ capped (sum + a)
 one_more sum a = omega arith
 
--- what items bring is counted item by item
+-- the sum of the counts of items is the size of the elements that they add
 sizes_total : (size : List Element → ℕ) → ((xs ys : List Element) → size (xs ++ ys) ≡ size xs + size ys) → size [] ≡ 0 → (count : SrcItem → ℕ) (elements : SrcItem → List Element)
     → ((item : SrcItem) → count item ≡ capped (size (elements item))) → (sum : ℕ) (items : List SrcItem) → total count (capped sum) items ≡ capped (sum + size (flat_map elements items))
 sizes_total size both none count elements each sum [] = no_more sum ∙ ap (λ n. capped (sum + n)) (sym none)
@@ -165,7 +165,7 @@ unfolding stores_of
 program_counts program =
     counts_onto (names_of program) (no_counts (codes_of_cased program.stores)) (cased_keys program) [] program.stores (record { cased = program_codes program; names = refl; counts = refl; records = refl })
 
--- what an output comes to
+-- the count of an output is the number of items that it expands to
 output_item_count : (counted : StoreCounts) (codes : List ℕ) (stores : List Store) → AreCounts counted codes stores → (item : SrcItem) → output_count_of counted item ≡ capped (item_size stores item)
 output_item_count counted codes stores are (source.Outs name) = named_count counted codes stores name are
 output_item_count counted codes stores are item = refl

@@ -13,7 +13,7 @@ use Rattle.kmn_base.specs.declared.keys.TheConstants.{SHIFT_FLAGS}
 use Rattle.kmn_base.specs.declared.limits.TheConstants.{STORE_ELEMENTS}
 use Rattle.kmn_base.specs.Names.{same_name}
 use Rattle.kmn_base.specs.Spelling.{char_units, IsOperand, IsSpellable}
-use Rattle.rule_model.specs.Dictionary.{code_in}
+use Rattle.virtual_keys.specs.Dictionary.{code_in}
 use Rattle.rule_model.specs.declared.program.KeyName.{KeyName}
 use Rattle.rule_model.specs.declared.program.SrcItem.{SrcItem}
 use Rattle.rule_model.specs.declared.program.SrcItem.TheVariants as source
@@ -22,11 +22,11 @@ use Rattle.rule_model.specs.declared.program.Program.{Program}
 use Rattle.rule_model.specs.declared.tables.Store.{Store}
 use Rattle.rule_model.specs.Tab.{store_elements}
 use Rattle.rule_model.specs.Naming.{names_of, stores_of, stores_onto, store_of, is_dropped, rule_items, all_rules, mark_number, key_number, elements_named, item_elements}
-use Rattle.kmx_format.specs.Numbers.{item_values, values_of, value_store, dictionary_stores, compiled_stores}
+use Rattle.compile_laws.specs.Numbers.{item_values, values_of, value_store, dictionary_stores, compiled_stores}
 use Rattle.kmx_format.specs.FileUnits.{unit_item_of_element, name_units}
 use Rattle.kmx_format.specs.Writable.{IsWritableName, IsWritableStore}
 use Rattle.kmx_format.proofs.WritableParts.{writable_name}
-use Rattle.kmx_format.proofs.Dictionary.{space_text}
+use Rattle.compile_laws.proofs.Dictionary.{space_text}
 use Rattle.kmn_parser.specs.ProgramLaws.{IsCharacter, IsName, IsOwnKey, IsReadKey, IsReadItem, IsReadStore}
 use Rattle.rule_checker.specs.Refused.{IsRead}
 use Rattle.rule_checker.proofs.Lists.{All-distinct}
@@ -43,7 +43,7 @@ unit_count : (cs : List ℕ) → length (flat_map char_units cs) ≤ length cs +
 unit_count [] = omega arith
 unit_count (c ∷ cs) = let both = length-append (char_units c) (flat_map char_units cs) in omega (arith, both, few_units c, unit_count cs)
 
--- a name that is read can stand in a file: its characters have at most two units each
+-- a name that is read can be written in a file, since each of its characters has at most two units
 pub name_written : (name : List ℕ) → IsName name → IsWritableName name
 unfolding name_units
 name_written name read = record {
@@ -55,7 +55,7 @@ name_written name read = record {
 pub no_name : IsWritableName []
 no_name = writable_name [] (All-nil (λ c. (c ≢ 0) × (c < 128))) (lit≤ tt)
 
--- flags and code of a virtual key that can be spelled, and stand in a key record
+-- flags and code of a virtual key that can be spelled, and written in a key record
 pub record IsSoundKey (flags code : ℕ) : Type 0 where
   pub virtual : flags ≢ 0
   pub known : bit_and flags SHIFT_FLAGS ≡ flags
@@ -109,7 +109,7 @@ module _ (program : Program) (read : IsRead program) (whole : IsUnrefused progra
   pub mark_operand : (name : List ℕ) → IsOperand (mark_number (names_of program) name)
   mark_operand name = let few = mark_small program read whole name in (omega arith, omega (arith, few))
 
-  -- the elements that an item stands for behind sound stores
+  -- if the stores before an item are sound, the elements that it expands to are sound
   item_sound : (before : List Store) → All IsSoundStore before → (item : SrcItem) → IsReadItem item → has_keys program item ≡ true → All IsSoundElement (item_elements (names_of program) before item)
   item_sound before sound (source.Char c) is among = All-cons IsSoundElement (element.Char c) [] is (All-nil IsSoundElement)
   item_sound before sound (source.Dead name) is among = All-cons IsSoundElement (element.Mark (mark_number (names_of program) name)) [] (mark_operand name) (All-nil IsSoundElement)

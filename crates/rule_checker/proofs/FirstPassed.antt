@@ -1,4 +1,4 @@
--- The walk over the statements finds the first refusal that is said of all statements up to each.
+-- The walk over the statements finds the first refusal of a statement, given the statements up to it.
 use Rattle.std.proofs.Common.{◌≡◌, ℕ, ◌+◌, ◌-◌, ◌<◌, min, Bool, true, false, List, [], ◌∷◌, ◌++◌, length, map, Option, Some, None, refl, sym, ap, ◌∙◌, arith, if◌then◌else◌, append-nil, length-append}
 use Rattle.std.specs.Prelude.{nat_lt, flat_map, sum, ◌||◌}
 use Rattle.std.specs.List.{list_any}
@@ -22,10 +22,10 @@ use Rattle.rule_model.specs.declared.program.StoreDef.{StoreDef}
 use Rattle.rule_model.specs.declared.program.Program.{Program}
 use Rattle.rule_model.specs.Tab.{distinct_onto}
 use Rattle.rule_model.specs.Naming.{rule_items, is_dropped, all_rules, mark_names, key_names}
-use Rattle.kmx_format.specs.Numbers.{item_values}
-use Rattle.kmn_names.specs.First.{broken, at_line, earlier, first_of}
-use Rattle.kmn_names.specs.Known.{Known, known, statement_elements}
-use Rattle.kmn_names.proofs.Firsts.{earlier_later}
+use Rattle.compile_laws.specs.Numbers.{item_values}
+use Rattle.store_table.specs.First.{broken, at_line, earlier, first_of}
+use Rattle.store_table.specs.Known.{Known, known, statement_elements}
+use Rattle.store_table.proofs.Firsts.{earlier_later}
 use Rattle.rule_checker.specs.declared.counting.StoreCounts.{StoreCounts}
 use Rattle.rule_checker.specs.declared.totals.Totals.{Totals}
 use Rattle.rule_checker.specs.declared.walking.Walk.{Walk}
@@ -36,7 +36,7 @@ use Rattle.rule_checker.specs.Walking.{with_names, with_values, with_size, with_
 use Rattle.rule_checker.proofs.Counted.{AreCounts, named_records, virtual_counted, items_count, output_counted, program_counts, one_more}
 use Rattle.rule_checker.proofs.Gathered.{AreSums, Gains, gains_both, names_gain, values_gain, distinct_append, fold_push, any_push}
 
--- a walk that goes on from what was counted before
+-- a walk that continues from the counts of earlier statements
 module _ (counted : StoreCounts) (told : List Statement → Totals → Type 0) (code : List Statement → Statement → Option Code)
     (tells : (before : List Statement) (walk : Walk) (statement : Statement) → told before walk.totals
     → told (before ++ statement ∷ []) (after_statement counted walk statement).totals
@@ -57,7 +57,7 @@ module _ (counted : StoreCounts) (told : List Statement → Totals → Type 0) (
 pub sum_append : (xs ys : List ℕ) → sum (xs ++ ys) ≡ sum xs + sum ys
 sum_append xs ys = sum_by-append (λ x. x) xs ys
 
--- what is counted is said of the statements so far
+-- totals are the counts of the statements so far
 pub record AreTotals (known : Known) (before : List Statement) (totals : Totals) : Type 0 where
   pub marks : totals.marks ≡ distinct_onto same_name [] (flat_map mark_names (flat_map items_of before))
   pub keys : totals.keys ≡ distinct_onto same_name [] (flat_map key_names (flat_map items_of before))

@@ -12,9 +12,9 @@ use Rattle.rule_model.specs.declared.program.SrcItem.{SrcItem}
 use Rattle.rule_model.specs.declared.program.SrcItem.TheVariants as source
 use Rattle.rule_model.specs.Tab.{distinct_onto}
 use Rattle.rule_model.specs.Naming.{mark_names, key_names}
-use Rattle.kmx_format.specs.Numbers.{item_values}
-use Rattle.kmn_names.specs.Names.{is_named}
-use Rattle.rule_model.proofs.NamePlaces.{with_name_new}
+use Rattle.compile_laws.specs.Numbers.{item_values}
+use Rattle.store_table.specs.Names.{is_named}
+use Rattle.virtual_keys.proofs.NamePlaces.{with_name_new}
 use Rattle.rule_checker.specs.declared.totals.Totals.{Totals}
 use Rattle.rule_checker.specs.Limits.{names_size}
 use Rattle.rule_checker.specs.Counting.{capped}
@@ -25,7 +25,7 @@ pub distinct_append : {X : Type 0} (same : X → X → Bool) (seen xs ys : List 
 distinct_append same seen [] ys = refl
 distinct_append same seen (x ∷ xs) ys = distinct_append same (if list_any (λ y. same y x) seen then seen else seen ++ x ∷ []) xs ys
 
--- sums with one number more
+-- the sum of a list with a further number is the sum of the list plus the number
 pub fold_push : (start : ℕ) (xs : List ℕ) (x : ℕ) → fold ◌+◌ start (xs ++ x ∷ []) ≡ fold ◌+◌ start xs + x
 fold_push start [] x = refl
 fold_push start (y ∷ xs) x = fold_push (start + y) xs x
@@ -40,13 +40,13 @@ names_size_push (n ∷ names) name = omega (arith, names_size_push names name)
 pub any_push : (test : ℕ → Bool) (sizes : List ℕ) (size : ℕ) → list_any test (sizes ++ size ∷ []) ≡ (list_any test sizes || test size)
 any_push test sizes size = list_any-append test sizes (size ∷ []) ∙ ap (λ b. list_any test sizes || b) (or-false (test size))
 
--- the sums of what was gathered
+-- whether totals are the sums of the names and values that they have
 pub record AreSums (totals : Totals) : Type 0 where
   pub key_characters : totals.key_characters ≡ capped (names_size totals.keys)
   pub value_elements : totals.value_elements ≡ capped (sum (map length totals.values))
   pub has_large_value : totals.has_large_value ≡ list_any (nat_lt STORE_ELEMENTS) (map length totals.values)
 
--- what is gathered from items, and that nothing else changes
+-- whether totals gain these marks, key names and values with their sums, and are otherwise unchanged
 pub record Gains (totals now : Totals) (m k v : List (List ℕ)) : Type 0 where
   pub marks : now.marks ≡ distinct_onto same_name totals.marks m
   pub keys : now.keys ≡ distinct_onto same_name totals.keys k

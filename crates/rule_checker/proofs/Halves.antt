@@ -6,9 +6,9 @@ use Rattle.std.proofs.lemmas.Nat.{and_le_l, and_assoc, and_comm}
 use Rattle.kmn_base.specs.declared.keys.TheConstants.{SHIFT_FLAGS}
 use Rattle.kmn_base.specs.declared.keys.RuleKey.{RuleKey}
 use Rattle.kmn_base.specs.declared.keys.RuleKey.TheVariants as key
-use Rattle.rule_model.specs.Fits.{shift, caps, no_caps, has}
+use Rattle.virtual_keys.specs.Fits.{shift, caps, no_caps, has}
 use Rattle.rule_model.specs.CasedKeys.{small_flags, with_other_shift, large_flags, half_flags}
-use Rattle.kmx_format.specs.Compiles.{half_key}
+use Rattle.compile_laws.specs.Compiles.{half_key}
 use Rattle.kmx_format.specs.Writable.{IsWritableKey}
 use Rattle.kmn_parser.proofs.SoundKeys.{or-within}
 

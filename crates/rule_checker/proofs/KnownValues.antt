@@ -1,4 +1,4 @@
--- Whether a value is among those of a table.
+-- A value is among the keys of a table if and only if it is among its values.
 use Rattle.std.proofs.Common.{◌≡◌, ℕ, false, List, [], ◌∷◌, ◌++◌, map, Vec, refl, ap, ◌∙◌, if◌then◌else◌}
 use Rattle.std.specs.Prelude.{◌||◌}
 use Rattle.std.specs.List.{list_any}
@@ -9,12 +9,12 @@ use Rattle.indexmap.specs.IndexSet.{insert_key}
 use Rattle.rule_checker.specs.Walking.{is_value}
 
 module _ {A : Type 0} where
-  -- a value is found among the keys where it is found among the values
+  -- a value is among the keys of a table if and only if it is among its values
   pub found_value : (keys : List (Vec ℕ A)) (value : List ℕ) → list_any (λ key. bytes_eq value key.items) keys ≡ is_value (map (λ key. key.items) keys) value
   found_value [] value = refl
   found_value (key ∷ keys) value = λ j. nat_list_eq_equiv.symm value key.items j || found_value keys value j
 
-  -- a new value goes last
+  -- if a value is new, inserting it appends it
   pub pushed_value : (keys now : List (Vec ℕ A)) (values : List (List ℕ)) (key : Vec ℕ A) (value : List ℕ) → map (λ key. key.items) keys ≡ values → is_value values value ≡ false → key.items ≡ value
       → now ≡ insert_key (λ a b. bytes_eq a.items b.items) keys key → map (λ key. key.items) now ≡ values ++ value ∷ []
   pushed_value keys now values key value are new is put =

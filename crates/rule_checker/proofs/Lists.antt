@@ -1,4 +1,4 @@
--- What holds of each item of lists that are gathered, and of tests of lists.
+-- Properties of each item of lists that are gathered, and tests of lists.
 use Rattle.std.proofs.Common.{◌≡◌, Bool, true, false, List, [], ◌∷◌, ◌++◌, refl, if◌then◌else◌}
 use Rattle.std.specs.Prelude.{flat_map, All}
 use Rattle.std.specs.List.{list_all, list_any, AllByRecursion}
@@ -6,7 +6,7 @@ use Rattle.std.proofs.lemmas.Bool.{and_parts}
 use Rattle.std.proofs.lemmas.List.Elements.{All-nil, All-cons, All-head, All-tail, All-append}
 use Rattle.rule_model.specs.Tab.{distinct_onto}
 
--- a fact of each item gives a test of all
+-- if each item with a property passes a test, a list of such items passes it
 pub all_pass : {X : Type 0} (P : X → Type 0) (test : X → Bool) → ((x : X) → P x → test x ≡ true) → (xs : List X) → All P xs → list_all test xs ≡ true
 all_pass P test f [] h = refl
 all_pass P test f (x ∷ xs) h = rw (f x (All-head P x xs h)) (all_pass P test f xs (All-tail P x xs h))
@@ -15,12 +15,12 @@ pub none_passes : {X : Type 0} (P : X → Type 0) (test : X → Bool) → ((x : 
 none_passes P test f [] h = refl
 none_passes P test f (x ∷ xs) h = rw (f x (All-head P x xs h)) (none_passes P test f xs (All-tail P x xs h))
 
--- what holds of all that each item gives
+-- if each item of a list is mapped to items with a property, all items of the concatenation have the property
 pub All-flat_map : {X Y : Type 0} (P : X → Type 0) (Q : Y → Type 0) (f : X → List Y) → ((x : X) → P x → All Q (f x)) → (xs : List X) → All P xs → All Q (flat_map f xs)
 All-flat_map P Q f each [] h = All-nil Q
 All-flat_map P Q f each (x ∷ xs) h = All-append Q (f x) (flat_map f xs) (each x (All-head P x xs h)) (All-flat_map P Q f each xs (All-tail P x xs h))
 
--- what isn't the same as something before is one of the list
+-- if all items of two lists have a property, so have the distinct ones
 pub All-distinct : {X : Type 0} (P : X → Type 0) (same : X → X → Bool) (seen xs : List X) → All P seen → All P xs → All P (distinct_onto same seen xs)
 All-distinct P same seen [] before h = before
 All-distinct P same seen (x ∷ xs) before h = All-distinct P same _ xs (by (list_any (λ y. same y x) seen)) (All-tail P x xs h)

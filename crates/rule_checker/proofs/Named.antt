@@ -24,12 +24,12 @@ use Rattle.rule_model.specs.Hold.{key_of_element}
 use Rattle.rule_model.specs.Naming.{SourceNames, names_of, rule_items, stores_of, stores_onto, store_of, is_dropped, elements_named}
 use Rattle.rule_model.specs.Src.{is_unicode, is_plain, is_plain_kind, is_on_match, is_on_nomatch}
 use Rattle.rule_model.specs.Tab.{is_dictionary}
-use Rattle.kmx_format.specs.WellNamed.{IsWellNamed, is_known_start, is_known_pattern, is_known_output, is_known_key, is_known_rule, is_known_group, is_store, is_fixed, are_keys}
+use Rattle.compile_laws.specs.WellNamed.{IsWellNamed, is_known_start, is_known_pattern, is_known_output, is_known_key, is_known_rule, is_known_group, is_store, is_fixed, are_keys}
 use Rattle.kmn_parser.specs.SourceLaws.{has_own_lines}
-use Rattle.kmn_names.specs.First.{broken, first_code}
-use Rattle.kmn_names.specs.declared.stating.Stated.{Stated}
-use Rattle.kmn_names.specs.Names.{stated, is_named, is_begun, begin_refusal, begin_code, rules_refusal, rule_refusal, rule_code, rule_item_code, is_second, lacks, store_named, group_named, group_names, store_names}
-use Rattle.kmn_names.specs.Known.{known}
+use Rattle.store_table.specs.First.{broken, first_code}
+use Rattle.store_table.specs.declared.stating.Stated.{Stated}
+use Rattle.store_table.specs.Names.{stated, is_named, is_begun, begin_refusal, begin_code, rules_refusal, rule_refusal, rule_code, rule_item_code, is_second, lacks, store_named, group_named, group_names, store_names}
+use Rattle.store_table.specs.Known.{known}
 use Rattle.item_checker.specs.Items.{is_option, passes, points_to, is_pattern_item, is_any_item, is_any_key, are_unfit_keys, is_unfit_key, context_code, key_code, rule_output_code, match_output_code, rule_code as items_rule_code, rules_refusal as items_rules_refusal, rule_refusal as items_rule_refusal}
 use Rattle.rule_checker.specs.Refused.{IsRead, refused}
 use Rattle.rule_checker.proofs.Unrefused.{none_at_line, none_broken, none_codes, Stands, none_first}

@@ -10,7 +10,7 @@ use Rattle.std.proofs.lemmas.List.Folds.{list_all-append}
 use Rattle.std.proofs.lemmas.List.Quantifiers.{position-Some}
 use Rattle.kmn_base.specs.declared.limits.TheConstants.{DEADKEYS, KEY_NAMES}
 use Rattle.kmn_base.specs.Names.{same_name}
-use Rattle.rule_model.specs.Dictionary.{place_in, code_in}
+use Rattle.virtual_keys.specs.Dictionary.{place_in, code_in}
 use Rattle.rule_model.specs.declared.program.SrcItem.{SrcItem}
 use Rattle.rule_model.specs.declared.program.StoreDef.{StoreDef}
 use Rattle.rule_model.specs.declared.program.RuleDef.{RuleDef}
@@ -18,12 +18,12 @@ use Rattle.rule_model.specs.declared.program.GroupDef.{GroupDef}
 use Rattle.rule_model.specs.declared.program.Program.{Program}
 use Rattle.rule_model.specs.declared.tables.Store.{Store}
 use Rattle.rule_model.specs.Naming.{names_of, stores_of, rule_items, all_rules, store_items, items_from, source_items, stores_before, stores_after, mark_names, key_names, mark_number}
-use Rattle.kmx_format.specs.Numbers.{numbers_of, number_of_store, number_of_group, number_of_value, compiled_stores, dictionary_stores, value_store, values_of}
-use Rattle.kmx_format.specs.WellNamed.{is_store, is_group}
-use Rattle.kmx_format.proofs.Linked.{is_value}
-use Rattle.rule_model.proofs.PositionLemmas.{position-map}
-use Rattle.kmx_format.proofs.Values.{list_all-flat_map}
-use Rattle.rule_model.proofs.NamePlaces.{position_cons, some_place, same_either_way}
+use Rattle.compile_laws.specs.Numbers.{numbers_of, number_of_store, number_of_group, number_of_value, compiled_stores, dictionary_stores, value_store, values_of}
+use Rattle.compile_laws.specs.WellNamed.{is_store, is_group}
+use Rattle.compile_laws.proofs.Linked.{is_value}
+use Rattle.virtual_keys.proofs.PositionLemmas.{position-map}
+use Rattle.compile_laws.proofs.Values.{list_all-flat_map}
+use Rattle.virtual_keys.proofs.NamePlaces.{position_cons, some_place, same_either_way}
 use Rattle.rule_checker.specs.Refused.{IsRead}
 use Rattle.item_checker.proofs.FoundKeys.{all_seen}
 use Rattle.rule_checker.proofs.Accepted.{IsUnrefused}
@@ -147,7 +147,7 @@ module _ (program : Program) where
     code_below None count h small few = absurd (cc)
     code_below (Some n) count h small few = (omega arith, omega arith)
 
-    -- the code of a key of its own
+    -- the code of a custom key is positive and has 16 bits
     pub own_code : (name : List ℕ) → list_any (λ known. same_name known name) (names_of program).keys ≡ true
         → (0 < unwrap_or (code_in (names_of program).keys name) 0) × (unwrap_or (code_in (names_of program).keys name) 0 < 2 ^ 16)
     unfolding code_in

@@ -1,4 +1,4 @@
--- A store that no item uses as an option is none for the meaning of the program.
+-- A store that no item uses as an option is not an option in the meaning of the program.
 use Rattle.std.proofs.Common.{◌≡◌, ℕ, zero, suc, ◌+◌, Bool, true, false, not, cond, List, [], ◌∷◌, ◌++◌, filter, get_or, Option, Some, None, refl, sym, ap, ◌∙◌, arith, is_some, if◌then◌else◌, true≢false}
 use Rattle.std.specs.Prelude.{slice_get, position, option_map, ◌&&◌, ◌||◌, flat_map, nat_eq, find, option_to_list}
 use Rattle.std.specs.List.{list_any}
@@ -19,11 +19,11 @@ use Rattle.rule_model.specs.Content.{option_of, option_at, options_before}
 use Rattle.rule_model.specs.Naming.{stores_of, rule_items, all_rules}
 use Rattle.rule_model.specs.Src.{pattern_uses, output_uses, rule_uses, group_uses, numbers_named, src_options, is_plain, is_on_match, is_on_nomatch}
 use Rattle.rule_model.specs.Tab.{with_options}
-use Rattle.kmx_format.specs.WellNamed.{is_fixed}
-use Rattle.kmn_names.specs.Names.{is_named}
-use Rattle.kmn_names.specs.Known.{known, option_named, rule_options}
+use Rattle.compile_laws.specs.WellNamed.{is_fixed}
+use Rattle.store_table.specs.Names.{is_named}
+use Rattle.store_table.specs.Known.{known, option_named, rule_options}
 use Rattle.item_checker.specs.Items.{is_option}
-use Rattle.rule_model.proofs.NamePlaces.{position_cons, some_place}
+use Rattle.virtual_keys.proofs.NamePlaces.{position_cons, some_place}
 
 -- of two tests the second holds wherever the first does
 abbrev Implies : Bool → Bool → Type 0
@@ -172,7 +172,7 @@ not_flagged : (stores : List StoreMeaning) (k n : ℕ) (o : Option StoreMeaning)
 not_flagged stores k n None f = refl
 not_flagged stores k n (Some s) f = rw (f s refl) refl
 
--- a store that is no option for the checker is none for the meaning
+-- if a store is not an option for the checker, it is not an option in the meaning
 pub fixed : (program : Program) (name : List ℕ) → is_option (known program) name ≡ false → is_fixed program name ≡ true
 fixed program name h =
     ap (λ o. not (is_some (option_at (with_options (src_options program) 0 (stores_of program)) o))) (option_place (src_options program) 0 name (stores_of program))

@@ -21,16 +21,16 @@ use Rattle.rule_model.specs.declared.tables.Out.{Out}
 use Rattle.rule_model.specs.declared.tables.Out.TheVariants as output
 use Rattle.rule_model.specs.Match.{element_at}
 use Rattle.rule_model.specs.Naming.{names_of, stores_of, elements_named, mark_number}
-use Rattle.kmx_format.specs.Numbers.{numbers_of, number_of_store, number_of_group, compiled_stores}
-use Rattle.kmx_format.specs.Compiles.{file_pattern, file_output, file_outputs, element_outs, element_outs_if_any, or_nul}
-use Rattle.kmx_format.specs.WellNamed.{is_store, is_group, is_fixed, is_known_output}
-use Rattle.kmx_format.proofs.Known.{has_values}
+use Rattle.compile_laws.specs.Numbers.{numbers_of, number_of_store, number_of_group, compiled_stores}
+use Rattle.compile_laws.specs.Compiles.{file_pattern, file_output, file_outputs, element_outs, element_outs_if_any, or_nul}
+use Rattle.compile_laws.specs.WellNamed.{is_store, is_group, is_fixed, is_known_output}
+use Rattle.compile_laws.proofs.Known.{has_values}
 use Rattle.kmx_format.specs.FileUnits.{unit_item_of_output}
 use Rattle.kmx_format.specs.Writable.{stores_of_output, groups_of_output, sets_system_id, is_any, PointsInto, needs_context, IsWritableOutput, IsWritableMatchOutput}
 use Rattle.rule_model.specs.Patterns.{is_matched}
 use Rattle.kmn_parser.specs.ProgramLaws.{IsReadItem}
-use Rattle.kmn_names.specs.First.{first_code}
-use Rattle.kmn_names.specs.Known.{known}
+use Rattle.store_table.specs.First.{first_code}
+use Rattle.store_table.specs.Known.{known}
 use Rattle.item_checker.specs.Items.{is_pattern_item, is_any_item, points_to, misses_pattern, misses_any, index_code, key_index_code, rule_output_code, match_output_code, offset_code}
 use Rattle.rule_checker.specs.Limits.{item_size, output_size}
 use Rattle.rule_checker.specs.Refused.{IsRead}
@@ -53,8 +53,8 @@ module _ (program : Program) (read : IsRead program) (whole : IsUnrefused progra
   abbrev groups : ℕ
   groups = length program.groups
 
-  -- items of an output that are written: spelled, naming stores and groups of the file and no system option but the layer, at
-  -- most so many, and each with a fact
+  -- items of an output that can be written: they can be spelled, name only stores and groups of the file and no system option
+  -- but the layer, are at most `most`, and each has a property
   record OutsAreWritten (P : Out → Type 0) (most : ℕ) (outs : List Out) : Type 0 where
     spelled : All (λ item. IsSpellable (unit_item_of_output item)) outs
     named : All (λ store. store < stores) (flat_map stores_of_output outs)
@@ -100,7 +100,7 @@ module _ (program : Program) (read : IsRead program) (whole : IsUnrefused progra
   abbrev no_group : All (λ group. group < groups) []
   no_group = All-nil (λ group. group < groups)
 
-  -- facts that hold of every item without an offset and but for `context`
+  -- a property of every item that has no offset and isn't `context`
   record IsPlainFact (P : Out → Type 0) : Type 0 where
     char : (c : ℕ) → P (output.Char c)
     mark : (m : ℕ) → P (output.Mark m)

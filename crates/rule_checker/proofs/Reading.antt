@@ -1,4 +1,4 @@
--- What a program that is read has, in the words of the laws above.
+-- The properties of a program that was read, as the laws above state them.
 use Rattle.std.proofs.Common.{◌≡◌, ℕ, suc, Bool, true, false, not, List, [], ◌∷◌, ◌++◌, length, Option, Some, None, refl, ap, ◌∙◌, arith, is_some, if◌then◌else◌}
 use Rattle.std.specs.Prelude.{All, IfSome, nat_eq, nat_lt, flat_map, option_to_list, ◌&&◌, ◌||◌, ◌==◌}
 use Rattle.std.specs.List.{list_all, list_any, prefix_len}
@@ -18,8 +18,8 @@ use Rattle.rule_model.specs.declared.program.RuleKind.TheVariants as kind
 use Rattle.rule_model.specs.declared.program.GroupDef.{GroupDef}
 use Rattle.rule_model.specs.declared.program.Program.{Program}
 use Rattle.rule_model.specs.Naming.{names_of, rule_items, all_rules, store_items, stores_before, stores_after, items_from, source_items, key_names}
-use Rattle.kmx_format.specs.WellNamed.{is_word}
-use Rattle.kmx_format.specs.Numbers.{item_values}
+use Rattle.compile_laws.specs.WellNamed.{is_word}
+use Rattle.compile_laws.specs.Numbers.{item_values}
 use Rattle.kmn_parser.specs.ProgramLaws.{IsCharacter, IsName, IsOwnKey, IsReadItem, StandsAsKey, IsReadStore, IsReadRule, IsReadGroup, IsReadProgram}
 use Rattle.rule_checker.proofs.Lists.{all_pass, none_passes, All-flat_map, All-distinct}
 
@@ -95,7 +95,7 @@ items_read stores (rule ∷ rules) read items =
 pub source_items_read : (program : Program) → IsReadProgram program → All IsReadItem (source_items program)
 source_items_read program read = items_read program.stores (all_rules program) read.stores (all_rules_read program.groups read.groups)
 
--- the names of the keyboard's own keys
+-- the names of custom keys
 key_named : (item : SrcItem) → IsReadItem item → All IsOwnKey (key_names item)
 key_named (source.Key key) read = by (nat_eq key.code 0) refl
   where

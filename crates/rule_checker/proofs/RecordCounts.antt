@@ -1,4 +1,4 @@
--- What the limit of records counts of an accepted program is the records of its tables.
+-- The count that the limit of records computes from an accepted program is the number of records of its tables.
 use Rattle.std.proofs.Common.{◌≡◌, ℕ, ◌+◌, ◌≤◌, ◌⊎◌, inl, inr, Bool, true, false, not, List, [], ◌∷◌, length, map, Option, Some, None, option_map, unwrap_or, refl, sym, ap, ◌∙◌, arith, if◌then◌else◌, length-append}
 use Rattle.std.specs.Prelude.{All, flat_map, filter, nat_eq, sum, ◌&&◌}
 use Rattle.std.specs.List.{list_any, sum_by}
@@ -9,8 +9,8 @@ use Rattle.kmn_base.specs.declared.items.Element.{Element}
 use Rattle.kmn_base.specs.declared.items.Element.TheVariants as element
 use Rattle.kmn_base.specs.declared.keys.RuleKey.{RuleKey}
 use Rattle.kmn_base.specs.declared.keys.RuleKey.TheVariants as key
-use Rattle.rule_model.specs.Fits.{has, caps, no_caps}
-use Rattle.rule_model.specs.Dictionary.{code_in}
+use Rattle.virtual_keys.specs.Fits.{has, caps, no_caps}
+use Rattle.virtual_keys.specs.Dictionary.{code_in}
 use Rattle.rule_model.specs.declared.program.KeyName.{KeyName}
 use Rattle.rule_model.specs.declared.program.SrcItem.{SrcItem}
 use Rattle.rule_model.specs.declared.program.SrcItem.TheVariants as source
@@ -23,18 +23,18 @@ use Rattle.rule_model.specs.declared.program.Program.{Program}
 use Rattle.rule_model.specs.Hold.{key_of_element, is_exchanged}
 use Rattle.rule_model.specs.Naming.{SourceNames, key_number, elements_named, all_rules as program_rules, stores_before, stores_after}
 use Rattle.rule_model.specs.Src.{is_plain, is_plain_kind}
-use Rattle.kmx_format.specs.Numbers.{Numbers, numbers_of}
-use Rattle.kmx_format.specs.Compiles.{has_halves, half_key, file_record, key_records, records_from, keyed_records, rule_records, file_group}
-use Rattle.kmx_format.specs.Ordered.{in_order, ordered_group, compiled_tables}
-use Rattle.kmx_format.proofs.Ordered.{in_order_permutes}
+use Rattle.compile_laws.specs.Numbers.{Numbers, numbers_of}
+use Rattle.compile_laws.specs.Compiles.{has_halves, half_key, file_record, key_records, records_from, keyed_records, rule_records, file_group}
+use Rattle.compile_laws.specs.Ordered.{in_order, ordered_group, compiled_tables}
+use Rattle.compile_laws.proofs.Ordered.{in_order_permutes}
 use Rattle.kmx_format.specs.File.{all_rules, rules_of}
-use Rattle.kmn_names.specs.Known.{Known, known}
+use Rattle.store_table.specs.Known.{Known, known}
 use Rattle.rule_checker.specs.Limits.{OfStore, OfRule, in_line_order, cased_codes, virtual_count, element_count, key_count, record_count, records_of_statement, all_records}
 use Rattle.rule_checker.specs.Refused.{IsRead}
 use Rattle.rule_checker.proofs.Accepted.{IsUnrefused}
 use Rattle.rule_checker.proofs.CasedPrograms.{IsTableCode, cased_in_table, cased_counted, not_cased}
 
--- a key has two records where it has halves, else one
+-- a key has two records if it has halves, else one
 key_length : (numbers : Numbers) (rule : RuleDef) (place : Option ℕ) (wanted : RuleKey) → length (key_records numbers rule place wanted) ≡ (if has_halves numbers.cased wanted then 2 else 1)
 key_length numbers rule place wanted = by (has_halves numbers.cased wanted)
   where
@@ -58,7 +58,7 @@ elements_length numbers rule place (e ∷ elements) =
       sum_by-cons (element_count numbers.cased) e elements,
     )
 
--- a key of the keyboard's own is not cased, by the code that it has in the source or in the file
+-- a custom key is not cased, by its code in the source or in the file
 own_number : (found : Option ℕ) → (unwrap_or (option_map (λ place. 256 + place) found) 0 ≡ 0) ⊎ (256 ≤ unwrap_or (option_map (λ place. 256 + place) found) 0)
 own_number None = inl refl
 own_number (Some place) = inr (omega arith)
@@ -72,7 +72,7 @@ number_exchanged cased table names key =
     by true is = not_cased (unwrap_or (code_in names.keys key.name) 0) (own_number _) cased table ∙ sym (not_cased key.code (inl (eqb-true key.code 0 is)) cased table)
     by false is = refl
 
--- the limits count with the stores of the tables and with their cased keys
+-- whether the limits count with the stores of the tables and with their cased keys
 record CountsAlike (numbers : Numbers) (facts : Known) : Type 0 where
   stores : numbers.stores ≡ facts.stores
   cased : numbers.cased ≡ cased_codes facts
@@ -140,7 +140,7 @@ counts_alike : (program : Program) → IsRead program → IsUnrefused program �
 unfolding known
 counts_alike program read whole = record { stores = refl; cased = sym (cased_counted program read whole); table = cased_in_table program read whole }
 
--- the records that the limits count are those of the program's tables
+-- the number of records that the limits count is the number of records of the program's tables
 pub records_counted : (program : Program) → IsRead program → IsUnrefused program
     → all_records (known program) (in_line_order program.stores (program_rules program)) ≡ length (all_rules (compiled_tables program))
 unfolding compiled_tables

@@ -25,17 +25,17 @@ use Rattle.rule_model.specs.declared.tables.Rule.{Rule}
 use Rattle.rule_model.specs.Hold.{key_of_element}
 use Rattle.rule_model.specs.Naming.{stores_of, elements_named, rule_items}
 use Rattle.rule_model.specs.Src.{is_plain, is_plain_kind, is_on_match, is_on_nomatch}
-use Rattle.kmx_format.specs.Numbers.{numbers_of, compiled_stores}
-use Rattle.kmx_format.specs.Compiles.{has_halves, half_key, file_record, key_records, records_from, own_key, keyed_records, rule_records, statement_outputs, file_group}
-use Rattle.kmx_format.specs.Ordered.{in_order, ordered_group}
-use Rattle.kmx_format.specs.WellNamed.{is_known_pattern, is_known_output, is_known_key, is_known_rule}
-use Rattle.kmx_format.proofs.Known.{has_values, match_kind, nomatch_kind}
-use Rattle.kmx_format.proofs.Ordered.{in_order_permutes}
+use Rattle.compile_laws.specs.Numbers.{numbers_of, compiled_stores}
+use Rattle.compile_laws.specs.Compiles.{has_halves, half_key, file_record, key_records, records_from, own_key, keyed_records, rule_records, statement_outputs, file_group}
+use Rattle.compile_laws.specs.Ordered.{in_order, ordered_group}
+use Rattle.compile_laws.specs.WellNamed.{is_known_pattern, is_known_output, is_known_key, is_known_rule}
+use Rattle.compile_laws.proofs.Known.{has_values, match_kind, nomatch_kind}
+use Rattle.compile_laws.proofs.Ordered.{in_order_permutes}
 use Rattle.kmx_format.specs.Writable.{IsWritableKey, IsWritableRule, IsWritableMatchOutput, IsWritableGroup}
 use Rattle.kmx_format.proofs.WritableParts.{no_output}
 use Rattle.kmn_parser.specs.ProgramLaws.{IsReadItem, IsReadRule, IsReadGroup, StandsAsKey}
-use Rattle.kmn_names.specs.First.{first_code}
-use Rattle.kmn_names.specs.Known.{known}
+use Rattle.store_table.specs.First.{first_code}
+use Rattle.store_table.specs.Known.{known}
 use Rattle.item_checker.specs.Items.{is_far, is_unfit_key, are_unfit_keys, is_unfit_store, is_option, context_code, key_code, rule_output_code, match_output_code, plain_code, rule_code}
 use Rattle.rule_checker.specs.Refused.{IsRead}
 use Rattle.rule_checker.proofs.Unrefused.{none_broken}
@@ -56,7 +56,7 @@ pub record IsSoundRule (program : Program) (using_keys : Bool) (rule : RuleDef) 
   pub code : rule_code (known program) rule.kind rule ≡ None
   pub short : IsShortRule (stores_of program) rule
 
--- what each record of a list is, and what each of those that pass a test gives
+-- if each item with a property that passes a test is mapped to items with a second property, all these items have it
 All-filtered : {X Y : Type 0} (P : X → Type 0) (Q : Y → Type 0) (test : X → Bool) (f : X → List Y) → ((x : X) → P x → test x ≡ true → All Q (f x)) → (xs : List X) → All P xs → All Q (flat_map f (filter test xs))
 All-filtered P Q test f each [] h = All-nil Q
 All-filtered P Q test f each (x ∷ xs) h = by (test x) refl (All-filtered P Q test f each xs (All-tail P x xs h))

@@ -3,14 +3,14 @@ use Rattle.std.proofs.Common.{◌≡◌, Option, None, Some, Ok, refl, ◌∙◌
 use Rattle.std.specs.Option.{option_or}
 use Rattle.kmn_base.specs.declared.refusals.Refusal.{Refusal}
 use Rattle.rule_model.specs.declared.program.Program.{Program}
-use Rattle.kmn_names.specs.First.{or_refusal}
-use Rattle.kmn_names.specs.Names.{names_refusal}
-use Rattle.kmn_names.specs.Numbering.{NameLists, lists_of, numbered}
+use Rattle.store_table.specs.First.{or_refusal}
+use Rattle.store_table.specs.Names.{names_refusal}
+use Rattle.store_table.specs.Numbering.{NameLists, lists_of, numbered}
 use Rattle.item_checker.specs.Items.{items_refusal}
 use Rattle.rule_checker.specs.Limits.{limits_refusal}
 use Rattle.rule_checker.specs.Refused.{refused, start_refusal}
 
--- what is answered as a value isn't refused
+-- if the result is a value, there is no refusal
 not_refused : {A : Type 0} (value answer : A) (refusal : Option Refusal) → or_refusal value refusal ≡ Ok answer → refusal ≡ None
 not_refused value answer None is = refl
 not_refused value answer (Some refusal) is = grind (arith, is)

@@ -1,4 +1,4 @@
--- What the limits count of a program's statements is what the stores of its file have.
+-- The counts that the limits compute from a program's statements are the numbers of elements of the stores of its file.
 use Rattle.std.proofs.Common.{◌≡◌, ℕ, zero, suc, ◌+◌, Bool, true, false, List, [], ◌∷◌, ◌++◌, length, map, Some, None, refl, sym, ap, subst, ◌∙◌, arith, if◌then◌else◌, append-nil, append_assoc, length-append, take-append-drop}
 use Rattle.std.specs.Prelude.{nat_lt, flat_map, find, All, ◌||◌}
 use Rattle.std.specs.List.{prefix_len, list_any, join_with_byte}
@@ -21,14 +21,14 @@ use Rattle.rule_model.specs.declared.program.Program.{Program}
 use Rattle.rule_model.specs.declared.tables.Store.{Store}
 use Rattle.rule_model.specs.Tab.{distinct_onto, store_elements}
 use Rattle.rule_model.specs.Naming.{names_of, stores_of, stores_onto, store_of, is_dropped, rule_items, items_from, source_items, stores_before, stores_after, all_rules, key_names, elements_named, item_elements}
-use Rattle.kmx_format.specs.Numbers.{item_values, values_of, value_store, dictionary_stores, compiled_stores}
-use Rattle.kmx_format.proofs.Dictionary.{space_text}
+use Rattle.compile_laws.specs.Numbers.{item_values, values_of, value_store, dictionary_stores, compiled_stores}
+use Rattle.compile_laws.proofs.Dictionary.{space_text}
 use Rattle.kmn_parser.specs.ProgramLaws.{IsOwnKey}
-use Rattle.kmn_names.specs.First.{broken, first_code, first_of}
-use Rattle.kmn_names.specs.declared.stating.Stated.{Stated}
-use Rattle.kmn_names.specs.Names.{stated, is_named, kept_name, store_names, store_refusal, store_code, store_item_code, is_store_again, names_no_store, puts_later_store}
-use Rattle.kmn_names.specs.Known.{Known, known, brought, statement_elements}
-use Rattle.rule_model.proofs.NamePlaces.{some_place}
+use Rattle.store_table.specs.First.{broken, first_code, first_of}
+use Rattle.store_table.specs.declared.stating.Stated.{Stated}
+use Rattle.store_table.specs.Names.{stated, is_named, kept_name, store_names, store_refusal, store_code, store_item_code, is_store_again, names_no_store, puts_later_store}
+use Rattle.store_table.specs.Known.{Known, known, brought, statement_elements}
+use Rattle.virtual_keys.proofs.NamePlaces.{some_place}
 use Rattle.rule_checker.specs.Limits.{Statement, OfStore, OfRule, in_line_order, items_of, values_of_statement, statement_size, store_size, names_size, dictionary_size, sizes}
 use Rattle.rule_checker.specs.Refused.{IsRead}
 use Rattle.rule_checker.proofs.Unrefused.{none_earlier, none_at_line, none_broken}
@@ -77,7 +77,7 @@ stores_in_order facts stores (rule ∷ rules) =
     ∙ sym (flat_map-append (store_size facts) (stores_before rule.line stores) (stores_after rule.line stores))
     ∙ ap (flat_map (store_size facts)) (parted rule.line stores)
 
--- what stands before further stores is found as it was
+-- if a name is found among stores, appending further stores does not change what is found
 found_before : (before more : List Store) (name : List ℕ) → list_any (λ (s : Store). same_name s.name name) before ≡ true → elements_named (before ++ more) name ≡ elements_named before name
 found_before [] more name h = absurd (cc)
 found_before (s ∷ before) more name h = by (same_name s.name name) h (found_before before more name)
@@ -91,12 +91,12 @@ found_before (s ∷ before) more name h = by (same_name s.name name) h (found_be
 abbrev pub store_with : StoreDef → List Element → Store
 store_with store elements = record { system = store.system; name = store.name; elements = elements }
 
--- the store that a statement brings, where it is a store of the file, with the elements that the checks look at
+-- the store that a statement adds to the file, if it isn't dropped, with the elements that the checks read
 abbrev pub kept_store : Known → StoreDef → List Store
 kept_store facts store = if is_dropped store then [] else store_with store (statement_elements facts store) ∷ []
 
 module _ (facts : Known) (names_stated : Stated) where
-  -- the elements of an item that puts no later store
+  -- the elements of an item that does not output a later store
   item_before : (before more : List Store) (item : SrcItem) → facts.stores ≡ before ++ more → puts_later_store (map (λ (s : Store). s.name) before) item ≡ false
       → brought facts item ≡ item_elements facts.names before item
   item_before before more (source.Outs name) all later =
@@ -118,7 +118,7 @@ module _ (facts : Known) (names_stated : Stated) where
       let two = none_broken C07 (puts_later_store (map (λ (s : Store). s.name) before) item) [] one.1 in
       λ j. item_before before more item all two.0 j ++ items_before before more items all both.1 j
 
-  -- stores that are put behind others
+  -- stores that are appended to others
   pub record Onto (before after : List Store) : Type 0 where
     pub more : List Store
     pub is : after ≡ before ++ more
@@ -138,7 +138,7 @@ module _ (facts : Known) (names_stated : Stated) where
       ap (λ (ns : List (List ℕ)). ns ++ kept_name store) same
       ∙ sym (flat_map-append kept_name before (store ∷ []) ∙ ap (λ (ns : List (List ℕ)). store_names before ++ ns) (append-nil (kept_name store)))
 
-  -- the stores that statements bring have the elements that the checks look at
+  -- the stores that statements add have the elements that the checks read
   stores_kept : (before : List Store) (defined : List StoreDef) (stores : List StoreDef) → map (λ (s : Store). s.name) before ≡ store_names defined
       → first_of (store_refusal names_stated) defined stores ≡ None → facts.stores ≡ stores_onto facts.names before stores
       → facts.stores ≡ before ++ flat_map (kept_store facts) stores
@@ -223,7 +223,7 @@ pub values_sized : (values : List (List ℕ)) → map length values ≡ map elem
 values_sized [] = refl
 values_sized (value ∷ values) = λ j. sym (length-map value element.Char) j ∷ values_sized values j
 
--- of a program that is read and isn't refused the sizes that are counted over all statements are those of the stores in
+-- if a program is read and isn't refused, the sizes that are counted over all statements are the sizes of the stores in
 -- the file, in their order
 pub sizes_counted : (program : Program) → IsRead program → IsUnrefused program
     → sizes (known program) (in_line_order program.stores (all_rules program)) ≡ map element_count (compiled_stores program)

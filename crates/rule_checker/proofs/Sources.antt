@@ -6,7 +6,7 @@ use Rattle.rule_model.specs.declared.program.Program.{Program}
 use Rattle.kmn_parser.specs.Source.{parsed}
 use Rattle.kmn_parser.proofs.ReadPrograms.{programs_are_read}
 use Rattle.kmn_parser.proofs.SourceLines.{statements_in_order}
-use Rattle.kmn_names.specs.First.{or_refusal}
+use Rattle.store_table.specs.First.{or_refusal}
 use Rattle.rule_checker.specs.Refused.{IsRead, refused, checked}
 
 -- what a program has that a source is read as

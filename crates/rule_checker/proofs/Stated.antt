@@ -7,10 +7,10 @@ use Rattle.rule_model.specs.declared.program.GroupDef.{GroupDef}
 use Rattle.rule_model.specs.declared.program.Program.{Program}
 use Rattle.rule_model.specs.declared.tables.Store.{Store}
 use Rattle.rule_model.specs.Naming.{stores_of}
-use Rattle.kmx_format.specs.WellNamed.{is_store, is_group}
-use Rattle.kmn_names.specs.Names.{is_named, store_names, group_names}
-use Rattle.rule_model.proofs.NamePlaces.{some_place, same_either_way}
-use Rattle.kmn_names.proofs.Naming.{names_of_stores}
+use Rattle.compile_laws.specs.WellNamed.{is_store, is_group}
+use Rattle.store_table.specs.Names.{is_named, store_names, group_names}
+use Rattle.virtual_keys.proofs.NamePlaces.{some_place, same_either_way}
+use Rattle.store_table.proofs.Naming.{names_of_stores}
 
 any_name : {X : Type 0} (name_of : X → List ℕ) (name : List ℕ) (xs : List X) → list_any (same_name name) (map name_of xs) ≡ list_any (λ x. same_name (name_of x) name) xs
 any_name name_of name [] = refl

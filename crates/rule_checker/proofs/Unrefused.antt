@@ -1,10 +1,10 @@
--- Where nothing is refused, no condition holds.
+-- If nothing is refused, no condition for a refusal is true.
 use Rattle.std.proofs.Common.{◌≡◌, ℕ, Bool, true, false, nat_lt, List, [], ◌∷◌, ◌++◌, Option, Some, None, refl, if◌then◌else◌}
 use Rattle.std.specs.List.{AllByRecursion}
 use Rattle.kmn_base.specs.declared.codes.Code.{Code}
 use Rattle.kmn_base.specs.declared.refusals.Refusal.{Refusal}
 use Rattle.kmn_base.proofs.Options.{option_or-none}
-use Rattle.kmn_names.specs.First.{broken, first_code, at_line, earlier, first_of}
+use Rattle.store_table.specs.First.{broken, first_code, at_line, earlier, first_of}
 
 some_either : (t : Bool) (a b : Refusal) → (if t then Some b else Some a) ≡ None → ⊥
 some_either true a b h = absurd (cc)
@@ -29,7 +29,7 @@ none_codes code (x ∷ xs) h =
     let both : (code x ≡ None) × (first_code code xs ≡ None) = option_or-none (code x) (first_code code xs) h in
     (both.0, none_codes code xs both.1)
 
--- a statement that isn't refused behind those before it
+-- a statement that isn't refused after some statements before it
 abbrev pub Stands : {X : Type 0} → (List X → X → Option Refusal) → X → Type 0
 Stands {X} refusal x = (before : List X) × (refusal before x ≡ None)
 

@@ -1,4 +1,4 @@
--- What is counted statement by statement goes on over further items and statements.
+-- The count over statements continues over further items and statements.
 use Rattle.std.proofs.Common.{◌≡◌, ℕ, ◌+◌, ◌<◌, List, [], ◌∷◌, ◌++◌, length, map, drop, get_or, refl, sym, ap, ◌∙◌}
 use Rattle.std.proofs.lemmas.List.{drop_more}
 use Rattle.rule_model.specs.declared.program.SrcItem.{SrcItem}
@@ -23,13 +23,13 @@ walked_append : (counted : StoreCounts) (walk : Walk) (xs ys : List Statement) �
 walked_append counted walk [] ys = refl
 walked_append counted walk (x ∷ xs) ys = walked_append counted (after_statement counted walk x) xs ys
 
--- one store more
+-- a walk over stores is a walk over the first one and then over the others
 pub walked_store : (counted : StoreCounts) (walk : Walk) (stores : List StoreDef) (i : ℕ) (store : StoreDef) → i < length stores → store ≡ get_or stores i store
     → walked counted walk (map OfStore (drop i stores)) ≡ walked counted (after_store_walk counted walk store) (map OfStore (drop (i + 1) stores))
 walked_store counted walk stores i store h e =
     ap (λ (ss : List StoreDef). walked counted walk (map OfStore ss)) (drop_more stores i store h ∙ ap (λ (s : StoreDef). s ∷ drop (i + 1) stores) (sym e))
 
--- one rule more, with the stores before it
+-- a walk over rules is a walk over the stores before the first one, over it, and then over the others
 pub walked_rule : (counted : StoreCounts) (walk : Walk) (stores : List StoreDef) (rules : List RuleDef) (i : ℕ) (rule : RuleDef) (more : List RuleDef) → i < length rules → rule ≡ get_or rules i rule
     → walked counted walk (in_line_order stores (drop i rules ++ more))
     ≡ walked counted (after_rule_walk counted (walked counted walk (map OfStore (stores_before rule.line stores))) rule) (in_line_order (stores_after rule.line stores) (drop (i + 1) rules ++ more))

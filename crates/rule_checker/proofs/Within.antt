@@ -23,11 +23,11 @@ use Rattle.rule_model.specs.declared.tables.Store.{Store}
 use Rattle.rule_model.specs.Src.{src}
 use Rattle.rule_model.specs.Tab.{distinct_onto}
 use Rattle.rule_model.specs.Naming.{names_of, stores_of, all_rules, stores_before, stores_after, mark_names, source_items}
-use Rattle.kmx_format.specs.Numbers.{compiled_stores, dictionary_stores, value_store, values_of}
+use Rattle.compile_laws.specs.Numbers.{compiled_stores, dictionary_stores, value_store, values_of}
 use Rattle.kmn_parser.specs.ProgramLaws.{IsOwnKey}
-use Rattle.kmn_names.specs.First.{broken, first_of}
-use Rattle.kmn_names.specs.Numbering.{lists_of}
-use Rattle.kmn_names.specs.Known.{Known, known}
+use Rattle.store_table.specs.First.{broken, first_of}
+use Rattle.store_table.specs.Numbering.{lists_of}
+use Rattle.store_table.specs.Known.{Known, known}
 use Rattle.rule_checker.specs.Limits.{Statement, OfStore, OfRule, in_line_order, line_of, items_of, output_size, names_size, sizes, mark_count, all_records, is_long_context, is_long_output, have_many_elements, are_many_stores, have_many_marks, have_many_records, are_many_groups, limit_code, statement_refusal, group_refusal, limits_refusal}
 use Rattle.rule_checker.specs.Refused.{IsRead, refused}
 use Rattle.rule_checker.specs.Laws.{statements_of}
@@ -37,7 +37,7 @@ use Rattle.rule_checker.proofs.Accepted.{IsUnrefused, unrefused}
 use Rattle.rule_checker.proofs.Reading.{own_keys_read}
 use Rattle.rule_checker.proofs.Sizes.{element_count, items_in_order, joined_size, sizes_counted}
 
--- what holds of no statements and is kept by each that isn't refused holds of all
+-- if a property is true for the empty list, and each statement that isn't refused keeps it, it is true for all statements
 holds_of_all : {X : Type 0} (refusal : List X → X → Option Refusal) (P : List X → Type 0) → ((before : List X) (x : X) → refusal before x ≡ None → P (before ++ x ∷ []))
     → (before xs : List X) → P before → first_of refusal before xs ≡ None → P (before ++ xs)
 holds_of_all refusal P step before [] start h = subst P (sym (append-nil before)) start
@@ -45,7 +45,7 @@ holds_of_all refusal P step before (x ∷ xs) start h =
     let both : (refusal before x ≡ None) × (first_of refusal (before ++ x ∷ []) xs ≡ None) = none_earlier (refusal before x) (first_of refusal (before ++ x ∷ []) xs) h in
     subst P (append_assoc before (x ∷ []) xs) (holds_of_all refusal P step (before ++ x ∷ []) xs (step before x both.0) both.1)
 
--- what the limits at a statement say of all statements up to it
+-- the limits that the statements up to a statement keep, if it isn't refused
 record Within (facts : Known) (through : List Statement) : Type 0 where
   elements : have_many_elements (sizes facts through) ≡ false
   stores : length (sizes facts through) ≤ STORES
@@ -119,21 +119,21 @@ rules_are_short program whole =
     (rules_among (Stands (statement_refusal (known program))) program.stores (all_rules program)
     (none_first (statement_refusal (known program)) [] (statements_of program) (limits_parts program whole.limits).0))
 
--- there are at most so many groups
+-- an accepted program has at most `GROUPS` groups
 pub few_groups : (program : Program) → IsUnrefused program → length program.groups ≤ GROUPS
 few_groups program whole =
     holds_of_all group_refusal (λ (groups : List GroupDef). length groups ≤ GROUPS)
     (λ before group g. ltb-false GROUPS (length (before ++ group ∷ [])) (none_broken C20 (are_many_groups (before ++ group ∷ [])) [] (none_at_line group.line (broken ((C20, are_many_groups (before ++ group ∷ [])) ∷ [])) g)).0)
     [] program.groups (omega arith) (limits_parts program whole.limits).1
 
--- at most so many deadkeys
+-- an accepted program has at most `DEADKEYS` deadkeys
 pub few_marks : (program : Program) → IsUnrefused program → length (names_of program).marks ≤ DEADKEYS
 unfolding names_of
 few_marks program whole =
     let items : flat_map items_of (statements_of program) ≡ source_items program = items_in_order program.stores (all_rules program) in
     subst (λ (xs : List SrcItem). length (distinct_onto same_name [] (flat_map mark_names xs)) ≤ DEADKEYS) items (all_within program whole.limits).marks
 
--- and at most so many records
+-- an accepted program has at most `RECORDS` records
 pub few_records : (program : Program) → IsUnrefused program → all_records (known program) (statements_of program) ≤ RECORDS
 few_records program whole = (all_within program whole.limits).records
 
@@ -147,7 +147,7 @@ module _ (program : Program) (read : IsRead program) (whole : IsUnrefused progra
   abbrev counted : sizes (known program) (statements_of program) ≡ map element_count (compiled_stores program)
   counted = sizes_counted program read whole
 
-  -- the file has at most so many stores, and they have at most so many elements, each and together
+  -- the file has at most `STORES` stores, each with at most `STORE_ELEMENTS` elements, and at most `ALL_ELEMENTS` together
   pub few_stores : length (compiled_stores program) ≤ STORES
   few_stores = omega (arith, (all_within program whole.limits).stores, ap length counted, length-map (compiled_stores program) element_count)
 
@@ -182,7 +182,7 @@ few_names (name ∷ names) own few =
     half_of (suc (length names)) (length dictionary.elements)
     (omega (arith, length-map (chars (join_with_byte 32 (name ∷ names))) element.Char, joined_size name names own, name_each (name ∷ names) own)) size
 
--- so each of the keyboard's own keys has a code
+-- so each custom key of the keyboard has a code
 pub few_keys : (program : Program) → IsRead program → IsUnrefused program → length (names_of program).keys ≤ KEY_NAMES
 few_keys program read whole =
     let few = few_elements program read whole in

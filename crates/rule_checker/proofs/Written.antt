@@ -18,20 +18,20 @@ use Rattle.rule_model.specs.Match.{same_value}
 use Rattle.rule_model.specs.Naming.{stores_of, rule_items, all_rules as program_rules}
 use Rattle.rule_model.specs.Src.{is_unicode, value_elements}
 use Rattle.rule_model.specs.OwnLines.{have_own_lines}
-use Rattle.kmx_format.specs.Numbers.{numbers_of, number_of_group, number_of_start, stated_version, is_version as is_version_store, compiled_stores}
-use Rattle.kmx_format.specs.Compiles.{Compiles, file_group, is_ansi}
-use Rattle.kmx_format.specs.Ordered.{ordered_group, compiled_tables}
-use Rattle.kmx_format.specs.WellNamed.{is_known_rule, is_known_group}
-use Rattle.kmx_format.proofs.Known.{has_values}
-use Rattle.kmx_format.proofs.Values.{values_known}
-use Rattle.kmx_format.proofs.Ordered.{tables_are_only_ones}
+use Rattle.compile_laws.specs.Numbers.{numbers_of, number_of_group, number_of_start, stated_version, is_version as is_version_store, compiled_stores}
+use Rattle.compile_laws.specs.Compiles.{Compiles, file_group, is_ansi}
+use Rattle.compile_laws.specs.Ordered.{ordered_group, compiled_tables}
+use Rattle.compile_laws.specs.WellNamed.{is_known_rule, is_known_group}
+use Rattle.compile_laws.proofs.Known.{has_values}
+use Rattle.compile_laws.proofs.Values.{values_known}
+use Rattle.compile_laws.proofs.Ordered.{tables_are_only_ones}
 use Rattle.kmx_format.specs.File.{all_rules}
 use Rattle.kmx_format.specs.Versions.{is_version, file_versions}
 use Rattle.kmx_format.specs.declared.versions.TheConstants.{OWN_VERSION}
 use Rattle.kmx_format.specs.Writable.{IsWritable, IsWritableGroup}
 use Rattle.kmn_parser.specs.ProgramLaws.{IsReadRule, IsReadGroup}
-use Rattle.kmn_names.specs.Names.{stated, is_named, is_begun, begins_no_group, begin_code, begin_refusal}
-use Rattle.kmn_names.specs.Known.{known}
+use Rattle.store_table.specs.Names.{stated, is_named, is_begun, begins_no_group, begin_code, begin_refusal}
+use Rattle.store_table.specs.Known.{known}
 use Rattle.item_checker.specs.Items.{rule_code, rule_refusal, rules_refusal}
 use Rattle.rule_checker.specs.Limits.{in_line_order, all_records}
 use Rattle.rule_checker.specs.Refused.{IsRead, refused}

@@ -1,7 +1,7 @@
 -- The codes of the cased keys, found without building the elements of stores.
 use Rattle.std.specs.Prelude.{ℕ, if◌then◌else◌, List, [], ◌∷◌, ◌++◌, Option, Some, None, slice_get, unwrap_or}
 use Rattle.std.specs.List.{list_any}
-use Rattle.rule_model.specs.Dictionary.{place_in}
+use Rattle.virtual_keys.specs.Dictionary.{place_in}
 use Rattle.rule_model.specs.declared.program.SrcItem.{SrcItem}
 use Rattle.rule_model.specs.declared.program.SrcItem.TheVariants as source
 use Rattle.rule_model.specs.declared.program.StoreDef.{StoreDef}
@@ -19,7 +19,7 @@ codes_at codes (Some place) = unwrap_or (slice_get codes place) no_codes
 abbrev pub codes_named : StoreCodes → List ℕ → KeyCodes
 codes_named before name = codes_at before.codes (place_in before.names name)
 
--- codes, with those that the items of a store bring
+-- codes with the codes that an item adds to a store
 abbrev pub with_item_codes : StoreCodes → KeyCodes → SrcItem → KeyCodes
 with_item_codes before codes (source.Key key) = with_code codes key.code
 with_item_codes before codes (source.Outs name) = joined codes (codes_named before name)
@@ -29,13 +29,13 @@ abbrev pub with_items_codes : StoreCodes → KeyCodes → List SrcItem → KeyCo
 with_items_codes before codes [] = codes
 with_items_codes before codes (item ∷ items) = with_items_codes before (with_item_codes before codes item) items
 
--- with the store of one statement more, where the file has it
+-- the codes of stores with the store of a further statement, unless the statement is dropped
 abbrev pub with_store_codes : StoreCodes → StoreDef → StoreCodes
 with_store_codes before store =
     if is_dropped store then before
     else record { names = before.names ++ store.name ∷ []; codes = before.codes ++ with_items_codes before no_codes store.items ∷ [] }
 
--- the codes of the first `&casedkeys`, behind other stores
+-- the codes of the first `&casedkeys` among these stores, given the codes of the stores before them
 abbrev pub codes_from : StoreCodes → List StoreDef → KeyCodes
 codes_from before [] = no_codes
 codes_from before (store ∷ stores) =

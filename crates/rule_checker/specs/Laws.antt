@@ -5,13 +5,13 @@ use Rattle.rule_model.specs.declared.tables.Store.{Store}
 use Rattle.rule_model.specs.declared.tables.Tables.{Tables}
 use Rattle.rule_model.specs.Naming.{all_rules}
 use Rattle.rule_model.specs.Src.{src}
-use Rattle.kmx_format.specs.Compiles.{Compiles}
-use Rattle.kmx_format.specs.Numbers.{compiled_stores}
-use Rattle.kmx_format.specs.WellNamed.{IsWellNamed}
+use Rattle.compile_laws.specs.Compiles.{Compiles}
+use Rattle.compile_laws.specs.Numbers.{compiled_stores}
+use Rattle.compile_laws.specs.WellNamed.{IsWellNamed}
 use Rattle.kmx_format.specs.File.{all_rules as records_of}
 use Rattle.kmx_format.specs.Writable.{IsWritable}
-use Rattle.kmn_names.specs.Known.{known}
-use Rattle.kmn_names.specs.Numbering.{lists_of}
+use Rattle.store_table.specs.Known.{known}
+use Rattle.store_table.specs.Numbering.{lists_of}
 use Rattle.rule_checker.specs.Limits.{Statement, in_line_order, sizes, all_records}
 use Rattle.rule_checker.specs.Refused.{IsRead, refused}
 
@@ -33,18 +33,18 @@ KeysHaveCodes =
 abbrev pub statements_of : Program → List Statement
 statements_of program = in_line_order program.stores (all_rules program)
 
--- how many elements each store has
+-- the number of elements of each store
 abbrev pub element_counts : List Store → List ℕ
 element_counts stores = map (λ (store : Store). length store.elements) stores
 
--- what the limits of stores count, over all statements of an accepted program, is the elements of each store of its
--- file, in the order of the file
+-- the counts that the limits of stores compute over all statements of an accepted program are the numbers of elements of the
+-- stores of its file, in the order of the file
 abbrev pub StoresAreCounted : Type 0
 StoresAreCounted =
     (program : Program) → IsRead program → refused program ≡ None
     → sizes (known program) (statements_of program) ≡ element_counts (compiled_stores program)
 
--- what the limit of records counts, over all statements of an accepted program, is the records of its tables
+-- the count that the limit of records computes over all statements of an accepted program is the number of records of its tables
 abbrev pub RecordsAreCounted : Type 0
 RecordsAreCounted =
     (program : Program) (tables : Tables) → IsRead program → refused program ≡ None → Compiles program tables

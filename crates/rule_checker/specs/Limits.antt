@@ -1,4 +1,4 @@
--- What of a program passes a limit, at the statement which first passes it.
+-- The limits of a program, and the first statement at which one is passed.
 use Rattle.std.specs.Prelude.{ℕ, ◌+◌, Bool, false, ◌&&◌, ◌||◌, if◌then◌else◌, nat_lt, List, [], ◌∷◌, ◌++◌, length, map, flat_map, filter, sum, Option, Some}
 use Rattle.std.specs.List.{list_any}
 use Rattle.std.specs.Str.{bytes_eq, chars}
@@ -21,10 +21,10 @@ use Rattle.rule_model.specs.declared.tables.Store.{Store}
 use Rattle.rule_model.specs.Tab.{distinct_onto}
 use Rattle.rule_model.specs.Naming.{is_dropped, rule_items, stores_before, stores_after, all_rules, mark_names, key_names, elements_named}
 use Rattle.rule_model.specs.Hold.{is_exchanged}
-use Rattle.kmx_format.specs.Numbers.{item_values}
-use Rattle.kmn_names.specs.First.{broken, at_line, earlier, first_of}
-use Rattle.kmn_names.specs.Known.{Known, known, statement_elements}
-use Rattle.rule_model.specs.declared.dictionary.TheConstants.{FIRST_OWN_CODE}
+use Rattle.compile_laws.specs.Numbers.{item_values}
+use Rattle.store_table.specs.First.{broken, at_line, earlier, first_of}
+use Rattle.store_table.specs.Known.{Known, known, statement_elements}
+use Rattle.virtual_keys.specs.declared.dictionary.TheConstants.{FIRST_OWN_CODE}
 
 -- a statement that has items
 pub data Statement : Type 0 where
@@ -45,12 +45,12 @@ abbrev pub items_of : Statement → List SrcItem
 items_of (OfStore store) = store.items
 items_of (OfRule rule) = rule_items rule
 
--- the values of conditions and of `set`, which rules alone have
+-- the values of conditions and of `set`, which only rules have
 abbrev pub values_of_statement : Statement → List (List ℕ)
 values_of_statement (OfStore store) = []
 values_of_statement (OfRule rule) = flat_map item_values (rule_items rule)
 
--- how many items of an output an item is, after `outs` and `$`
+-- the number of items that an item of an output expands to, after `outs` and `$`
 abbrev pub item_size : List Store → SrcItem → ℕ
 item_size stores (source.Outs store) = length (elements_named stores store)
 item_size stores item = 1
@@ -62,7 +62,7 @@ output_size stores output = sum (map (item_size stores) output)
 abbrev pub cased_codes : Known → List ℕ
 cased_codes known = filter (λ code. nat_lt 0 code && nat_lt code FIRST_OWN_CODE) known.cased
 
--- how many records a key of these flags and this code has: two where it exchanges shift and caps lock
+-- the number of records of a key with these flags and this code: two if the key exchanges shift and caps lock
 abbrev pub virtual_count : List ℕ → ℕ → ℕ → ℕ
 virtual_count cased flags code = if is_exchanged cased flags code then 2 else 1
 
@@ -84,7 +84,7 @@ abbrev pub records_of_statement : Known → Statement → ℕ
 records_of_statement known (OfStore store) = 0
 records_of_statement known (OfRule rule) = record_count known rule.kind rule.key
 
--- how many elements the store of a statement has in the file, where it is a store of the file
+-- the number of elements that the store of a statement has in the file, if the statement is not dropped
 abbrev pub store_size : Known → StoreDef → List ℕ
 store_size known store = if is_dropped store then [] else length (statement_elements known store) ∷ []
 
@@ -101,7 +101,7 @@ abbrev pub dictionary_size : List (List ℕ) → List ℕ
 dictionary_size [] = []
 dictionary_size (name ∷ names) = (names_size (name ∷ names) + length names) ∷ []
 
--- how many elements each store has that these statements bring to the file: those stated, the key dictionary, and one
+-- the number of elements of each store that these statements add to the file: the stated stores, the key dictionary, and one
 -- store for each value
 abbrev pub sizes : Known → List Statement → List ℕ
 sizes known statements =
@@ -145,7 +145,7 @@ have_many_records known statements = nat_lt RECORDS (all_records known statement
 abbrev pub are_many_groups : List GroupDef → Bool
 are_many_groups groups = nat_lt GROUPS (length groups)
 
--- the limits at a statement, the last of those up to it
+-- the first limit that is passed at a statement, if any; `through` is the statements up to and including it
 abbrev pub limit_code : Known → List Statement → Statement → Option Code
 limit_code known through statement =
     broken ((C16, is_long_context statement) ∷ (C17, is_long_output known statement)

@@ -10,9 +10,9 @@ use Rattle.rule_model.specs.Src.{is_unicode}
 use Rattle.kmn_parser.specs.Source.{parsed}
 use Rattle.kmn_parser.specs.ProgramLaws.{IsReadProgram}
 use Rattle.kmn_parser.specs.SourceLaws.{IsInOrder}
-use Rattle.kmn_names.specs.First.{broken, at_line, or_refusal}
-use Rattle.kmn_names.specs.Names.{names_refusal}
-use Rattle.kmn_names.specs.Numbering.{NameLists, lists_of}
+use Rattle.store_table.specs.First.{broken, at_line, or_refusal}
+use Rattle.store_table.specs.Names.{names_refusal}
+use Rattle.store_table.specs.Numbering.{NameLists, lists_of}
 use Rattle.item_checker.specs.Items.{items_refusal}
 use Rattle.rule_checker.specs.Limits.{limits_refusal}
 
@@ -33,7 +33,7 @@ refused program =
 abbrev pub checked : List ℕ → Result Program Refusal
 checked source = and_then (parsed source) (λ program. or_refusal program (refused program))
 
--- what each program has that was read from a source
+-- the properties of each program that was read from a source
 pub record IsRead (program : Program) : Type 0 where
   pub statements : IsReadProgram program
   pub order : IsInOrder program

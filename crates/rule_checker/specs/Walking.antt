@@ -5,7 +5,7 @@ use Rattle.std.specs.Str.{bytes_eq, chars}
 use Rattle.kmn_base.specs.declared.codes.Code.{Code}
 use Rattle.kmn_base.specs.declared.codes.Code.TheVariants.{C16, C17, C18, C19, C21, C22}
 use Rattle.kmn_base.specs.declared.limits.TheConstants.{CONTEXT_ITEMS, OUTPUT_ITEMS, STORE_ELEMENTS, ALL_ELEMENTS, STORES, RECORDS, DEADKEYS}
-use Rattle.rule_model.specs.Dictionary.{with_name}
+use Rattle.virtual_keys.specs.Dictionary.{with_name}
 use Rattle.rule_model.specs.declared.program.SrcItem.{SrcItem}
 use Rattle.rule_model.specs.declared.program.SrcItem.TheVariants as source
 use Rattle.rule_model.specs.declared.program.StoreDef.{StoreDef}
@@ -13,15 +13,15 @@ use Rattle.rule_model.specs.declared.program.RuleDef.{RuleDef}
 use Rattle.rule_model.specs.declared.program.RuleKind.{RuleKind}
 use Rattle.rule_model.specs.declared.program.RuleKind.TheVariants as kind
 use Rattle.rule_model.specs.Naming.{is_dropped, rule_items}
-use Rattle.kmn_names.specs.First.{broken, at_line, earlier}
-use Rattle.kmn_names.specs.Names.{is_named}
+use Rattle.store_table.specs.First.{broken, at_line, earlier}
+use Rattle.store_table.specs.Names.{is_named}
 use Rattle.rule_checker.specs.declared.counting.StoreCounts.{StoreCounts}
 use Rattle.rule_checker.specs.declared.totals.Totals.{Totals}
 use Rattle.rule_checker.specs.declared.walking.Walk.{Walk}
 use Rattle.rule_checker.specs.Counting.{capped, total, count_of, output_count_of, records_named, virtual_count_of}
 use Rattle.rule_checker.specs.Limits.{Statement, OfStore, OfRule}
 
--- a mark, a key of the dictionary and a value count where they first appear
+-- totals with a mark, a dictionary key or a value, each counted only if it is new
 abbrev pub with_mark : Totals → List ℕ → Totals
 with_mark totals name = record totals { marks = with_name totals.marks name }
 
@@ -30,7 +30,7 @@ with_key totals name =
     if is_named totals.keys name then totals
     else record totals { keys = totals.keys ++ name ∷ []; key_characters = capped (totals.key_characters + capped (length (chars name))) }
 
--- a value is among others
+-- whether a value is among values
 abbrev pub is_value : List (List ℕ) → List ℕ → Bool
 is_value values value = list_any (λ known. bytes_eq known value) values
 
@@ -43,7 +43,7 @@ with_value totals value =
       has_large_value = totals.has_large_value || nat_lt STORE_ELEMENTS (length value);
     }
 
--- what an item names
+-- totals with the mark or dictionary key that an item names
 abbrev pub with_names_of : Totals → SrcItem → Totals
 with_names_of totals (source.Dead name) = with_mark totals name
 with_names_of totals (source.Key key) = if nat_eq key.code 0 then with_key totals key.name else totals
@@ -53,7 +53,7 @@ abbrev pub with_names : Totals → List SrcItem → Totals
 with_names totals [] = totals
 with_names totals (item ∷ items) = with_names (with_names_of totals item) items
 
--- the value of an item of a rule
+-- totals with the value of an item of a rule
 abbrev pub with_value_of : Totals → SrcItem → Totals
 with_value_of totals (source.Equal store value) = with_value totals value
 with_value_of totals (source.Unequal store value) = with_value totals value
@@ -67,7 +67,7 @@ abbrev pub with_values : Totals → List SrcItem → Totals
 with_values totals [] = totals
 with_values totals (item ∷ items) = with_values (with_value_of totals item) items
 
--- one store of so many elements more
+-- totals with a further store of this number of elements
 abbrev pub with_size : Totals → ℕ → Totals
 with_size totals size =
     record totals {
@@ -80,7 +80,7 @@ abbrev pub with_store_size : StoreCounts → Totals → StoreDef → Totals
 with_store_size counted totals store =
     if is_dropped store then totals else with_size totals (total (count_of counted) 0 store.items)
 
--- the records of a rule
+-- the number of records of a plain rule with this key
 abbrev pub key_count_of : StoreCounts → Option SrcItem → ℕ
 key_count_of counted (Some (source.Key key)) = virtual_count_of counted key
 key_count_of counted (Some (source.Any store)) = records_named counted store
@@ -94,7 +94,7 @@ abbrev pub with_records : StoreCounts → Totals → RuleDef → Totals
 with_records counted totals rule =
     record totals { records = capped (totals.records + record_count_of counted rule.kind rule.key) }
 
--- a statement more
+-- totals after a further statement
 abbrev pub after_store : StoreCounts → Totals → StoreDef → Totals
 after_store counted totals store = with_names (with_store_size counted totals store) store.items
 
@@ -102,7 +102,7 @@ abbrev pub after_rule : StoreCounts → Totals → RuleDef → Totals
 after_rule counted totals rule =
     with_records counted (with_values (with_names totals (rule_items rule)) (rule_items rule)) rule
 
--- the elements of the key dictionary: characters, with a space between each two names
+-- the number of elements of the key dictionary: the characters of the names, and a space between each two names
 abbrev pub dictionary_count : Totals → ℕ
 dictionary_count totals = totals.key_characters + capped (length totals.keys - 1)
 
@@ -116,7 +116,7 @@ passes_elements totals =
     || (nat_lt STORE_ELEMENTS (dictionary_count totals)
     || nat_lt ALL_ELEMENTS (totals.elements + dictionary_count totals + totals.value_elements)))
 
--- the limits that totals pass, and the two that a statement passes by itself
+-- the first limit that the context or the output of the last statement passes, or that totals pass
 abbrev pub totals_code : Totals → Bool → Bool → Option Code
 totals_code totals context output =
     broken ((C16, context) ∷ (C17, output) ∷ (C18, passes_elements totals) ∷ (C19, nat_lt STORES (store_count totals))
@@ -142,7 +142,7 @@ abbrev pub walked : StoreCounts → Walk → List Statement → Walk
 walked counted walk [] = walk
 walked counted walk (statement ∷ statements) = walked counted (after_statement counted walk statement) statements
 
--- nothing is counted yet
+-- the totals of no statements
 abbrev pub no_totals : Totals
 no_totals =
     record {

@@ -8,10 +8,10 @@ ghost use Rattle.rule_checker.specs.KeyCodes.{no_codes};
 
 use crate::key_codes::KeyCodes;
 use kmn_base::{Memory, Seq};
-use kmn_names::NameTable;
 use rule_model::system::{CASED_KEYS, DROPPED};
 use rule_model::{SrcItem, StoreDef};
 use std::alloc::Global;
+use store_table::NameTable;
 
 /// The names of stores, with the codes of the keys that each has.
 #[derive(Drop)]
@@ -20,7 +20,7 @@ pub struct StoreCodes {
     pub codes: Seq<KeyCodes>,
 }
 
-/// The codes of the keys that the store of a name has.
+/// Returns the codes of the keys that the store of a name has.
 fn codes_named(before: &StoreCodes, name: &[u8]) -> KeyCodes
     ensures { result ≡ codes_named before.now name.now }
 {
@@ -33,7 +33,7 @@ fn codes_named(before: &StoreCodes, name: &[u8]) -> KeyCodes
     }
 }
 
-/// Adds the codes that an item of a store brings.
+/// Adds the codes that an item adds to a store.
 fn add_item_codes(codes: &mut KeyCodes, before: &StoreCodes, item: &SrcItem)
     ensures { codes.new ≡ with_item_codes before.now codes.old item.now }
 {
@@ -44,7 +44,7 @@ fn add_item_codes(codes: &mut KeyCodes, before: &StoreCodes, item: &SrcItem)
     }
 }
 
-/// The codes that the items of a store bring.
+/// Returns the codes that items add to a store.
 fn codes_of_items(before: &StoreCodes, items: &[SrcItem]) -> KeyCodes
     ensures { result ≡ with_items_codes before.now no_codes items.now }
 {
@@ -55,7 +55,7 @@ fn codes_of_items(before: &StoreCodes, items: &[SrcItem]) -> KeyCodes
     codes
 }
 
-/// Adds the codes of one store more, where the file has it.
+/// Appends the codes of a store, unless its statement is dropped.
 fn add_store_codes(before: &mut StoreCodes, store: &StoreDef) -> Result<(), Memory>
     ensures { OnOk result (before.new ≡ with_store_codes before.old store.now) }
 {
@@ -67,7 +67,7 @@ fn add_store_codes(before: &mut StoreCodes, store: &StoreDef) -> Result<(), Memo
     before.codes.add(codes)
 }
 
-/// The codes of the first `&casedkeys`.
+/// Returns the codes of the first `&casedkeys`.
 fn first_codes(alloc: Global, stores: &[StoreDef]) -> Result<KeyCodes, Memory>
     ensures { IfOk result (λ codes. codes ≡ codes_from no_stores stores.now) }
 {
@@ -84,14 +84,14 @@ fn first_codes(alloc: Global, stores: &[StoreDef]) -> Result<KeyCodes, Memory>
     Ok(KeyCodes::new())
 }
 
-/// Whether a statement of `&casedkeys` is among stores.
+/// Returns whether a statement of `&casedkeys` is among stores.
 fn has_cased(stores: &[StoreDef]) -> bool
     ensures { result ≡ list_any wants_plain_keys stores.now }
 {
     stores.iter().any(|store| store.system == CASED_KEYS)
 }
 
-/// The codes of the cased keys.
+/// Returns the codes of the cased keys.
 pub(crate) fn cased_codes(alloc: Global, stores: &[StoreDef]) -> Result<KeyCodes, Memory>
     ensures { IfOk result (λ codes. codes ≡ codes_of_cased stores.now) }
 {

@@ -3,8 +3,8 @@ ghost use Rattle.std.specs.List.{list_any};
 ghost use Rattle.std.specs.Option.{option_or};
 ghost use Rattle.kmn_base.specs.Answers.{Answers};
 ghost use Rattle.rule_model.specs.Src.{is_unicode};
-ghost use Rattle.kmn_names.specs.First.{or_refusal};
-ghost use Rattle.kmn_names.specs.Numbering.{lists_of};
+ghost use Rattle.store_table.specs.First.{or_refusal};
+ghost use Rattle.store_table.specs.Numbering.{lists_of};
 ghost use Rattle.item_checker.specs.Items.{items_refusal};
 ghost use Rattle.rule_checker.specs.Limits.{limits_refusal};
 ghost use Rattle.rule_checker.specs.Refused.{IsRead, refused, start_refusal};
@@ -12,18 +12,18 @@ ghost use Rattle.rule_checker.specs.Refused.{IsRead, refused, start_refusal};
 use crate::limits::limits_refusal;
 use item_checker::items_refusal;
 use kmn_base::{Code, CompileError, Memory, Refusal};
-use kmn_names::{ProgramNames, number};
 use rule_model::{BeginDef, Program};
 use std::alloc::Global;
 use std::marker::Model;
+use store_table::{Names, number};
 
-/// A program that was read and isn't refused, with its names. Contracts see it as the program.
+/// A program that was read and isn't refused, with its names. Contracts model it as the program.
 pub struct Checked {
     program: Program,
-    names: ProgramNames,
+    names: Names,
 }
 
-/// One call in proofs, where a derived drop is written out in each exit.
+/// Written by hand so that proofs see one call; a derived drop is expanded at each exit.
 impl Drop for Checked {
     fn drop(self) {
         let Checked {
@@ -45,7 +45,7 @@ impl Model for Checked {
 }
 
 impl Checked {
-    /// The program.
+    /// Returns the program.
     pub fn program(&self) -> &Program
         ensures value { result.now ≡ self.now }
         ensures read { IsRead self.now }
@@ -54,15 +54,15 @@ impl Checked {
         &self.program
     }
 
-    /// The names of the program.
-    pub fn names(&self) -> &ProgramNames
+    /// Returns the names of the program.
+    pub fn names(&self) -> &Names
         ensures { result.now ≡ lists_of self.now }
     {
         &self.names
     }
 }
 
-/// Whether there is a `begin Unicode`.
+/// Returns whether there is a `begin Unicode`.
 fn is_started(begins: &[BeginDef]) -> bool
     ensures { result ≡ list_any is_unicode begins.now }
 {
@@ -74,7 +74,7 @@ fn is_started(begins: &[BeginDef]) -> bool
     false
 }
 
-/// The refusal of a program without a start.
+/// Returns the refusal of a program without a start.
 fn start_refusal(program: &Program) -> Option<Refusal>
     ensures { result ≡ start_refusal program.now }
 {
@@ -88,7 +88,7 @@ fn start_refusal(program: &Program) -> Option<Refusal>
     }
 }
 
-/// The first refusal for items, then for limits.
+/// Returns the first refusal for items, then for limits.
 fn later_refusal(alloc: Global, program: &Program) -> Result<Option<Refusal>, Memory>
     ensures { IfOk result (λ refusal. refusal ≡ option_or (items_refusal program.now) (limits_refusal program.now)) }
 {
@@ -98,9 +98,9 @@ fn later_refusal(alloc: Global, program: &Program) -> Result<Option<Refusal>, Me
     }
 }
 
-/// The names of a program, or its first refusal.
+/// Returns the names of a program, or its first refusal.
 #[tactic(auto, unfolding(crate::specs::Refused::refused))]
-fn checked_names(alloc: Global, program: &Program) -> Result<ProgramNames, CompileError>
+fn checked_names(alloc: Global, program: &Program) -> Result<Names, CompileError>
     ensures { Answers (or_refusal (lists_of program.now) (refused program.now)) result }
 {
     match start_refusal(program) {
@@ -114,7 +114,7 @@ fn checked_names(alloc: Global, program: &Program) -> Result<ProgramNames, Compi
     }
 }
 
-/// The program where nothing of it is refused, or its first refusal: C01 to C22, or C25.
+/// Returns the program if it is not refused, or its first refusal: C01 to C22, or C25.
 pub fn check(alloc: Global, program: Program) -> Result<Checked, CompileError>
     requires { IsRead program }
     ensures { Answers (or_refusal program (refused program)) result }

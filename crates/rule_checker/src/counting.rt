@@ -1,22 +1,22 @@
-//! How many elements stores and outputs come to, and how many records a rule has whose key is one of a store, counted without
-//! building the elements.
+//! Counts the elements of stores, the items of outputs, and the records of a rule whose key is one of a store, without building
+//! the elements.
 
 ghost use Rattle.std.specs.Prelude.{◌≡◌, ◌&&◌, not, IfOk, OnOk, nat_lt};
 ghost use Rattle.kmn_base.specs.declared.limits.TheConstants.{OUTPUT_ITEMS};
-ghost use Rattle.rule_model.specs.Fits.{caps, has, no_caps};
+ghost use Rattle.virtual_keys.specs.Fits.{caps, has, no_caps};
 ghost use Rattle.rule_checker.specs.Counting.{count_at, count_in, count_named, count_of, no_counts, output_count_of, records_named, records_of, total, virtual_count_of, with_store, with_stores};
 
 use crate::key_codes::KeyCodes;
 use kmn_base::keys::{CAPS, NO_CAPS};
 use kmn_base::limits::OUTPUT_ITEMS;
 use kmn_base::{Memory, Seq};
-use kmn_names::NameTable;
 use rule_model::system::DROPPED;
 use rule_model::{KeyName, SrcItem, StoreDef};
 use std::alloc::Global;
+use store_table::NameTable;
 
-/// The codes of the cased keys, and the names of stores with how many elements each has, and how many records a rule with its
-/// key from there; a count stays at the end of its type.
+/// The codes of the cased keys, and for each store its name, its number of elements, and the number of records of a rule whose
+/// key is one of the store. Counts saturate at the maximum of their type.
 #[derive(Drop)]
 pub struct StoreCounts {
     pub cased: KeyCodes,
@@ -25,14 +25,14 @@ pub struct StoreCounts {
     pub records: Seq<u32>,
 }
 
-/// How many elements a store has, and how many records a rule with its key from there.
+/// The number of elements of a store, and the number of records of a rule whose key is one of the store.
 #[derive(Drop)]
 struct ElementCounts {
     elements: u32,
     records: u32,
 }
 
-/// The count of a place.
+/// Returns the count at a position, or 0 if there is none.
 fn count_at(counts: &[u32], place: Option<usize>) -> u32
     ensures { result ≡ count_at counts.now place }
 {
@@ -45,35 +45,35 @@ fn count_at(counts: &[u32], place: Option<usize>) -> u32
     }
 }
 
-/// The count of a name.
+/// Returns the count at the position of a name, or 0 if the name has none.
 fn count_in(names: &NameTable, counts: &[u32], name: &[u8]) -> u32
     ensures { result ≡ count_in names.now counts.now name.now }
 {
     count_at(counts, names.place_of(name))
 }
 
-/// How many elements the store of a name has.
+/// Returns the number of elements of the store of a name.
 fn count_named(counted: &StoreCounts, name: &[u8]) -> u32
     ensures { result ≡ count_named counted.now name.now }
 {
     count_in(&counted.names, counted.counts.as_slice(), name)
 }
 
-/// How many records a rule has whose key is one of the store of a name.
+/// Returns the number of records of a rule whose key is one of the store of a name.
 pub(crate) fn records_named(counted: &StoreCounts, name: &[u8]) -> u32
     ensures { result ≡ records_named counted.now name.now }
 {
     count_in(&counted.names, counted.records.as_slice(), name)
 }
 
-/// Whether flags say nothing of caps lock.
+/// Returns whether flags contain neither `CAPS` nor `NO_CAPS`.
 fn leaves_caps(flags: u16) -> bool
     ensures { result ≡ (not (has flags caps) && not (has flags no_caps)) }
 {
     flags & CAPS == 0 && flags & NO_CAPS == 0
 }
 
-/// How many records a rule with this key has: two where the key exchanges shift and caps lock.
+/// Returns the number of records of a rule with this key: two if the key exchanges shift and caps lock.
 pub(crate) fn virtual_count(counted: &StoreCounts, key: &KeyName) -> u32
     ensures { result ≡ virtual_count_of counted.now key.now }
 {
@@ -84,7 +84,7 @@ pub(crate) fn virtual_count(counted: &StoreCounts, key: &KeyName) -> u32
     }
 }
 
-/// How many elements an item of a store brings.
+/// Returns the number of elements that an item adds to a store.
 fn count_of(counted: &StoreCounts, item: &SrcItem) -> u32
     ensures { result ≡ count_of counted.now item.now }
 {
@@ -97,7 +97,7 @@ fn count_of(counted: &StoreCounts, item: &SrcItem) -> u32
     }
 }
 
-/// What an item of a store brings. A name is looked up once for both counts.
+/// Returns both counts of an item of a store. A name is looked up once for both.
 fn counts_of(counted: &StoreCounts, item: &SrcItem) -> ElementCounts
     ensures elements { result.elements ≡ count_of counted.now item.now }
     ensures records { result.records ≡ records_of counted.now item.now }
@@ -125,7 +125,7 @@ fn counts_of(counted: &StoreCounts, item: &SrcItem) -> ElementCounts
     }
 }
 
-/// How many items of an output an item comes to.
+/// Returns the number of items that an item of an output expands to.
 fn output_count_of(counted: &StoreCounts, item: &SrcItem) -> u32
     ensures { result ≡ output_count_of counted.now item.now }
 {
@@ -135,7 +135,7 @@ fn output_count_of(counted: &StoreCounts, item: &SrcItem) -> u32
     }
 }
 
-/// How many elements the items of a store bring.
+/// Returns the number of elements that items add to a store.
 pub(crate) fn store_count(counted: &StoreCounts, items: &[SrcItem]) -> u32
     ensures { result ≡ total (count_of counted.now) 0 items.now }
 {
@@ -146,7 +146,7 @@ pub(crate) fn store_count(counted: &StoreCounts, items: &[SrcItem]) -> u32
     sum
 }
 
-/// What the items of a store bring.
+/// Returns both counts of the items of a store.
 fn store_counts(counted: &StoreCounts, items: &[SrcItem]) -> ElementCounts
     ensures elements { result.elements ≡ total (count_of counted.now) 0 items.now }
     ensures records { result.records ≡ total (records_of counted.now) 0 items.now }
@@ -161,7 +161,7 @@ fn store_counts(counted: &StoreCounts, items: &[SrcItem]) -> ElementCounts
     ElementCounts { elements, records }
 }
 
-/// How many items an output comes to.
+/// Returns the number of items that an output expands to.
 fn output_count(counted: &StoreCounts, items: &[SrcItem]) -> u32
     ensures { result ≡ total (output_count_of counted.now) 0 items.now }
 {
@@ -172,14 +172,14 @@ fn output_count(counted: &StoreCounts, items: &[SrcItem]) -> u32
     sum
 }
 
-/// Whether an output has too many items.
+/// Returns whether an output has too many items.
 pub(crate) fn is_long_output(counted: &StoreCounts, items: &[SrcItem]) -> bool
     ensures { result ≡ nat_lt OUTPUT_ITEMS (total (output_count_of counted.now) 0 items.now) }
 {
     (OUTPUT_ITEMS as u32) < output_count(counted, items)
 }
 
-/// Counts one store more, where the file has it.
+/// Appends the counts of a store, unless its statement is dropped.
 fn add_store(counted: &mut StoreCounts, store: &StoreDef) -> Result<(), Memory>
     ensures { OnOk result (counted.new ≡ with_store counted.old store.now) }
 {
@@ -192,7 +192,7 @@ fn add_store(counted: &mut StoreCounts, store: &StoreDef) -> Result<(), Memory>
     counted.records.add(counts.records)
 }
 
-/// Counts the elements of each store, and its records with these cased keys.
+/// Returns the counts of each store with these cased keys.
 pub(crate) fn count_stores(
     alloc: Global,
     cased: KeyCodes,

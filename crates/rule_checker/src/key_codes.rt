@@ -1,19 +1,19 @@
 ghost use Rattle.std.specs.Prelude.{◌≡◌, ◌||◌};
 ghost use Rattle.rule_checker.specs.KeyCodes.{has_code, is_table_code, joined, no_codes, with_code};
 
-use rule_model::FIRST_OWN_CODE;
+use virtual_keys::FIRST_OWN_CODE;
 
-/// How many codes a set has room for: those below the codes of own keys.
+/// The number of codes that a set can mark: the codes below those of custom keys.
 const ROOM: usize = FIRST_OWN_CODE as usize;
 
-/// Whether a code is one of the key table.
+/// Returns whether a code is in the key table.
 fn is_table_code(code: u16) -> bool
     ensures { result ≡ is_table_code code }
 {
     0 < code && code < FIRST_OWN_CODE
 }
 
-/// Whether one of two holds.
+/// Returns whether at least one of two conditions is true.
 pub(crate) fn either(one: bool, other: bool) -> bool
     ensures { result ≡ (one || other) }
 {
@@ -27,7 +27,7 @@ pub struct KeyCodes {
 }
 
 impl KeyCodes {
-    /// No codes.
+    /// Creates an empty set.
     #[tactic(auto, unfolding(crate::specs::KeyCodes::no_codes))]
     pub fn new() -> KeyCodes
         ensures { result ≡ no_codes }
@@ -37,7 +37,7 @@ impl KeyCodes {
         }
     }
 
-    /// Whether a code is in the set.
+    /// Returns whether a code is in the set.
     pub fn has(&self, code: u16) -> bool
         ensures { result ≡ has_code self.now code }
     {
@@ -47,7 +47,7 @@ impl KeyCodes {
         }
     }
 
-    /// Adds a code where it is one of the key table.
+    /// Adds a code if it is in the key table.
     pub fn add(&mut self, code: u16)
         ensures { self.new ≡ with_code self.old code }
     {

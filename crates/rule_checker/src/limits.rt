@@ -1,8 +1,8 @@
-//! The first limit that a program passes: C16 to C22.
+//! Finds the first limit that a program passes: C16 to C22.
 
 ghost use Rattle.std.specs.Prelude.{◌≡◌, List, [], length, IfOk};
-ghost use Rattle.kmn_names.specs.First.{first_of};
-ghost use Rattle.kmn_names.specs.Known.{known};
+ghost use Rattle.store_table.specs.First.{first_of};
+ghost use Rattle.store_table.specs.Known.{known};
 ghost use Rattle.rule_model.specs.declared.program.GroupDef.{GroupDef};
 ghost use Rattle.rule_model.specs.Naming.{all_rules};
 ghost use Rattle.rule_checker.specs.Limits.{group_refusal, in_line_order, limits_refusal, statement_refusal};
@@ -12,11 +12,11 @@ use crate::counting::count_stores;
 use crate::walking::first_passed;
 use kmn_base::limits::GROUPS;
 use kmn_base::{Code, Memory, Refusal};
-use kmn_names::{at_line, earlier};
 use rule_model::{GroupDef, Program};
 use std::alloc::Global;
+use store_table::{at_line, earlier};
 
-/// C16 to C19, C21 and C22.
+/// Returns the first refusal for C16 to C19, C21 and C22.
 #[tactic(auto, using(crate::proofs::FirstPassed::first_passed))]
 fn statements_refusal(alloc: Global, program: &Program) -> Result<Option<Refusal>, Memory>
     ensures { IfOk result (λ refusal. refusal ≡ first_of (statement_refusal (known program.now)) [] (in_line_order program.now.stores (all_rules program.now))) }
@@ -26,7 +26,7 @@ fn statements_refusal(alloc: Global, program: &Program) -> Result<Option<Refusal
     first_passed(alloc, &counted, program)
 }
 
-/// C20 at a group that stands behind so many others.
+/// Returns the refusal C20 of a group that follows `before` other groups, if there are too many.
 fn group_refusal(before: usize, group: &GroupDef) -> Option<Refusal>
     ensures { (others : List GroupDef) → before ≡ length others → result ≡ group_refusal others group.now }
 {
@@ -38,8 +38,8 @@ fn group_refusal(before: usize, group: &GroupDef) -> Option<Refusal>
     at_line(group.line, code)
 }
 
-/// C20.
-#[tactic(auto, using(kmn_names::proofs::Firsts::first_kept))]
+/// Returns the first refusal for C20.
+#[tactic(auto, using(store_table::proofs::Firsts::first_kept))]
 fn groups_refusal(groups: &[GroupDef]) -> Option<Refusal>
     ensures { result ≡ first_of group_refusal [] groups.now }
 {
@@ -50,7 +50,7 @@ fn groups_refusal(groups: &[GroupDef]) -> Option<Refusal>
     first
 }
 
-/// The first refusal for limits that there is.
+/// Returns the first refusal for limits, if any.
 #[tactic(auto, unfolding(crate::specs::Limits::limits_refusal))]
 pub(crate) fn limits_refusal(alloc: Global, program: &Program) -> Result<Option<Refusal>, Memory>
     ensures { IfOk result (λ refusal. refusal ≡ limits_refusal program.now) }

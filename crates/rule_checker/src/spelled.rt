@@ -2,7 +2,7 @@ ghost use Rattle.std.specs.Prelude.{◌≡◌, length};
 ghost use Rattle.std.specs.Str.{chars, continuation_len};
 ghost use Rattle.rule_checker.specs.Counting.{capped, character_ends, to_come};
 
-/// How many bytes of a character follow its first.
+/// Returns the number of bytes of a character that follow this first byte.
 fn continuation_len(byte: u8) -> u8
     ensures { result ≡ continuation_len byte }
 {
@@ -14,7 +14,7 @@ fn continuation_len(byte: u8) -> u8
     }
 }
 
-/// How many bytes of a character are to come after this one, where so many were to come before it.
+/// Returns the number of bytes of a character that follow this byte, if `coming` bytes were expected before it.
 fn to_come(coming: u8, byte: u8) -> u8
     ensures { result ≡ to_come coming byte }
 {
@@ -24,14 +24,14 @@ fn to_come(coming: u8, byte: u8) -> u8
     }
 }
 
-/// One where a character ends.
+/// Returns 1 if a character ends here, else 0.
 fn character_ends(coming: u8) -> u32
     ensures { result ≡ character_ends coming }
 {
     if coming == 0 { 1 } else { 0 }
 }
 
-/// How many characters a text has; a count stays at the end of its type.
+/// Returns the number of characters of a text, or the maximum of `u32` if there are more.
 #[tactic(auto, using(crate::proofs::SpelledTexts::spelled_next))]
 pub fn character_count(text: &[u8]) -> u32
     ensures { result ≡ capped (length (chars text.now)) }

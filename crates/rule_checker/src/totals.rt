@@ -1,4 +1,4 @@
-//! What of the limits is counted over statements.
+//! The counts over statements that the limits compare.
 
 ghost use Rattle.std.specs.Prelude.{◌≡◌, ◌||◌, OnOk, option_to_list};
 ghost use Rattle.rule_model.specs.Naming.{rule_items};
@@ -11,12 +11,12 @@ use crate::spelled::character_count;
 use crate::values::ValueTable;
 use kmn_base::limits::{ALL_ELEMENTS, DEADKEYS, RECORDS, STORE_ELEMENTS, STORES};
 use kmn_base::{Code, Memory};
-use kmn_names::NameTable;
 use rule_model::system::DROPPED;
 use rule_model::{RuleDef, RuleKind, SrcItem, StoreDef};
 use std::alloc::Global;
+use store_table::NameTable;
 
-/// What was counted up to a statement; each number stays at the end of its type.
+/// The counts up to a statement. Each number saturates at the maximum of its type.
 #[derive(Drop)]
 pub struct Totals {
     /// The names of deadkeys.
@@ -41,7 +41,7 @@ pub struct Totals {
     pub records: u32,
 }
 
-/// A length as a count.
+/// Returns a length as a count, or the maximum of `u32` if it is larger.
 fn size_of(len: usize) -> u32
     ensures { result ≡ capped len }
 {
@@ -53,7 +53,7 @@ fn size_of(len: usize) -> u32
 }
 
 impl Totals {
-    /// Nothing counted yet.
+    /// Creates totals with empty counts.
     pub fn new(alloc: Global) -> Totals
         ensures { result ≡ no_totals }
     {
@@ -72,8 +72,8 @@ impl Totals {
     }
 }
 
-/// Counts a deadkey where its name is new.
-#[tactic(auto, unfolding(kmn_names::specs::Names::is_named))]
+/// Counts a deadkey if its name is new.
+#[tactic(auto, unfolding(store_table::specs::Names::is_named))]
 fn add_mark(totals: &mut Totals, name: &[u8]) -> Result<(), Memory>
     ensures { OnOk result (totals.new ≡ with_mark totals.old name.now) }
 {
@@ -84,7 +84,7 @@ fn add_mark(totals: &mut Totals, name: &[u8]) -> Result<(), Memory>
     }
 }
 
-/// Counts a key of the dictionary where its name is new.
+/// Counts a key of the dictionary if its name is new.
 fn add_key(totals: &mut Totals, name: &[u8]) -> Result<(), Memory>
     ensures { OnOk result (totals.new ≡ with_key totals.old name.now) }
 {
@@ -96,7 +96,7 @@ fn add_key(totals: &mut Totals, name: &[u8]) -> Result<(), Memory>
     Ok(())
 }
 
-/// Counts a value where it is new.
+/// Counts a value if it is new.
 fn add_value(totals: &mut Totals, value: &[char]) -> Result<(), Memory>
     ensures { OnOk result (totals.new ≡ with_value totals.old value.now) }
 {
@@ -109,7 +109,7 @@ fn add_value(totals: &mut Totals, value: &[char]) -> Result<(), Memory>
     Ok(())
 }
 
-/// Counts what an item names.
+/// Counts the deadkey or dictionary key that an item names.
 fn add_names_of(totals: &mut Totals, item: &SrcItem) -> Result<(), Memory>
     ensures { OnOk result (totals.new ≡ with_names_of totals.old item.now) }
 {
@@ -126,7 +126,7 @@ fn add_names_of(totals: &mut Totals, item: &SrcItem) -> Result<(), Memory>
     }
 }
 
-/// Counts what items name.
+/// Counts the deadkeys and dictionary keys that items name.
 fn add_names(totals: &mut Totals, items: &[SrcItem]) -> Result<(), Memory>
     ensures { OnOk result (totals.new ≡ with_names totals.old items.now) }
 {
@@ -161,7 +161,7 @@ fn add_values(totals: &mut Totals, items: &[SrcItem]) -> Result<(), Memory>
     Ok(())
 }
 
-/// Counts what the key of a rule names.
+/// Counts the dictionary key that the key of a rule names.
 fn add_key_names(totals: &mut Totals, key: &Option<SrcItem>) -> Result<(), Memory>
     ensures { OnOk result (totals.new ≡ with_names totals.old (option_to_list key.now)) }
 {
@@ -171,7 +171,7 @@ fn add_key_names(totals: &mut Totals, key: &Option<SrcItem>) -> Result<(), Memor
     }
 }
 
-/// Counts the value of the key of a rule, which has none in a source.
+/// Counts the value of the key of a rule. In a source the key has no value.
 fn add_key_value(totals: &mut Totals, key: &Option<SrcItem>) -> Result<(), Memory>
     ensures { OnOk result (totals.new ≡ with_values totals.old (option_to_list key.now)) }
 {
@@ -181,7 +181,7 @@ fn add_key_value(totals: &mut Totals, key: &Option<SrcItem>) -> Result<(), Memor
     }
 }
 
-/// Counts what the items of a rule name.
+/// Counts the deadkeys and dictionary keys that the items of a rule name.
 #[tactic(auto, using(crate::proofs::Walked::names_append))]
 fn add_rule_names(totals: &mut Totals, rule: &RuleDef) -> Result<(), Memory>
     ensures { OnOk result (totals.new ≡ with_names totals.old (rule_items rule.now)) }
@@ -201,7 +201,7 @@ fn add_rule_values(totals: &mut Totals, rule: &RuleDef) -> Result<(), Memory>
     add_values(totals, rule.output.as_slice())
 }
 
-/// Counts a store of so many elements.
+/// Counts a store with this number of elements.
 fn add_size(totals: &mut Totals, size: u32)
     ensures { totals.new ≡ with_size totals.old size }
 {
@@ -210,7 +210,7 @@ fn add_size(totals: &mut Totals, size: u32)
     totals.has_large_store = either(totals.has_large_store, (STORE_ELEMENTS as u32) < size);
 }
 
-/// Counts the store of a statement, where the file has it.
+/// Counts the store of a statement, unless the statement is dropped.
 fn add_store_size(totals: &mut Totals, counted: &StoreCounts, store: &StoreDef)
     ensures { totals.new ≡ with_store_size counted.now totals.old store.now }
 {
@@ -219,7 +219,7 @@ fn add_store_size(totals: &mut Totals, counted: &StoreCounts, store: &StoreDef)
     }
 }
 
-/// How many records a key stands for.
+/// Returns the number of records of a plain rule with this key.
 fn key_count(counted: &StoreCounts, key: &Option<SrcItem>) -> u32
     ensures { result ≡ key_count_of counted.now key.now }
 {
@@ -230,7 +230,7 @@ fn key_count(counted: &StoreCounts, key: &Option<SrcItem>) -> u32
     }
 }
 
-/// How many records a statement has.
+/// Returns the number of records of a statement.
 fn record_count(counted: &StoreCounts, rule: &RuleDef) -> u32
     ensures { result ≡ record_count_of counted.now rule.now.kind rule.now.key }
 {
@@ -273,14 +273,14 @@ pub(crate) fn add_rule(
     Ok(())
 }
 
-/// The elements of the key dictionary.
+/// Returns the number of elements of the key dictionary.
 fn dictionary_count(totals: &Totals) -> u64
     ensures { result ≡ dictionary_count totals.now }
 {
     (totals.key_characters as u64) + (size_of(totals.keys.len().saturating_sub(1)) as u64)
 }
 
-/// How many stores the file has.
+/// Returns the number of stores of the file.
 fn store_count_of(totals: &Totals) -> u64
     ensures { result ≡ store_count totals.now }
 {
@@ -288,7 +288,7 @@ fn store_count_of(totals: &Totals) -> u64
     (totals.stores as u64) + dictionary + (size_of(totals.values.len()) as u64)
 }
 
-/// Whether one store or all have too many elements.
+/// Returns whether one store has too many elements, or all stores together have.
 fn passes_elements(totals: &Totals) -> bool
     ensures { result ≡ passes_elements totals.now }
 {
@@ -300,7 +300,7 @@ fn passes_elements(totals: &Totals) -> bool
             < (totals.elements as u64) + dictionary + (totals.value_elements as u64)
 }
 
-/// The first limit that is passed, where `context` and `output` say whether a statement passes those of its own.
+/// Returns the code of the first limit that is passed, if any. `context` and `output` are whether the last statement passes C16 or C17.
 pub(crate) fn totals_code(totals: &Totals, context: bool, output: bool) -> Option<Code>
     ensures { result ≡ totals_code totals.now context output }
 {

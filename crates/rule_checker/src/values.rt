@@ -6,7 +6,7 @@ use kmn_base::Memory;
 use std::alloc::Global;
 use std::marker::Model;
 
-/// The values of options, each once. Contracts see them as their list, in the order in which they were appended.
+/// The values of options, each once. Contracts model them as their list, in the order in which they were appended.
 #[derive(Drop)]
 pub struct ValueTable {
     alloc: Global,
@@ -22,7 +22,7 @@ impl Model for ValueTable {
 }
 
 impl ValueTable {
-    /// A table without values.
+    /// Creates a table without values.
     pub fn new(alloc: Global) -> ValueTable
         ensures { result ≡ [] }
     {
@@ -32,14 +32,14 @@ impl ValueTable {
         }
     }
 
-    /// How many values there are.
+    /// Returns the number of values.
     pub fn len(&self) -> usize
         ensures { result ≡ length self.now }
     {
         self.values.len()
     }
 
-    /// Whether a value is one of the table's.
+    /// Returns whether a value is in the table.
     pub fn has(&self, value: &[char]) -> bool
         ensures { result ≡ is_value self.now value.now }
     {

@@ -1,4 +1,4 @@
-//! The limits, statement by statement in the order of their lines.
+//! Checks the limits statement by statement, in the order of lines.
 
 ghost use Rattle.std.specs.Prelude.{◌≡◌, ◌++◌, List, map, flat_map, IfOk, OnOk};
 ghost use Rattle.rule_model.specs.declared.program.RuleDef.{RuleDef};
@@ -11,11 +11,11 @@ use crate::counting::{StoreCounts, is_long_output};
 use crate::totals::{Totals, add_rule, add_store, totals_code};
 use kmn_base::limits::CONTEXT_ITEMS;
 use kmn_base::{Memory, Refusal};
-use kmn_names::{at_line, earlier, parted_by_line};
 use rule_model::{GroupDef, Program, RuleDef, StoreDef};
 use std::alloc::Global;
+use store_table::{at_line, earlier, parted_by_line};
 
-/// What was counted up to a statement, and the first refusal so far.
+/// The counts up to a statement, and the first refusal so far.
 #[derive(Drop)]
 pub struct Walk {
     pub totals: Totals,
@@ -55,7 +55,7 @@ fn walk_stores(walk: &mut Walk, counted: &StoreCounts, stores: &[StoreDef]) -> R
     Ok(())
 }
 
-/// Counts the stores before a line, and hands on the others.
+/// Counts the stores before a line and returns the others.
 fn walk_before<'a>(
     walk: &mut Walk,
     counted: &StoreCounts,
@@ -70,7 +70,7 @@ fn walk_before<'a>(
     Ok(others)
 }
 
-/// Counts the rules of a group, each behind the stores before it, and hands on the other stores.
+/// Counts the rules of a group, each after the stores before its line, and returns the other stores.
 #[tactic(auto, using(crate::proofs::Walked::walked_rule))]
 fn walk_group<'a>(
     walk: &mut Walk,
@@ -104,7 +104,7 @@ fn walk_all(
     walk_stores(walk, counted, waiting)
 }
 
-/// The first refusal for a limit that a statement passes.
+/// Returns the first refusal for a limit that a statement passes.
 pub(crate) fn first_passed(
     alloc: Global,
     counted: &StoreCounts,

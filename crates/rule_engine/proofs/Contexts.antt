@@ -1,4 +1,4 @@
--- Whether a rule holds is seen in the window, since no context is longer.
+-- Whether a rule holds is decided by the window, since no context is longer.
 use Rattle.std.proofs.Common.{◌≡◌, ◌≢◌, ℕ, ◌+◌, ◌-◌, ◌≤◌, min, Bool, List, [], ◌∷◌, length, drop, map, Some, refl, sym, ◌∙◌, ap, subst, inl, inr, arith, eqb, leb}
 use Rattle.std.specs.Prelude.{◌&&◌, if◌then◌else◌, None, slice_get}
 use Rattle.std.specs.List.{list_all, list_any, All}
@@ -18,7 +18,8 @@ use Rattle.rule_model.specs.declared.tables.Tables.{Tables}
 use Rattle.rule_model.specs.Keyboard.{Pattern, RuleMeaning}
 use Rattle.rule_model.specs.Choose.{first, first_with}
 use Rattle.rule_model.specs.Match.{Content, catches_from}
-use Rattle.rule_model.specs.Hold.{is_true, is_at_start, pattern_count, has_room, caught_by, fitting_place, holds}
+use Rattle.rule_model.specs.Hold.{is_true, is_at_start, pattern_count, has_room, caught_by, holds}
+use Rattle.rule_model.proofs.CaughtParts.{fitting_place}
 use Rattle.rule_model.specs.Tab.{tab_pattern, tab_rule}
 use Rattle.rule_index.proofs.ContextCounts.{few_patterns}
 use Rattle.rule_matching.specs.Moment.{AreShort}
@@ -48,7 +49,7 @@ same_end n left few =
     let place : (length left - 64) + (length (window left) - n) ≡ length left - n = omega arith in
     ap (λ (k : ℕ). drop k left) (sym place) ∙ sym (drop-drop (length (window left) - n) (length left - 64) left)
 
--- a rule holds on a list where it holds on its window
+-- if a context has at most 63 items, its rule holds on a list exactly where it holds on the window of the list, and catches the same
 holds_in_window : (content : Content) (left : List Item) (press : KeyPress) (rule : RuleMeaning) → length rule.context ≤ 63
     → holds content left press rule ≡ holds content (window left) press rule
 holds_in_window content left press rule few =
@@ -58,7 +59,7 @@ holds_in_window content left press rule few =
     then caught_by (catches_from content [] rule.context (end i)) (fitting_place content press rule.key)
     else None
 
--- so the first that holds is the same
+-- if the contexts of rules are short, the first rule that holds on a list is the first that holds on its window
 pub first_in_window : (content : Content) (left : List Item) (press : KeyPress) (stores : List Store) (using_keys : Bool) (rules : List Rule) → AreShort rules
     → first (holds content (window left) press) (map (tab_rule stores using_keys) rules) ≡ first (holds content left press) (map (tab_rule stores using_keys) rules)
 first_in_window content left press stores using_keys [] short = refl
@@ -69,7 +70,7 @@ first_in_window content left press stores using_keys (rule ∷ rules) short =
     let behind = first_in_window content left press stores using_keys rules (All-tail (λ (r : Rule). length r.context ≤ 60) rule rules short) in
     λ i. first_with (tab_rule stores using_keys rule) (here i) (behind i)
 
--- what holds of all groups of tables holds of one
+-- if all groups of tables have a property, each of them has it
 all_at : (P : Group → Type 0) (groups : List Group) (n : ℕ) (group : Group) → All P groups → slice_get groups n ≡ Some group → P group
 all_at P groups n group all is =
     subst P (get_or_from_slice_get groups n group group is) (All-get_or P groups n group (slice_get_within groups n group is) all)

@@ -1,4 +1,4 @@
--- What an engine is made of, at its start and then.
+-- What an engine is made of, at its start and later.
 use Rattle.std.proofs.Common.{◌≡◌, ℕ, suc, ◌<◌, get_or, Bool, true, false, List, [], ◌∷◌, length, map, Option, Some, None, refl, sym, ◌∙◌, ap, arith}
 use Rattle.std.specs.Prelude.{if◌then◌else◌, slice_get, slice_set}
 use Rattle.std.specs.Option.{option_flatten}
@@ -16,15 +16,15 @@ use Rattle.rule_model.specs.Content.{option_number}
 use Rattle.rule_model.specs.Event.{State, set_option}
 use Rattle.rule_model.specs.Tab.{tab}
 use Rattle.rule_model.specs.Trace.{options_of, first_state}
-use Rattle.engine_state.specs.declared.options.Cell.{Cell}
-use Rattle.engine_state.specs.Cells.{first_cells, changed, host_cell, current_value, saved_value}
-use Rattle.engine_state.specs.Meaning.{option_values, option_saves, holding}
-use Rattle.engine_state.proofs.FirstCells.{first_cells_count}
-use Rattle.engine_state.proofs.Meaning.{calls_follow, first_option_values, first_option_saves}
-use Rattle.engine_state.specs.Cached.{CacheValue}
-use Rattle.engine_state.specs.Texts.{InsertedValue}
+use Rattle.option_store.specs.declared.options.Cell.{Cell}
+use Rattle.option_store.specs.Cells.{first_cells, changed, host_cell, current_value, saved_value}
+use Rattle.option_store.specs.Meaning.{option_values, option_saves, holding}
+use Rattle.option_store.proofs.FirstCells.{first_cells_count}
+use Rattle.option_store.proofs.Meaning.{calls_follow, first_option_values, first_option_saves}
+use Rattle.event_text.specs.Boxed.{CacheValue}
+use Rattle.event_text.specs.Texts.{InsertedValue}
 use Rattle.rule_engine.specs.Engine.{EngineState, IsEngine, IsRunnable, IsAtWork, engine_with, first_engine, option_named, with_option, set_by_host}
-use Rattle.rule_engine.specs.Event.{HasPlaces, moment_with}
+use Rattle.rule_engine.specs.Event.{HasPlaces, HoldTheSame, moment_with}
 use Rattle.rule_engine.proofs.OtherStores.{others_at_first}
 use Rattle.rule_matching.specs.Moment.{truths_at}
 
@@ -77,7 +77,7 @@ first_is_at_work tables cache cells truths inserted lines places can empty are r
   places = has;
 }
 
--- a copy, which has room of its own
+-- a copy with its own space
 pub copy_is_at_work : (tables same : Tables) (cache kept : CacheValue) (cells values : List Cell) (truths right : List Bool) (inserted text : InsertedValue) (lines noted : ℕ) (places found : ℕ × ℕ)
     → IsAtWork tables cache cells truths inserted lines places → same ≡ tables → kept ≡ record cache { room = WINDOW_ITEMS } → values ≡ cells → right ≡ truths
     → text ≡ inserted → noted ≡ EVENT_ENTRIES → HasPlaces tables found → IsAtWork same kept values right text noted found
@@ -95,11 +95,11 @@ first_values tables cells are =
       saved = (ap (option_saves stores) are ∙ first_option_saves stores) i;
     }
 
--- the number that a list of numbers has at a place
+-- the number at an index of a list of numbers
 pub number_there : (numbers : List (Option ℕ)) (n : ℕ) (d : Option ℕ) → n < length numbers → option_flatten (slice_get numbers n) ≡ get_or numbers n d
 number_there numbers n d within = ap (λ (number : Option (Option ℕ)). option_flatten number) (slice_get-get_or numbers n d within)
 
--- the host gives the store of an option a text
+-- if the host sets the store of an option to a text, the engine has the option's new values
 by_state : (option : Option ℕ) (value : List Element) (engine : EngineState) (state : State) → state.current ≡ engine.current → state.saved ≡ engine.saved
     → record engine { current = (set_option option value state).current; saved = (set_option option value state).saved } ≡ with_option option value engine
 by_state None value engine state current saved = λ i. record engine { current = current i; saved = saved i }
@@ -122,3 +122,12 @@ host_sets_engine tables context cells after inserted chosen n name text engine f
     ∙ (ap (λ (s : State). record before { current = s.current; saved = s.saved }) (sym follows)
     ∙ (by_state number value before state refl refl
     ∙ (λ i. with_option (same i) value (is i))))
+
+-- the same is true for each list of cells that holds the same values as the changed cells
+pub values_set_engine : (tables : Tables) (context : List Item) (cells after : List Cell) (inserted chosen : List ℕ) (n : ℕ) (name text : List ℕ) (engine : EngineState)
+    → n < length cells → HoldTheSame (tab tables).stores after (changed n (host_cell text) cells) → engine_with tables context cells inserted chosen ≡ engine
+    → option_number (tab engine.tables).stores (Numbered n) ≡ option_named name engine
+    → engine_with tables context after inserted chosen ≡ set_by_host name text engine
+values_set_engine tables context cells after inserted chosen n name text engine few same is found =
+    (λ i. record (engine_with tables context after inserted chosen) { current = same.current i; saved = same.saved i })
+    ∙ host_sets_engine tables context cells (changed n (host_cell text) cells) inserted chosen n name text engine few refl is found

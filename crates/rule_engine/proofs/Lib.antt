@@ -1,5 +1,6 @@
 pub mod Contexts
 pub mod Engines
+mod HeldTexts
 pub mod OptionNames
 pub mod OptionSteps
 pub mod OtherStores

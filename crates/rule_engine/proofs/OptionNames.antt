@@ -1,4 +1,4 @@
--- The option of a name, store by store.
+-- The option with a name, store by store.
 use Rattle.std.proofs.Common.{◌≡◌, ℕ, zero, suc, ◌+◌, ◌<◌, ◌≤◌, get_or, Bool, true, false, List, [], ◌∷◌, length, drop, Option, Some, None, refl, sym, ◌∙◌, ap, arith}
 use Rattle.std.specs.Prelude.{◌&&◌, if◌then◌else◌, is_some, option_map, map, position, slice_get}
 use Rattle.std.proofs.lemmas.List.{drop_all, drop_more}
@@ -13,13 +13,13 @@ use Rattle.rule_model.proofs.PlainOptions.{length-option_numbers, named_here as 
 use Rattle.rule_engine.specs.Engine.{name_in, name_of}
 use Rattle.rule_engine.proofs.Engines.{number_there}
 
--- the option number of the first store of a name that has one
+-- the option number of the first store that has a name and an option number
 abbrev pub named_in : List ℕ → List (Option ℕ) → List StoreMeaning → Option ℕ
 named_in name [] stores = None
 named_in name (number ∷ numbers) [] = None
 named_in name (number ∷ numbers) (store ∷ stores) = if is_some number && has_name name store.name then number else named_in name numbers stores
 
--- it is the place of the first option of that name
+-- this option number is the place of the first option with the name
 module _ (name : List ℕ) where
   named_place : (k : ℕ) (stores : List StoreMeaning) → named_in name (option_numbers k stores) stores ≡ option_map (λ i. k + i) (position (has_name name) (option_names stores))
   named_place k [] = refl
@@ -34,7 +34,7 @@ module _ (name : List ℕ) where
       by true here behind = here
       by false here behind = behind
 
--- the store of a number below their count
+-- if a number is below the count of stores, it has a store
 there : (stores : List StoreMeaning) (n : ℕ) → n < length stores → (store : StoreMeaning) × (slice_get stores n ≡ Some store) × (store ≡ get_or stores n store)
 there [] n within = absurd (omega arith)
 there (store ∷ stores) zero within = (store, refl, refl)
@@ -44,7 +44,7 @@ first_true : (a b : Bool) → (a && b) ≡ true → a ≡ true
 first_true true b is = refl
 first_true false b is = is
 
--- the option of a name among the stores from a number on
+-- the option with a name among the stores from a number on
 abbrev pub named_from : Tables → List ℕ → ℕ → Option ℕ
 named_from tables name n = named_in name (drop n (option_numbers 0 (tab tables).stores)) (drop n (tab tables).stores)
 
@@ -55,7 +55,7 @@ module _ (tables : Tables) (name : List ℕ) where
   abbrev numbers : List (Option ℕ)
   numbers = option_numbers 0 (tab tables).stores
 
-  -- from the first on it is the option of the name
+  -- the option with a name among all stores is the first option with this name
   pub named_of_all : named_from tables name 0 ≡ position (has_name name) (option_names (tab tables).stores)
   named_of_all = named_place name 0 stores ∙ same_number (position (has_name name) (option_names stores))
 
@@ -80,7 +80,7 @@ module _ (tables : Tables) (name : List ℕ) where
         (λ i. named_in name (first i) (store i))
         ∙ ap (λ (s : Option StoreMeaning). if is_named s then number else named_from tables name (n + 1)) (sym found.1)
 
-    -- a store that is an option of the name is the first
+    -- if a store is an option with the name, it is the first one from its number on
     pub named_here : n < length (tab tables).stores
         → (is_some (option_number (tab tables).stores (Numbered n)) && has_name name (name_of tables n)) ≡ true
         → named_from tables name n ≡ option_number (tab tables).stores (Numbered n)
@@ -90,13 +90,13 @@ module _ (tables : Tables) (name : List ℕ) where
         → is_some (option_number (tab tables).stores (Numbered n)) ≡ true
     named_is_some is = first_true (is_some number) (has_name name (name_of tables n)) is
 
-    -- another is passed over
+    -- if a store is not an option with the name, the first one is after it
     pub passed_here : n < length (tab tables).stores
         → (is_some (option_number (tab tables).stores (Numbered n)) && has_name name (name_of tables n)) ≡ false
         → named_from tables name n ≡ named_from tables name (n + 1)
     passed_here within is = step within ∙ ap (λ b. if b then number else named_from tables name (n + 1)) is
 
-    -- behind the last store none has the name
+    -- after the last store, there is no option with the name
     pub none_named : length (tab tables).stores ≤ n → named_from tables name n ≡ None
     none_named past =
         let count : length numbers ≡ length stores = length-option_numbers 0 stores in

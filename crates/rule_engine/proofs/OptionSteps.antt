@@ -1,4 +1,4 @@
--- What `set`, `save` and `reset` of a cell are in the state of the event.
+-- The effect of `set`, `save` and `reset` of a cell on the state of the event.
 use Rattle.std.proofs.Common.{◌≡◌, ℕ, ◌<◌, List, length, Option, Some, None, sym, ◌∙◌, ap}
 use Rattle.kmn_base.specs.declared.items.Element.{Element}
 use Rattle.rule_model.specs.declared.event_state.EventState.{EventState}
@@ -7,10 +7,10 @@ use Rattle.rule_model.specs.Act.{one_more, set_current, save_current, reset_curr
 use Rattle.rule_model.specs.Content.{option_number, elements_at}
 use Rattle.rule_model.specs.Keyboard.{Numbered, StoreMeaning}
 use Rattle.rule_model.specs.Tab.{tab, elements_of}
-use Rattle.engine_state.specs.declared.options.Cell.{Cell}
-use Rattle.engine_state.specs.Cells.{changed, set_cell, save_cell, reset_cell}
-use Rattle.engine_state.specs.Meaning.{with_values}
-use Rattle.engine_state.proofs.Meaning.{calls_follow}
+use Rattle.option_store.specs.declared.options.Cell.{Cell}
+use Rattle.option_store.specs.Cells.{changed, set_cell, save_cell, reset_cell}
+use Rattle.option_store.specs.Meaning.{with_values}
+use Rattle.option_store.proofs.Meaning.{calls_follow}
 use Rattle.rule_engine.specs.Event.{EventValue, keyboard_of}
 use Rattle.rule_matching.proofs.StoreContents.{elements_meant}
 
@@ -33,7 +33,7 @@ module _ (tables : Tables) (cells : List Cell) (n : ℕ) (s : EventState) where
       ≡ reset_current (option_number (tab tables).stores (Numbered n)) (elements_at (tab tables).stores (Some n)) (with_values (tab tables).stores cells s)
   reset_follows few = sym ((calls_follow stores cells n few).reset s)
 
-  -- an option that is saved is counted
+  -- if a store is an option, saving it is counted
   counted : (option : ℕ) → number ≡ Some option
       → with_values stores (changed n save_cell cells) (save_current number s)
       ≡ with_values stores (changed n save_cell cells) (record s { saves = one_more s.saves })
@@ -44,7 +44,7 @@ module _ (tables : Tables) (cells : List Cell) (n : ℕ) (s : EventState) where
       ≡ save_current (option_number (tab tables).stores (Numbered n)) (with_values (tab tables).stores cells s)
   save_follows option few is = sym ((calls_follow stores cells n few).save s ∙ counted option is)
 
--- the same of an event with these values
+-- the effect of `set` and `reset` on an event with these values
 module _ (tables : Tables) (lent lines : List ℕ) (cells after : List Cell) (n : ℕ) (s : EventState) (event : EventValue) (few : n < length cells)
     (is : record { tables = tables; lent = lent; state = with_values (tab tables).stores cells s; lines = lines } ≡ event) where
   abbrev event_with : List Cell → EventValue
@@ -70,7 +70,7 @@ module _ (tables : Tables) (lent lines : List ℕ) (cells after : List Cell) (n 
       ap event_with reset
       ∙ (ap (λ (t : EventState). record { tables = tables; lent = lent; state = t; lines = lines }) (reset_follows tables cells n s few) ∙ ap reset_in is)
 
--- nothing is set, saved or reset of a store that is no option
+-- if a store is not an option, setting, saving and resetting it do not change the state
 pub nothing_set : (option : Option ℕ) (value : List Element) (s : EventState) → option ≡ None → s ≡ set_current option value s
 nothing_set option value s none = sym (ap (λ (o : Option ℕ). set_current o value s) none)
 

@@ -18,7 +18,7 @@ use Rattle.rule_matching.specs.Moment.{AreShort}
 use Rattle.rule_engine.specs.Event.{AllChangeOwn, ChangesOwn, GroupChangesOwn, RuleChangesOwn}
 use Rattle.rule_engine.specs.Engine.{IsRunnable}
 
--- what follows for each element
+-- if each element has a property from which another property follows, each element has the other property
 all_then : {X : Type 0} (P Q : X → Type 0) (xs : List X) → ((x : X) → P x → Q x) → AllByRecursion P xs → AllByRecursion Q xs
 all_then P Q [] follows h = tt
 all_then P Q (x ∷ xs) follows h = (follows x h.0, all_then P Q xs follows h.1)
@@ -34,7 +34,7 @@ IsOwn count store = store < count
 abbrev SetsLayer : Out → Type 0
 SetsLayer o = sets_system_id o ≡ true
 
--- an item that names stores of a file and sets no system option but the layer
+-- if an item names only stores of a file and sets no system option but the layer, it changes only stores of the file and the layer
 item_changes_own : (count : ℕ) (o : Out) → SetsLayer o → AllByRecursion (IsOwn count) (stores_of_output o) → ChangesOwn count o
 item_changes_own count (output.Set store value) layer own = (own.0, own.1.0)
 item_changes_own count (output.SetSystem id value) layer own = (eqb-true id 33 layer, own.0)
@@ -50,7 +50,7 @@ item_changes_own count output.Nul layer own = tt
 item_changes_own count output.Beep layer own = tt
 item_changes_own count output.Stop layer own = tt
 
--- what holds of two lists in a row holds of each
+-- if each element of two joined lists has a property, each element of either list has it
 first_part : {X : Type 0} (P : X → Type 0) (xs ys : List X) → AllByRecursion P (xs ++ ys) → AllByRecursion P xs
 first_part P [] ys h = tt
 first_part P (x ∷ xs) ys h = (h.0, first_part P xs ys h.1)

@@ -1,4 +1,4 @@
--- The stores of a keyboard by those of its file: the layer and the platform stand behind them.
+-- The stores of a keyboard, from the stores of its file: the layer and the platform come after them.
 use Rattle.std.proofs.Common.{◌≡◌, ◌≢◌, ℕ, zero, suc, ◌+◌, ◌-◌, ◌<◌, ◌≤◌, List, [], ◌∷◌, ◌++◌, length, Some, sym, ◌∙◌, ap, arith}
 use Rattle.std.specs.Prelude.{codes, slice_get}
 use Rattle.std.proofs.lemmas.Option.{slice_get_past}
@@ -12,11 +12,11 @@ use Rattle.rule_model.proofs.SystemOptions.{at_behind}
 use Rattle.rule_index.proofs.StoreIndexes.{count_of_all}
 use Rattle.rule_engine.specs.Engine.{name_in, name_of}
 
--- a store of the file isn't the last, which is the platform
+-- if a store is in the file, it is not the last store, which is the platform
 pub behind_own : (tables : Tables) (n : ℕ) → n < length tables.stores → n + 1 < length (tab tables).stores
 behind_own tables n own = omega (arith, own, count_of_all tables)
 
--- nor is the layer
+-- the layer is not the last store
 pub layer_before : (tables : Tables) (n : ℕ) → n ≡ length (tab tables).stores - 2 → n + 1 < length (tab tables).stores
 layer_before tables n is = omega (arith, is, count_of_all tables)
 

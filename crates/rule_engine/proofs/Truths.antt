@@ -1,11 +1,10 @@
--- Whether the platform has the words of each store's elements: it is told by the cell of the platform alone.
+-- Whether the platform has the words of each store's elements depends only on the cell of the platform.
 use Rattle.std.proofs.Common.{◌≡◌, ◌≢◌, ℕ, ◌+◌, ◌-◌, ◌<◌, List, [], length, map, Bool, true, ◌++◌, take, drop, append-nil, Option, Some, Result, Ok, Err, sym, ◌∙◌, ap, refl, inl, inr, arith, length-set}
-use Rattle.std.specs.Prelude.{MatchResult, is_some, slice_set, unwrap_or}
+use Rattle.std.specs.Prelude.{MatchResult, is_some, unwrap_or}
 use Rattle.std.proofs.lemmas.Bool.Decides.{eqb_tells}
-use Rattle.std.proofs.lemmas.List.{get_or-set_same, length-map}
+use Rattle.std.proofs.lemmas.List.{length-map}
 use Rattle.std.proofs.Math.ListN.{drop_of_length-le}
 use Rattle.std.proofs.Math.Seq.{take-length}
-use Rattle.std.proofs.lemmas.Option.{unwrap_or-slice_get}
 use Rattle.kmn_base.specs.declared.items.Element.{Element}
 use Rattle.kmn_base.specs.declared.items.Element.TheVariants.{Char}
 use Rattle.rule_model.specs.declared.tables.Tables.{Tables}
@@ -15,15 +14,16 @@ use Rattle.rule_model.specs.Plain.{option_names}
 use Rattle.rule_model.specs.System.{has_words}
 use Rattle.rule_model.specs.Tab.{tab, tab_options, with_options}
 use Rattle.rule_model.proofs.SystemOptions.{platform_numbered, content_by_option}
-use Rattle.engine_state.specs.declared.options.Cell.{Cell}
-use Rattle.engine_state.specs.Cells.{cell_at, changed, current_value, first_cell, first_cells, host_cell, save_cell}
-use Rattle.engine_state.specs.Meaning.{option_values}
-use Rattle.engine_state.proofs.FirstCells.{first_cells_count}
-use Rattle.engine_state.proofs.Meaning.{option_value_found, stated_at}
+use Rattle.option_store.specs.declared.options.Cell.{Cell}
+use Rattle.option_store.specs.Cells.{cell_at, changed, current_value, first_cell, first_cells, host_cell, save_cell, set_cell}
+use Rattle.option_store.specs.Meaning.{option_values}
+use Rattle.option_store.proofs.FirstCells.{first_cells_count}
+use Rattle.option_store.proofs.Meaning.{option_value_found, stated_at}
 use Rattle.rule_matching.specs.Moment.{content_at, truths_at}
 use Rattle.rule_engine.specs.Event.{CanAct, moment_with}
 use Rattle.rule_index.proofs.StoreIndexes.{count_of_all}
-use Rattle.rule_engine.proofs.OtherStores.{cell_at_first, cell_elsewhere, others_kept}
+use Rattle.rule_matching.proofs.StoreContents.{elements_held}
+use Rattle.rule_engine.proofs.OtherStores.{Keeps, cell_at_first, cell_elsewhere, cell_there, others_kept, save_keeps}
 
 -- the platform is an option
 platform_is_option : (tables : Tables) → option_number (tab tables).stores Platform ≡ Some (length (option_names (with_options (tab_options tables) 0 tables.stores)) + 1)
@@ -56,14 +56,9 @@ module _ (tables : Tables) where
       → current_value (stated (tab tables).stores) (platform_cell tables cells) ≡ content → truths_at (moment_with tables cells) ≡ truths_by tables content
   truths_told cells content count is = ap (truths_by tables) (platform_content cells count ∙ is)
 
--- ---- what changes it
+-- ---- what changes the truths
 
-cell_there : (cells : List Cell) (n : ℕ) (change : Cell → Cell) → n < length cells → cell_at (changed n change cells) n ≡ change (cell_at cells n)
-cell_there cells n change few =
-    let cell : Cell = change (cell_at cells n) in
-    unwrap_or-slice_get (slice_set cells n cell) n (first_cell n) ∙ get_or-set_same cells n cell (first_cell n) few
-
--- a cell that isn't the last doesn't
+-- if a cell that is not the last one changes, the truths stay
 pub truths_kept : (tables : Tables) (cells after : List Cell) (n : ℕ) (change : Cell → Cell) → length cells ≡ length (tab tables).stores → n + 1 < length (tab tables).stores
     → after ≡ changed n change cells → truths_at (moment_with tables cells) ≡ truths_at (moment_with tables after)
 truths_kept tables cells after n change count before is =
@@ -75,7 +70,7 @@ truths_kept tables cells after n change count before is =
     truths_told tables cells content count refl
     ∙ sym (truths_told tables after content counted (ap (current_value (stated (tab tables).stores)) same))
 
--- also where it is set, or want of memory leaves it
+-- so they do if the cell is set, or if an allocation fails and the cells stay
 pub truths_kept_or_left : {A E : Type 0} (tables : Tables) (cells after : List Cell) (n : ℕ) (change : Cell → Cell) (result : Result A E)
     → length cells ≡ length (tab tables).stores → n < length (tab tables).stores → n ≢ length (tab tables).stores - 1
     → MatchResult result (λ _. after ≡ changed n change cells) (λ _. after ≡ cells)
@@ -84,19 +79,19 @@ truths_kept_or_left tables cells after n change (Ok x) count within other done =
     truths_kept tables cells after n change count (omega (arith, within, other)) done
 truths_kept_or_left tables cells after n change (Err e) count within other done = ap (λ (these : List Cell). truths_at (moment_with tables these)) (sym done)
 
--- so an event acts on
-pub acts_on : (tables : Tables) (cells after : List Cell) (truths : List Bool) (places : ℕ × ℕ) (n : ℕ) (change : Cell → Cell) → CanAct tables cells truths places → n + 1 < length (tab tables).stores
+-- so an event can act on the changed cells
+pub acts_on : (tables : Tables) (cells after : List Cell) (truths : List Bool) (places : ℕ × ℕ) (n : ℕ) (change : Cell → Cell) → CanAct tables cells truths places → n + 1 < length (tab tables).stores → Keeps (tab tables).stores change
     → is_some (option_number (tab tables).stores (Numbered n)) ≡ true → after ≡ changed n change cells → CanAct tables after truths places
-acts_on tables cells after truths places n change can before option is = record {
+acts_on tables cells after truths places n change can before keeps option is = record {
   short = can.short;
   platform = can.platform;
   stores = ap length is ∙ (length-set cells n (change (cell_at cells n)) ∙ can.stores);
-  others = others_kept tables cells after n change option is can.others;
+  others = others_kept tables cells after n change option (omega (arith, before, can.stores)) keeps is can.others;
   right = can.right ∙ truths_kept tables cells after n change can.stores before is;
   places = can.places;
 }
 
--- what is saved doesn't either
+-- if the current value of a cell is saved, the current values stay
 saved_in : (cells : List Cell) (n m : ℕ) (elements : List (List Element)) → n < length cells → current_value elements (cell_at (changed n save_cell cells) m) ≡ current_value elements (cell_at cells m)
 saved_in cells n m elements few = elim (eqb_tells m n) [
   | inl here ↦ ap (λ k. current_value elements (cell_at (changed n save_cell cells) k)) here.1
@@ -115,12 +110,12 @@ acts_on_saved tables cells after truths places n can few option is =
       short = can.short;
       platform = can.platform;
       stores = counted;
-      others = others_kept tables cells after n save_cell option is can.others;
+      others = others_kept tables cells after n save_cell option few (save_keeps stores) is can.others;
       right = can.right ∙ (truths_told tables cells (current_value (stated stores) (platform_cell tables cells)) can.stores refl ∙ sym (truths_told tables after _ counted same));
       places = can.places;
     }
 
--- the last has the text that the host gives it
+-- if the host sets the last cell to a text, the truths are those of the text
 pub truths_given : (tables : Tables) (cells after : List Cell) (n : ℕ) (text : List ℕ) → length cells ≡ length (tab tables).stores → n ≡ length (tab tables).stores - 1
     → after ≡ changed n (host_cell text) cells
     → truths_by tables (map Char text) ≡ truths_at (moment_with tables after)
@@ -131,7 +126,7 @@ truths_given tables cells after n text count last is =
     = (λ i. cell_at (is i) (sym last i)) ∙ cell_there cells n (host_cell text) few in
     sym (truths_told tables after (map Char text) counted (ap (current_value (stated (tab tables).stores)) cell))
 
--- at first it has the elements that it is stated with
+-- at the start the truths are those of the elements that the platform is stated with
 pub truths_at_first : (tables : Tables) (cells : List Cell) (n : ℕ) → cells ≡ first_cells 0 (length (tab tables).stores) → n ≡ length (tab tables).stores - 1
     → truths_by tables (elements_at (tab tables).stores (Some n)) ≡ truths_at (moment_with tables cells)
 truths_at_first tables cells n are last =
@@ -141,9 +136,36 @@ truths_at_first tables cells n are last =
     let counted : length cells ≡ length all = ap length are ∙ first_cells_count 0 (length all) in
     sym (truths_told tables cells (elements_at all (Some n)) counted (ap (current_value (stated all)) cell ∙ stated_at all n))
 
+-- ---- after a store is held
+
+module _ (tables : Tables) (cells after : List Cell) (n value : ℕ) (count : length cells ≡ length (tab tables).stores) (is : after ≡ changed n save_cell (changed n (set_cell value) cells)) where
+  -- the first of the two changes
+  abbrev first : List Cell
+  first = changed n (set_cell value) cells
+
+  first_counted : length first ≡ length (tab tables).stores
+  first_counted = length-set cells n (set_cell value (cell_at cells n)) ∙ count
+
+  -- if the store is not the last one, the truths stay
+  pub truths_kept_held : n < length (tab tables).stores → n ≢ length (tab tables).stores - 1 → truths_at (moment_with tables cells) ≡ truths_at (moment_with tables after)
+  truths_kept_held within other =
+      let before : n + 1 < length (tab tables).stores = omega (arith, within, other) in
+      truths_kept tables cells first n (set_cell value) count before refl ∙ truths_kept tables first after n save_cell first_counted before is
+
+  -- if the store is the last one, the truths are those of the elements of the store that it holds
+  pub truths_held : n ≡ length (tab tables).stores - 1 → truths_by tables (elements_at (tab tables).stores (Some value)) ≡ truths_at (moment_with tables after)
+  truths_held last =
+      let all : List StoreMeaning = (tab tables).stores in
+      let few : n < length cells = omega (arith, count, last, count_of_all tables) in
+      let long : n < length first = omega (arith, first_counted, last, count_of_all tables) in
+      let counted : length after ≡ length all = ap length is ∙ (length-set first n (save_cell (cell_at first n)) ∙ first_counted) in
+      let cell : platform_cell tables after ≡ save_cell (set_cell value (cell_at cells n))
+      = (λ i. cell_at (is i) (sym last i)) ∙ (cell_there first n save_cell long ∙ ap save_cell (cell_there cells n (set_cell value) few)) in
+      sym (truths_told tables after (elements_at all (Some value)) counted (ap (current_value (stated all)) cell ∙ sym (elements_held tables (cell_at cells n).text value)))
+
 -- ---- written in place
 
--- a list that is written over by one as long is that one
+-- a list that is written over by one of the same length is that one
 pub written_over : {X : Type 0} (n : ℕ) (before new : List X) → n ≡ length before → length new ≡ length before → take n (new ++ drop (length new) before) ≡ new
 written_over n before new count same =
     let none : drop (length new) before ≡ [] = drop_of_length-le before (omega (arith, same)) in

@@ -1,4 +1,4 @@
--- What an engine is, and what a press and a new text make of it.
+-- The state of an engine, and how a press, a new text and the host change it.
 use Rattle.std.specs.Prelude.{◌≡◌, ◌≤◌, ℕ, List, [], length, map, Option, Some, None, Bool, position, slice_get, slice_set}
 use Rattle.kmn_base.specs.declared.items.Item.{Item}
 use Rattle.kmn_base.specs.declared.items.Element.{Element}
@@ -15,16 +15,16 @@ use Rattle.rule_model.specs.KeyEvent.{begin_event, after_key, outcome_of, insert
 use Rattle.rule_model.specs.ChosenLines.{lines_of_press}
 use Rattle.rule_model.specs.Tab.{tab}
 use Rattle.rule_model.specs.Trace.{options_of, first_state}
-use Rattle.engine_state.specs.declared.options.Cell.{Cell}
-use Rattle.engine_state.specs.Meaning.{option_values, option_saves}
+use Rattle.option_store.specs.declared.options.Cell.{Cell}
+use Rattle.option_store.specs.Meaning.{option_values, option_saves}
 use Rattle.rule_index.specs.Stores.{HaveFewElements}
-use Rattle.engine_state.specs.Cached.{CacheValue}
-use Rattle.engine_state.specs.Texts.{InsertedValue}
+use Rattle.event_text.specs.Boxed.{CacheValue}
+use Rattle.event_text.specs.Texts.{InsertedValue}
 use Rattle.rule_matching.specs.Moment.{truths_at}
 use Rattle.rule_engine.specs.Event.{HasPlaces, HasRoom, HasShortContexts, HaveFewRecords, OthersHoldThemselves, PlatformStays, moment_with}
 
--- an engine: its tables, the last items before the caret, of each option, in order, the current value and the saved one, what
--- the last press inserted, and the lines of the rules that it chose
+-- the state of an engine: its tables, the last items before the caret, the current and the saved value of each option in order, what the
+-- last press inserted, and the lines of the rules that were chosen for it
 pub record EngineState : Type 0 where
   pub tables : Tables
   pub context : List Item
@@ -33,15 +33,15 @@ pub record EngineState : Type 0 where
   pub inserted : List ℕ
   pub chosen : List ℕ
 
--- it has no more items than a window, a current and a saved value for each option, and a press inserts no more characters
--- than it may put items
+-- an engine has at most as many context items as a window, a current and a saved value for each option, and at most as many inserted
+-- characters as a press may put items
 pub record IsEngine (engine : EngineState) : Type 0 where
   pub few : length engine.context ≤ WINDOW_ITEMS
   pub current : length engine.current ≡ length (options_of (tab engine.tables).stores)
   pub saved : length engine.saved ≡ length (options_of (tab engine.tables).stores)
   pub inserted : length engine.inserted ≤ EVENT_PUTS
 
--- before the first event: an empty text, each option with its elements, none saved, nothing inserted and no rule chosen
+-- the engine before the first event: an empty text, each option with its elements, no saved value, nothing inserted and no rule chosen
 abbrev pub first_engine : Tables → EngineState
 first_engine tables =
     record {
@@ -53,8 +53,8 @@ first_engine tables =
       chosen = [];
     }
 
--- the engine of these tables with these last items, with the values that cells stand for, with what a press inserted and the lines
--- of the rules that it chose
+-- the engine with these tables and last items, with the values that cells denote, what a press inserted, and the lines of the rules that
+-- were chosen for it
 abbrev pub engine_with : Tables → List Item → List Cell → List ℕ → List ℕ → EngineState
 engine_with tables context cells inserted chosen =
     record {
@@ -66,8 +66,8 @@ engine_with tables context cells inserted chosen =
       chosen = chosen;
     }
 
--- tables that can be run: a context has no more items than are caught, a group no more records and a store no more elements
--- than are indexed, there are no more stores than a file may have, and no output changes the platform
+-- tables that can be run: no context has more items than can be caught, no group has more records and no store has more elements than can
+-- be indexed, there are no more stores than a file may have, and no output changes the platform
 pub record IsRunnable (tables : Tables) : Type 0 where
   pub short : HasShortContexts tables
   pub few : HaveFewRecords tables.groups
@@ -75,9 +75,8 @@ pub record IsRunnable (tables : Tables) : Type 0 where
   pub stores : length tables.stores ≤ STORES
   pub platform : PlatformStays tables
 
--- what an engine is made of: tables that can be run, the last items, a cell for each store, where one that is no option holds
--- itself, for each store whether the platform has the words of its elements, and room for a press and for the places that are
--- found in it
+-- the parts of an engine: tables that can be run, the last items, a cell for each store, where a store that is not an option holds itself,
+-- for each store whether the platform has the words of its elements, and space for a press and for the places that it finds
 pub record IsAtWork (tables : Tables) (cache : CacheValue) (cells : List Cell) (truths : List Bool) (inserted : InsertedValue) (lines : ℕ) (rooms : ℕ × ℕ) : Type 0 where
   pub runnable : IsRunnable tables
   pub few : length cache.items ≤ WINDOW_ITEMS
@@ -88,7 +87,7 @@ pub record IsAtWork (tables : Tables) (cache : CacheValue) (cells : List Cell) (
   pub room : HasRoom cache inserted lines
   pub places : HasPlaces tables rooms
 
--- how a press begins, where the text before the caret is read again first, and what it leaves
+-- the state in which a press begins, after the text before the caret is read again, and the state that the press leaves
 abbrev pub begun : List ℕ → EngineState → EventState
 begun text engine = begin_event (read_again engine.context text) engine.current engine.saved
 
@@ -112,7 +111,7 @@ press_leaves text press engine =
       chosen = lines_of_press (tab engine.tables) press (begun text engine);
     }
 
--- the name of a store of a keyboard, the layer and the platform among them; empty where there is no such store
+-- the name of a store of a keyboard, including the layer and the platform, or empty if there is no such store
 abbrev pub name_in : Option StoreMeaning → List ℕ
 name_in None = []
 name_in (Some store) = store.name
@@ -124,11 +123,11 @@ name_of tables store = name_in (slice_get (tab tables).stores store)
 abbrev pub synced : List ℕ → EngineState → EngineState
 synced text engine = record engine { context = window (read_again engine.context text) }
 
--- the option of a name: the first store that has it, the layer and the platform behind those of the file
+-- the number of the first option that has a name; the layer and the platform come after the stores of the file
 abbrev pub option_named : List ℕ → EngineState → Option ℕ
 option_named name engine = position (has_name name) (first_state (tab engine.tables)).names
 
--- an option that there may be gets a value from the host, as current and as saved one
+-- the engine after the host sets an option, if there is one, to a value, as its current and as its saved value
 abbrev pub with_option : Option ℕ → List Element → EngineState → EngineState
 with_option None value engine = engine
 with_option (Some option) value engine =

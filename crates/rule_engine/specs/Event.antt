@@ -1,4 +1,4 @@
--- The state inside an event as the engine has it: the tables, the lent text, and the state of the event that they stand for.
+-- The state inside an event as the engine has it: the tables, the caller's text, and the state of the event that they represent.
 use Rattle.std.specs.Prelude.{◌≡◌, ◌<◌, ◌≤◌, ℕ, Bool, List, None, length, All}
 use Rattle.kmn_base.specs.declared.limits.TheConstants.{EVENT_ENTRIES, EVENT_PUTS, RECORDS, WINDOW_ITEMS}
 use Rattle.rule_model.specs.declared.event_state.EventState.{EventState}
@@ -7,40 +7,40 @@ use Rattle.rule_model.specs.declared.tables.Out.{Out}
 use Rattle.rule_model.specs.declared.tables.Out.TheVariants as output
 use Rattle.rule_model.specs.declared.tables.Rule.{Rule}
 use Rattle.rule_model.specs.declared.tables.Tables.{Tables}
-use Rattle.rule_model.specs.Keyboard.{Ref, Numbered, Keyboard}
+use Rattle.rule_model.specs.Keyboard.{Ref, Numbered, Keyboard, StoreMeaning}
 use Rattle.rule_model.specs.Content.{option_number}
 use Rattle.rule_model.specs.Match.{Content}
 use Rattle.rule_model.specs.Act.{content_now}
 use Rattle.rule_model.specs.Enter.{enter_group}
 use Rattle.rule_model.specs.ChosenLines.{Adding, add_lines}
 use Rattle.rule_model.specs.Tab.{tab}
-use Rattle.engine_state.specs.declared.options.Cell.{Cell}
-use Rattle.engine_state.specs.Cells.{cell_at, first_cell}
-use Rattle.engine_state.specs.Meaning.{option_values}
-use Rattle.engine_state.specs.Cached.{CacheValue}
-use Rattle.engine_state.specs.Texts.{InsertedValue}
-use Rattle.rule_matching.specs.Moment.{MomentValue, AreShort, truths_at}
+use Rattle.option_store.specs.declared.options.Cell.{Cell}
+use Rattle.option_store.specs.Cells.{cell_at, first_cell}
+use Rattle.option_store.specs.Meaning.{option_values, option_saves}
+use Rattle.event_text.specs.Boxed.{CacheValue}
+use Rattle.event_text.specs.Texts.{InsertedValue}
+use Rattle.rule_matching.specs.Moment.{AreApart, MomentValue, AreShort, truths_at}
 use Rattle.rule_engine.specs.declared.entering.Entering.{Entering}
 
--- an event on tables and on a text that is lent, with its state and the lines of the rules that it chose
+-- an event on tables and on a borrowed text, with its state and the lines of the rules that it selected
 pub record EventValue : Type 0 where
   pub tables : Tables
   pub lent : List ℕ
   pub state : EventState
   pub lines : List ℕ
 
--- its keyboard, and what each store has at this moment
+-- the keyboard of an event, and what each store has in its state
 abbrev pub keyboard_of : EventValue → Keyboard
 keyboard_of event = tab event.tables
 
 abbrev pub content_in : EventValue → Content
 content_in event = content_now (keyboard_of event) event.state
 
--- its keyboard at this moment
+-- the keyboard of an event in its state
 abbrev pub moment_of : EventValue → MomentValue
 moment_of event = record { tables = event.tables; current = event.state.current }
 
--- tables at a moment, with the values that cells stand for
+-- tables with the option values that cells represent
 abbrev pub moment_with : Tables → List Cell → MomentValue
 moment_with tables cells = record { tables = tables; current = option_values (tab tables).stores cells }
 
@@ -48,31 +48,32 @@ moment_with tables cells = record { tables = tables; current = option_values (ta
 abbrev pub enters : EventValue → Entering → Ref → EventState → EventState
 enters event entering = enter_group entering.depth (keyboard_of event) entering.press
 
--- which lines an entering adds where it enters a group
+-- the lines that an entering adds when it enters a group
 abbrev pub adds : EventValue → Entering → Adding
 adds event entering = add_lines entering.depth (keyboard_of event) entering.press
 
--- an event notes at most one line for each group that it enters, enters no more groups than it may, and has room for their lines
+-- an event notes at most one line for each group that it enters, enters at most the allowed number of groups, and has space for
+-- their lines
 pub record HasNoted (lines : List ℕ) (entered room : ℕ) : Type 0 where
   pub few : length lines ≤ entered
   pub allowed : entered ≤ EVENT_ENTRIES
   pub places : room ≡ EVENT_ENTRIES
 
--- room for an event: for the last items, for what it inserts and for the lines that it notes
+-- the space of an event: for the last items, for what it inserts and for the lines that it notes
 pub record HasRoom (cache : CacheValue) (inserted : InsertedValue) (lines : ℕ) : Type 0 where
   pub items : cache.room ≡ WINDOW_ITEMS
   pub text : inserted.room ≡ EVENT_PUTS
   pub noted : lines ≡ EVENT_ENTRIES
 
--- what an item of an output sets or resets is a store of the file, of which there are so many, or the layer; a value is that of
--- such a store too
+-- the store that an item of an output sets or resets is one of the `count` stores of the file or the layer, and so is the store
+-- whose value it takes
 abbrev pub ChangesOwn : ℕ → Out → Type 0
 ChangesOwn count (output.Set store value) = (store < count) × (value < count)
 ChangesOwn count (output.SetSystem id value) = (id ≡ 33) × (value < count)
 ChangesOwn count (output.Reset store) = store < count
 ChangesOwn count _ = Unit {0}
 
--- so does each item of an output, of a rule, and of all that a group puts out
+-- each item of an output, of a rule, and of all that a group outputs changes such a store only
 abbrev pub AllChangeOwn : ℕ → List Out → Type 0
 AllChangeOwn count output = All (ChangesOwn count) output
 
@@ -84,7 +85,7 @@ pub record GroupChangesOwn (count : ℕ) (group : Group) : Type 0 where
   pub on_match : AllChangeOwn count group.on_match
   pub on_nomatch : AllChangeOwn count group.on_nomatch
 
--- so the content of the platform stays in an event
+-- the content of the platform stays the same during an event
 abbrev pub PlatformStays : Tables → Type 0
 PlatformStays tables = All (GroupChangesOwn (length tables.stores)) tables.groups
 
@@ -96,17 +97,25 @@ HasShortContexts tables = All (λ (group : Group). AreShort group.rules) tables.
 abbrev pub HaveFewRecords : List Group → Type 0
 HaveFewRecords groups = All (λ (group : Group). length group.rules ≤ RECORDS) groups
 
--- for each store there is room for the place of an item in it, and for a mark
+-- for each store there is space for the position of an item in it, and for a flag
 abbrev pub HasPlaces : Tables → ℕ × ℕ → Type 0
 HasPlaces tables rooms = rooms ≡ (length (tab tables).stores, length (tab tables).stores)
 
--- each store that is no option holds itself, with nothing saved and no text of the host
+-- each store that is not an option holds itself, with no saved value and no text of the host, and each text of the host that a cell
+-- holds differs from what each store is stated with
 pub record OthersHoldThemselves (tables : Tables) (cells : List Cell) : Type 0 where
   pub itself : (store : ℕ) → option_number (tab tables).stores (Numbered store) ≡ None → cell_at cells store ≡ first_cell store
+  pub apart : AreApart (tab tables).stores cells
 
--- what holds while an event acts on tables: no context has more items than are caught, no output changes the platform, there is
--- a cell for each store, where one that is no option holds itself, it is right of each store whether the platform has the words
--- of its elements, and there is room for the places that are found
+-- two lists of cells hold the same current and saved value of each option, by a store or by a text of the host
+pub record HoldTheSame (stores : List StoreMeaning) (cells others : List Cell) : Type 0 where
+  pub current : option_values stores cells ≡ option_values stores others
+  pub saved : option_saves stores cells ≡ option_saves stores others
+  pub count : length cells ≡ length others
+
+-- the properties of an event's parts while it acts on tables: no context has more items than are caught, no output changes the
+-- platform, there is a cell for each store, a store that is not an option holds itself, the truths state of each store whether the
+-- platform has the words of its elements, and there is space for the positions that are found
 pub record CanAct (tables : Tables) (cells : List Cell) (truths : List Bool) (rooms : ℕ × ℕ) : Type 0 where
   pub short : HasShortContexts tables
   pub platform : PlatformStays tables

@@ -1,15 +1,16 @@
 ghost use Rattle.std.specs.Prelude.{◌≡◌, map};
-ghost use Rattle.rule_model.specs.Dictionary.{name_chars};
-ghost use Rattle.rule_model.specs.Fits.{char_of_press};
+ghost use Rattle.virtual_keys.specs.Dictionary.{name_chars};
+ghost use Rattle.virtual_keys.specs.Fits.{char_of_press};
 ghost use Rattle.rule_model.specs.Act.{put_items};
 ghost use Rattle.rule_model.specs.Enter.{put_press, put_named, by_default};
 ghost use Rattle.rule_engine.specs.Event.{keyboard_of};
 
 use crate::event::PressEvent;
 use kmn_base::{Item, KeyPress};
-use rule_model::{char_of, named_chars};
+use virtual_keys::{char_of, named_chars};
 
-/// A press that is no key of the dictionary puts the character that it gives.
+/// Performs the default of a key press that is not in the key dictionary: outputs the character of the press. If the press has
+/// no character, deletes back or passes the key on.
 fn put_press(press: KeyPress, event: &mut PressEvent)
     ensures { event.new ≡ record event.old { state = put_press press (char_of_press press) event.old.state } }
 {
@@ -19,7 +20,7 @@ fn put_press(press: KeyPress, event: &mut PressEvent)
     }
 }
 
-/// Puts characters.
+/// Outputs characters.
 fn put_chars(chars: &[char], event: &mut PressEvent)
     ensures { event.new ≡ record event.old { state = put_items (map Item.Char chars.now) event.old.state } }
 {
@@ -28,7 +29,7 @@ fn put_chars(chars: &[char], event: &mut PressEvent)
     }
 }
 
-/// A name that stands for characters puts them, any other does nothing.
+/// Outputs the characters that a key name represents. A name that represents no characters has no effect.
 fn put_named(name: &[u8], event: &mut PressEvent)
     ensures { event.new ≡ record event.old { state = put_named (name_chars name.now) event.old.state } }
 {
@@ -37,7 +38,7 @@ fn put_named(name: &[u8], event: &mut PressEvent)
     }
 }
 
-/// The default of a group with keys.
+/// Performs the default of a group with keys.
 #[tactic(auto, unfolding(rule_model::specs::Enter::by_default))]
 pub fn by_default(press: KeyPress, event: &mut PressEvent)
     ensures { event.new ≡ record event.old { state = by_default (keyboard_of event.old) press event.old.state } }

@@ -1,8 +1,8 @@
 ghost use Rattle.std.specs.Prelude.{◌≡◌, ◌<◌, ◌≤◌, ◌+◌, ◌^◌, length, option_map, vec_capacity, IfOk, MatchResult, is_some};
 ghost use Rattle.kmn_base.specs.declared.limits.TheConstants.{EVENT_ENTRIES, EVENT_PUTS, STORES};
 ghost use Rattle.kmx_format.specs.TablesOf.{tables_of};
-ghost use Rattle.engine_state.specs.Cells.{held_value};
-ghost use Rattle.engine_state.specs.Meaning.{option_values, option_saves};
+ghost use Rattle.option_store.specs.Cells.{held_value};
+ghost use Rattle.option_store.specs.Meaning.{option_values, option_saves};
 ghost use Rattle.rule_model.specs.Content.{content};
 ghost use Rattle.rule_model.specs.Keyboard.{Numbered, stated};
 ghost use Rattle.rule_model.specs.Plain.{option_numbers};
@@ -16,25 +16,25 @@ use crate::entering::press;
 use crate::event::{AfterPress, PressEvent};
 use crate::naming::{name_of, store_named};
 use crate::workspace::Workspace;
-use engine_state::{Held, Options};
 use kmn_base::{Item, KeyPress, Memory, Outcome, Seq, Text};
 use kmx_parts::FileTables;
 use kmx_verifier::Verified;
+use option_store::{Held, Options};
 use rule_index::IndexedKeyboard;
 use rule_matching::StoreValue;
-use rule_model::KeyDictionary;
 use std::alloc::Global;
 use std::marker::Model;
 use std::mem;
 use std::sync::Arc;
+use virtual_keys::KeyDictionary;
 
-/// A keyboard at work: a file with what is looked up in it, which the engines on the file share, and what an event works on.
+/// A keyboard at work: a compiled keyboard with its index, which all engines on the file share, and what an event works on.
 pub struct Engine<'a> {
     indexed: Arc<IndexedKeyboard<'a>>,
     workspace: Workspace,
 }
 
-/// One call in proofs, where a derived drop is written out in each exit.
+/// One call in proofs. A derived drop would be written out in each exit.
 impl Drop for Engine<'_> {
     fn drop(self) {
         let Engine {
@@ -65,7 +65,7 @@ impl<'a> Model for Engine<'a> {
         (vec_capacity engine.workspace.chosen) (rooms engine.workspace.places) };
 }
 
-/// How many stores the keyboard of a file has: the layer and the platform stand behind those of the file.
+/// Returns the number of stores of a file's keyboard: the stores of the file, then the layer and the platform.
 #[tactic(auto, using(rule_index::proofs::StoreIndexes::count_of_all))]
 fn keyboard_stores(file: &FileTables<'_>) -> u32
     requires { length file.now.stores ≤ STORES }
@@ -79,7 +79,8 @@ impl<'a> Engine<'a> {
     ghost use Rattle.rule_engine.specs.Engine.{IsEngine, first_engine, name_of, option_named, set_by_host, synced};
     ghost use Rattle.rule_matching.specs.Moment.{saved_of};
 
-    /// The engine of a file: an empty text, each option with its elements, and none saved.
+    /// Creates the engine of a file: an empty text, each option with its elements, and no saved value. Errors: `Memory` if an
+    /// allocation fails.
     #[tactic(auto, using(crate::proofs::Runnable::playable_is_runnable))]
     pub fn start(alloc: Global, file: &Verified<'a>) -> Result<Engine<'a>, Memory>
         ensures { IfOk result (λ engine. engine ≡ first_engine (tables_of file.now)) }
@@ -87,7 +88,7 @@ impl<'a> Engine<'a> {
         Engine::with_parts(alloc, file.parts())
     }
 
-    /// The engine of a file that can be run.
+    /// Creates the engine of a file whose tables can be run. Errors: `Memory` if an allocation fails.
     #[tactic(auto, using(crate::proofs::Engines::first_is_at_work, crate::proofs::Engines::first_values))]
     fn with_parts(alloc: Global, file: FileTables<'a>) -> Result<Engine<'a>, Memory>
         requires { IsRunnable file }
@@ -102,7 +103,8 @@ impl<'a> Engine<'a> {
         })
     }
 
-    /// A new engine on the same file, as `start` gives it. The file isn't walked again: both share what is looked up in it.
+    /// Creates a new engine on the same file, in the state that `start` returns. Both engines share the index, so the file isn't
+    /// scanned again. Errors: `Memory` if an allocation fails.
     #[tactic(auto, using(crate::proofs::Engines::first_is_at_work, crate::proofs::Engines::first_values))]
     pub fn fresh(&self, alloc: Global) -> Result<Engine<'a>, Memory>
         ensures { IfOk result (λ engine. engine ≡ first_engine self.now.tables) }
@@ -115,7 +117,8 @@ impl<'a> Engine<'a> {
         })
     }
 
-    /// An engine on the same file and in the same state. The file isn't walked again.
+    /// Copies the engine with its state. Both engines share the index, so the file isn't scanned again. Errors: `Memory` if an
+    /// allocation fails.
     pub fn copy(&self, alloc: Global) -> Result<Engine<'a>, Memory>
         ensures { IfOk result (λ engine. engine ≡ self.now) }
     {
@@ -126,9 +129,9 @@ impl<'a> Engine<'a> {
         })
     }
 
-    /// Presses a key where the text before the caret is `left`, which is read again first. The answer tells the edit: so
-    /// many characters at the end of `left` are deleted, and `inserted` stands there then. A key that is passed on leaves
-    /// the editor's default to the caller.
+    /// Presses a key. `left` is the text before the caret, which is read again first. The outcome describes the edit: delete that
+    /// many characters at the end of `left`, then insert the text that `inserted` returns. If the key is passed on, the caller does
+    /// what its editor does by default.
     pub fn key(&mut self, left: &[char], press: KeyPress) -> Outcome
         requires { length left.now < 2 ^ 32 }
         ensures outcome { result ≡ press_outcome left.now press self.old }
@@ -141,8 +144,8 @@ impl<'a> Engine<'a> {
         done.outcome
     }
 
-    /// What a press would do where the text before the caret is `left`; nothing changes. What an event works on is copied for it,
-    /// and neither the text nor what is looked up in the file.
+    /// Returns what a press would do if the text before the caret were `left`, and does not change the engine. It copies what an
+    /// event works on, but neither the text nor the index. Errors: `Memory` if an allocation fails.
     pub fn preview(&self, alloc: Global, left: &[char], press: KeyPress) -> Result<Preview, Memory>
         requires { length left.now < 2 ^ 32 }
         ensures outcome { IfOk result (λ preview. preview.outcome ≡ press_outcome left.now press self.now) }
@@ -157,7 +160,7 @@ impl<'a> Engine<'a> {
         })
     }
 
-    /// The characters that the last press inserted; none before the first press.
+    /// Returns the characters that the last press inserted, and an empty slice before the first press.
     pub fn inserted(&self) -> &[char]
         ensures value { result.now ≡ self.now.inserted }
         ensures few { length result.now ≤ EVENT_PUTS }
@@ -165,7 +168,8 @@ impl<'a> Engine<'a> {
         self.workspace.inserted.as_slice()
     }
 
-    /// The lines of the rules that the last press chose, in the order in which their groups were entered; none before the first press.
+    /// Returns the source lines of the rules that the last press selected, in the order in which their groups were entered, and an
+    /// empty slice before the first press.
     pub fn chosen(&self) -> &[u32]
         ensures value { result.now ≡ self.now.chosen }
         ensures few { length result.now ≤ EVENT_ENTRIES }
@@ -173,7 +177,7 @@ impl<'a> Engine<'a> {
         self.workspace.chosen.as_slice()
     }
 
-    /// The last 64 items before the caret, or all where there are fewer. All marks are among them.
+    /// Returns the last 64 items before the caret, or all of them if there are fewer. All marks are among them.
     pub fn context(&self) -> &[Item]
         ensures value { result.now ≡ self.now.context }
         ensures engine { IsEngine self.now }
@@ -181,7 +185,7 @@ impl<'a> Engine<'a> {
         self.workspace.cache.items()
     }
 
-    /// Reads the text before the caret again. Marks keep their places where the text still stands around them.
+    /// Reads the text before the caret again. A mark keeps its position if the text around it is the same.
     #[tactic(auto, using(crate::proofs::Windows::window_is_few))]
     pub fn sync(&mut self, left: &[char])
         requires { length left.now < 2 ^ 32 }
@@ -190,9 +194,9 @@ impl<'a> Engine<'a> {
         self.workspace.cache.sync(left);
     }
 
-    /// The host gives the option of a name a value, as current and as saved one: the first store that has the name, without
-    /// ASCII case, else the layer or the platform, which are named `&layer` and `&platform`; a store without a name is found by
-    /// none. The answer tells whether there is such an option.
+    /// Sets the current and the saved value of the option with a name. Names are compared without ASCII case. The first store with
+    /// the name is found, then the layer (`&layer`) and the platform (`&platform`). A store without a name is never found. Returns
+    /// whether there is such an option. Errors: `Memory` if an allocation fails.
     pub fn setting(&mut self, alloc: Global, name: &[u8], value: &[char]) -> Result<bool, Memory>
         ensures found { IfOk result (λ found. found ≡ is_some (option_named name.now self.old)) }
         ensures engine { MatchResult result (λ _. self.new ≡ set_by_host name.now value.now self.old) (λ _. self.new ≡ self.old) }
@@ -202,11 +206,11 @@ impl<'a> Engine<'a> {
         let Some(store) = named else {
             return Ok(false);
         };
-        self.workspace.host_set(alloc, indexed, store, value)?;
+        self.workspace.set_option(alloc, indexed, store, value)?;
         Ok(true)
     }
 
-    /// What each store holds, and behind those of the file the layer and the platform.
+    /// Returns what each store holds: the stores of the file, then the layer and the platform.
     pub fn options(&self) -> &Options
         ensures current { option_values (tab self.now.tables).stores result.now ≡ self.now.current }
         ensures saved { option_saves (tab self.now.tables).stores result.now ≡ self.now.saved }
@@ -216,57 +220,58 @@ impl<'a> Engine<'a> {
         &self.workspace.options
     }
 
-    /// How many stores there are, the layer and the platform among them.
+    /// Returns the number of stores, with the layer and the platform.
     pub fn store_count(&self) -> u32
         ensures { result ≡ length (tab self.now.tables).stores }
     {
         self.indexed.store_count()
     }
 
-    /// The name of a store, or of the layer or the platform, which have the two numbers behind those of the file; empty where it
-    /// has none or there is no such store.
+    /// Returns the name of a store. The layer and the platform have the two numbers after those of the file. The name is empty if
+    /// the store has none or does not exist. Errors: `Memory` if an allocation fails.
     pub fn name(&self, alloc: Global, store: u32) -> Result<Text, Memory>
         ensures { IfOk result (λ name. name ≡ name_of self.now.tables store) }
     {
         name_of(alloc, &self.indexed, store)
     }
 
-    /// The tables of the file.
+    /// Returns the tables of the file.
     pub fn file(&self) -> FileTables<'a>
         ensures { result ≡ self.now.tables }
     {
         self.indexed.file()
     }
 
-    /// The names of the file's own keys.
+    /// Returns the names of the file's custom keys.
     pub fn names(&self) -> &KeyDictionary
         ensures { result.now ≡ (tab self.now.tables).dictionary }
     {
         self.indexed.names()
     }
 
-    /// The option number of each store; None for a store that is no option.
+    /// Returns the option number of each store, and None for a store that is not an option.
     pub fn option_numbers(&self) -> &[Option<usize>]
         ensures { result.now ≡ option_numbers 0 (tab self.now.tables).stores }
     {
         self.indexed.numbers()
     }
 
-    /// What a store has: the current value of an option, else its elements; nothing where there is no such store.
+    /// Returns what a store has: the current value of an option, else the store's own elements. A store that does not exist has no
+    /// elements.
     pub fn content(&self, store: u32) -> StoreValue<'_>
         ensures { elements_in result ≡ content (tab self.now.tables).stores self.now.current (Numbered store) }
     {
         rule_matching::content(&self.indexed, &self.workspace.options, store)
     }
 
-    /// The saved value of a store, None where nothing is saved or the store is no option.
+    /// Returns the saved value of a store, and None if no value is saved or the store is not an option.
     pub fn saved_of(&self, store: u32) -> Option<StoreValue<'_>>
         ensures { option_map elements_in result ≡ saved_of (tab self.now.tables).stores self.now.saved store }
     {
         rule_matching::saved_of(&self.indexed, &self.workspace.options, store)
     }
 
-    /// What is held: the elements of a store, or this text of the host.
+    /// Returns what is held: the elements of a store, or this text of the host.
     #[tactic(auto, using(rule_matching::proofs::StoreContents::elements_held))]
     pub fn held<'c>(&'c self, held: Held, text: &'c [char]) -> StoreValue<'c>
         ensures { elements_in result ≡ held_value (stated (tab self.now.tables).stores) text.now held }

@@ -21,14 +21,14 @@ use rule_index::RuleIndex;
 use rule_matching::{MatchedItems, item_caught};
 use rule_model::Out;
 
-/// A press that enters groups, with so many entries inside one another that may still come.
+/// A key press that enters groups, and the number of nested entries that are still allowed.
 #[derive(Clone, Copy)]
 pub struct Entering {
     pub press: KeyPress,
     pub depth: u32,
 }
 
-/// What one item of an output does.
+/// Performs one item of an output.
 #[cycle(acts)]
 fn act_one(entering: Entering, caught: &MatchedItems, output: Out, event: &mut PressEvent)
     requires { ChangesOwn (length event.old.tables.stores) output }
@@ -55,7 +55,7 @@ fn act_one(entering: Entering, caught: &MatchedItems, output: Out, event: &mut P
     }
 }
 
-/// What the next item of an output does, unless the event is stopped.
+/// Performs the next item of an output, unless the event is stopped.
 #[cycle(acts)]
 fn act_next(entering: Entering, caught: &MatchedItems, output: Out, event: &mut PressEvent)
     requires { ChangesOwn (length event.old.tables.stores) output }
@@ -71,7 +71,7 @@ fn act_next(entering: Entering, caught: &MatchedItems, output: Out, event: &mut 
     }
 }
 
-/// The items of an output act in order; once the event is stopped nothing changes.
+/// Performs the items of an output in order. Once the event is stopped, the remaining items have no effect.
 #[cycle(acts)]
 fn act(entering: Entering, caught: &MatchedItems, outputs: Outputs<'_>, event: &mut PressEvent)
     requires { AllChangeOwn (length event.old.tables.stores) outputs }
@@ -87,7 +87,7 @@ fn act(entering: Entering, caught: &MatchedItems, outputs: Outputs<'_>, event: &
     }
 }
 
-/// Enters a group, or ends the event where no more may be entered.
+/// Enters a group, or stops the event if no more entries are allowed.
 #[cycle(acts)]
 fn enter_if_allowed(entering: Entering, group: u32, event: &mut PressEvent)
     ensures { event.new ≡ record event.old {
@@ -102,7 +102,7 @@ fn enter_if_allowed(entering: Entering, group: u32, event: &mut PressEvent)
     }
 }
 
-/// Takes what a record has matched.
+/// Removes the items that a record has matched.
 fn take(caught: &MatchedItems, event: &mut PressEvent)
     ensures { event.new ≡ record event.old {
       state = record event.old.state {
@@ -113,8 +113,8 @@ fn take(caught: &MatchedItems, event: &mut PressEvent)
     event.take(caught.item_count());
 }
 
-/// A chosen record: its line is noted, its items are taken, its output acts, then the group's match output, for which nothing is
-/// caught.
+/// Performs a selected record: notes its line, removes its items, performs its output, and then the group's match output, for
+/// which nothing is caught.
 #[cycle(acts)]
 fn do_chosen(
     entering: Entering,
@@ -141,7 +141,8 @@ fn do_chosen(
     act(entering, caught, group.on_match(), event);
 }
 
-/// Where no record holds: the nomatch output, for which nothing is caught, else the default of a group with keys.
+/// Performs a group in which no record holds: its nomatch output, for which nothing is caught. If it has none and the group has
+/// keys, performs the default.
 #[cycle(acts)]
 fn do_unmatched(
     entering: Entering,
@@ -165,7 +166,7 @@ fn do_unmatched(
     }
 }
 
-/// What a group does.
+/// Performs a group.
 #[cycle(acts)]
 fn do_group(entering: Entering, group: &FileGroup<'_>, records: &RuleIndex, event: &mut PressEvent)
     requires short { AreShort group.now.rules }
@@ -186,7 +187,7 @@ fn do_group(entering: Entering, group: &FileGroup<'_>, records: &RuleIndex, even
     }
 }
 
-/// What the group of a number does, if there is one.
+/// Performs the group with a number, if there is one.
 #[cycle(acts)]
 #[tactic(auto, using(crate::proofs::Contexts::short_in_group, crate::proofs::Contexts::own_in_group))]
 fn in_group(entering: Entering, group: u32, event: &mut PressEvent)
@@ -203,7 +204,7 @@ fn in_group(entering: Entering, group: u32, event: &mut PressEvent)
     }
 }
 
-/// Enters a group.
+/// Enters a group, or stops the event if no more nested entries are allowed.
 #[cycle(acts)]
 #[tactic(auto, using(rule_model::proofs::PlainKeyboard::enter_more, rule_model::proofs::MoreLines::more_lines))]
 fn enter(entering: Entering, group: u32, event: &mut PressEvent)
@@ -225,7 +226,7 @@ fn enter(entering: Entering, group: u32, event: &mut PressEvent)
     in_group(inside, group, event);
 }
 
-/// What a press leaves of an event, before which no rule was chosen.
+/// Performs a key press in an event in which no rule has been selected yet.
 #[tactic(auto, unfolding(rule_model::specs::KeyEvent::after_key, rule_model::specs::ChosenLines::lines_of_press, rule_model::specs::Tab::tab))]
 pub fn press(press: KeyPress, event: &mut PressEvent)
     requires entered { event.old.state.entered ≡ 0 }

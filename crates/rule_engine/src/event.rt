@@ -2,7 +2,7 @@ ghost use Rattle.std.specs.Prelude.{◌≡◌, ◌≤◌, ◌<◌, ◌+◌, ◌^
 ghost use Rattle.std.specs.List.{Contains};
 ghost use Rattle.kmn_base.specs.declared.limits.TheConstants.{EVENT_ENTRIES, EVENT_PUTS, WINDOW_ITEMS};
 ghost use Rattle.kmn_base.specs.Lists.{characters, window, without_last, read_again};
-ghost use Rattle.engine_state.specs.Meaning.{option_values, option_saves};
+ghost use Rattle.option_store.specs.Meaning.{option_values, option_saves};
 ghost use Rattle.rule_model.specs.Act.{one_more, put_item, set_current, save_current, reset_current};
 ghost use Rattle.rule_model.specs.Content.{option_number, elements_at};
 ghost use Rattle.rule_model.specs.Enter.{chosen_in, delete_or_pass};
@@ -15,17 +15,18 @@ ghost use Rattle.rule_matching.specs.PlaceMemory.{rooms};
 ghost use Rattle.rule_engine.specs.Event.{CanAct, HasRoom, HasShortContexts, PlatformStays, keyboard_of, moment_of};
 
 use crate::workspace::Workspace;
-use engine_state::{Left, Options};
+use event_text::Left;
 use kmn_base::limits::EVENT_PUTS;
 use kmn_base::{Item, KeyPress, Outcome};
 use kmx_parts::{FileGroup, FileRule};
+use option_store::Options;
 use rule_index::{IndexedKeyboard, RuleIndex};
 use rule_matching::{EnteredGroup, MatchedItems, Moment, PlaceMemory, first_held};
-use rule_model::codes::K_BKSP;
-use rule_model::is_plain;
 use std::marker::Model;
+use virtual_keys::codes::K_BKSP;
+use virtual_keys::is_plain;
 
-/// What one key press acts on. Nothing of it takes memory.
+/// The state on which one key press acts. It does not allocate.
 #[derive(Drop)]
 pub struct PressEvent<'a> {
     indexed: &'a IndexedKeyboard<'a>,
@@ -38,11 +39,11 @@ pub struct PressEvent<'a> {
     beeps: u32,
     entered: u32,
     saves: u32,
-    /// The lines of the rules that were chosen, at most one for each group that is entered.
+    /// The lines of the selected rules, at most one for each group that is entered.
     lines: Vec<u32>,
 }
 
-/// What a press did, and what the next event works on.
+/// The outcome of a press, and what the next event works on.
 #[derive(Drop)]
 pub struct AfterPress {
     pub outcome: Outcome,
@@ -51,7 +52,7 @@ pub struct AfterPress {
 
 impl<'a> Model for PressEvent<'a> {
     ghost use Rattle.std.specs.Prelude.{[], vec_capacity};
-    ghost use Rattle.engine_state.specs.Meaning.{with_values};
+    ghost use Rattle.option_store.specs.Meaning.{with_values};
     ghost use Rattle.rule_model.specs.Tab.{tab};
     ghost use Rattle.rule_matching.specs.PlaceMemory.{rooms};
     ghost use Rattle.rule_engine.specs.Event.{CanAct, EventValue, HasNoted};
@@ -81,7 +82,7 @@ impl<'a> Model for PressEvent<'a> {
 impl<'a> PressEvent<'a> {
     ghost use Rattle.rule_engine.specs.Event.{EventValue};
 
-    /// Begins on a text that is read again, with the last items and the options as they were before.
+    /// Begins an event on a text, which is read again with the last items of the workspace. The options are unchanged.
     pub fn begin(
         indexed: &'a IndexedKeyboard<'a>,
         lent: &'a [char],
@@ -115,7 +116,7 @@ impl<'a> PressEvent<'a> {
         }
     }
 
-    /// Ends the event.
+    /// Ends the event and returns its outcome and what the next event works on.
     pub fn finish(self) -> AfterPress
         ensures outcome { (before : _) → characters before ≡ self.entry.lent → result.outcome ≡ outcome_of before self.entry.state }
         ensures inserted { (before : _) → characters before ≡ self.entry.lent → result.workspace.inserted.text ≡ inserted before self.entry.state.left }
@@ -149,7 +150,7 @@ impl<'a> PressEvent<'a> {
         }
     }
 
-    /// The tables.
+    /// Returns the tables.
     pub fn indexed(&self) -> &'a IndexedKeyboard<'a>
         ensures value { result.now ≡ self.now.tables }
         ensures short { HasShortContexts result.now }
@@ -158,21 +159,21 @@ impl<'a> PressEvent<'a> {
         self.indexed
     }
 
-    /// The keyboard at this moment.
+    /// Returns the keyboard in its current state.
     pub fn moment(&self) -> Moment<'_>
         ensures { result ≡ moment_of self.now }
     {
         Moment::of(self.indexed, &self.options, self.truths.as_slice())
     }
 
-    /// Whether the event's remaining effects are ended.
+    /// Returns whether the remaining effects of the event are stopped.
     pub fn is_stopped(&self) -> bool
         ensures { result ≡ self.now.state.stopped }
     {
         self.stopped
     }
 
-    /// Ends the event's remaining effects.
+    /// Stops the remaining effects of the event.
     pub fn stop(&mut self)
         ensures { self.new ≡ record self.old { state = record self.old.state { stopped = true } } }
     {
@@ -186,14 +187,14 @@ impl<'a> PressEvent<'a> {
         self.beeps = self.beeps.saturating_add(1);
     }
 
-    /// How many groups were entered.
+    /// Returns the number of groups that were entered.
     pub fn entered(&self) -> u32
         ensures { result ≡ self.now.state.entered }
     {
         self.entered
     }
 
-    /// Counts a group that is entered. There is room then for the line of the rule that is chosen in it.
+    /// Counts a group that is entered. There is then space for the line of the rule that is selected in it.
     pub fn count_entry(&mut self)
         requires { self.old.state.entered < EVENT_ENTRIES }
         ensures event { self.new ≡ record self.old { state = record self.old.state { entered = self.old.state.entered + 1 } } }
@@ -202,7 +203,7 @@ impl<'a> PressEvent<'a> {
         self.entered += 1;
     }
 
-    /// Notes the line of a rule that is chosen.
+    /// Appends the line of a selected rule.
     pub fn note_line(&mut self, line: u32)
         requires { length self.old.lines < self.old.state.entered }
         ensures { self.new ≡ record self.old { lines = self.old.lines ++ line ∷ [] } }
@@ -210,8 +211,9 @@ impl<'a> PressEvent<'a> {
         self.lines.push_reserved(line);
     }
 
-    /// The record of a group that goes first at this moment. What it catches is written where the caller has room for it, which
-    /// stays as it was where none goes. It is seen in the last 64 items, which are filled in before and lent as they lie.
+    /// Returns the record of a group that is selected in the current state, or `None`. Writes what the record catches to
+    /// `caught`, which is unchanged if no record is selected. The choice depends only on the last 64 items, which are filled in
+    /// before and read in place.
     #[tactic(auto, using(crate::proofs::Contexts::first_in_window), unfolding(rule_model::specs::Tab::tab))]
     pub fn chosen_in<'g>(
         &mut self,
@@ -244,7 +246,7 @@ impl<'a> PressEvent<'a> {
         )
     }
 
-    /// Takes the last items, at most as many as a window has.
+    /// Removes the last `count` items, or all items if there are fewer. `count` is at most the size of a window.
     #[tactic(auto, using(crate::proofs::Windows::taken_from_window))]
     pub fn take(&mut self, count: usize)
         requires { count ≤ WINDOW_ITEMS }
@@ -255,7 +257,7 @@ impl<'a> PressEvent<'a> {
         left.take(count.min(left.cache().len()));
     }
 
-    /// Puts an item, or ends the event where no more may be put.
+    /// Outputs an item, or stops the event if no more items are allowed.
     pub fn put_item(&mut self, item: Item)
         ensures { self.new ≡ record self.old { state = put_item item self.old.state } }
     {
@@ -269,7 +271,8 @@ impl<'a> PressEvent<'a> {
         self.left.put(item);
     }
 
-    /// A press that gives no character deletes back, or is passed on.
+    /// Performs a press without a character: a backspace without control and alt deletes back, if there is a character.
+    /// Otherwise the key is passed on.
     pub fn delete_or_pass(&mut self, press: KeyPress)
         ensures { self.new ≡ record self.old { state = delete_or_pass press self.old.state } }
     {
@@ -280,7 +283,7 @@ impl<'a> PressEvent<'a> {
         }
     }
 
-    /// What `set` does of a store of the file, or of the layer. The truths stay, since they are by the platform.
+    /// Performs `set` on a store of the file or on the layer. The truths are unchanged, since they depend on the platform.
     #[tactic(auto, using(rule_matching::proofs::StoreContents::option_within, crate::proofs::OptionSteps::set_follows, crate::proofs::OptionSteps::nothing_set))]
     pub fn set_current(&mut self, store: u32, value: u32)
         requires store { store + 1 < length (keyboard_of self.old).stores }
@@ -295,7 +298,7 @@ impl<'a> PressEvent<'a> {
         }
     }
 
-    /// What `save` does.
+    /// Performs `save`, and counts it if the store is an option.
     #[tactic(auto, using(rule_matching::proofs::StoreContents::option_within, crate::proofs::OptionSteps::save_follows, crate::proofs::OptionSteps::nothing_saved))]
     pub fn save_current(&mut self, store: u32)
         ensures { self.new ≡ record self.old {
@@ -309,7 +312,7 @@ impl<'a> PressEvent<'a> {
         }
     }
 
-    /// What `reset` does of a store of the file.
+    /// Performs `reset` on a store of the file.
     #[tactic(auto, using(rule_matching::proofs::StoreContents::option_within, crate::proofs::OptionSteps::reset_follows, crate::proofs::OptionSteps::nothing_reset))]
     pub fn reset_current(&mut self, store: u32)
         requires { store < length self.old.tables.stores }

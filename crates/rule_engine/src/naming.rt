@@ -11,7 +11,7 @@ use rule_index::IndexedKeyboard;
 use rule_model::has_name;
 use std::alloc::Global;
 
-/// The name of the layer or of the platform; empty for a number behind theirs.
+/// Returns the name of the layer or of the platform, or an empty name for a number after theirs.
 #[tactic(auto, using(crate::proofs::Stores::layer_name, crate::proofs::Stores::platform_name, crate::proofs::Stores::no_name))]
 fn system_name(indexed: &IndexedKeyboard<'_>, store: u32) -> &'static [u8]
     requires { length indexed.now.stores ≤ store }
@@ -26,8 +26,9 @@ fn system_name(indexed: &IndexedKeyboard<'_>, store: u32) -> &'static [u8]
     }
 }
 
-/// The name of a store of a file, or of the layer or the platform, which have the two numbers behind; empty where there is no
-/// such store. It is read where it lies.
+/// Returns the name of a store of the file, or of the layer or the platform, which have the next two numbers. The name is empty
+/// if there is no such store. Each call reads it from the file.
+/// Errors: `Memory` if an allocation fails.
 #[tactic(auto, using(crate::proofs::Stores::own_name))]
 pub fn name_of(alloc: Global, indexed: &IndexedKeyboard<'_>, store: u32) -> Result<Text, Memory>
     ensures { IfOk result (λ name. name ≡ name_of indexed.now store) }
@@ -38,7 +39,7 @@ pub fn name_of(alloc: Global, indexed: &IndexedKeyboard<'_>, store: u32) -> Resu
     }
 }
 
-/// Whether a store is an option of a name.
+/// Returns whether a store is an option with a name.
 fn is_option_named(
     alloc: Global,
     name: &[u8],
@@ -54,7 +55,7 @@ fn is_option_named(
     Ok(has_name(name, other.as_slice()))
 }
 
-/// The first store of a name that is an option: those of the file, then the layer and the platform.
+/// Returns the first store with a name that is an option: the stores of the file come before the layer and the platform.
 #[tactic(auto, using(crate::proofs::OptionNames::named_here, crate::proofs::OptionNames::named_is_some, crate::proofs::OptionNames::passed_here, crate::proofs::OptionNames::none_named, crate::proofs::OptionNames::named_of_all))]
 pub fn store_named(
     alloc: Global,

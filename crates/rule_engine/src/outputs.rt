@@ -10,7 +10,7 @@ use kmx_parts::Outputs;
 use rule_matching::MatchedItems;
 use rule_model::item_of;
 
-/// Whether an output has no items.
+/// Returns whether an output has no items.
 pub fn is_empty(outputs: Outputs<'_>) -> bool
     ensures { result ≡ nat_eq (length outputs.entry) 0 }
 {
@@ -18,7 +18,7 @@ pub fn is_empty(outputs: Outputs<'_>) -> bool
     outputs.next().is_none()
 }
 
-/// Puts an item that there may be.
+/// Outputs an item, if there is one.
 pub fn put_any(item: Option<Item>, event: &mut PressEvent)
     ensures { event.new ≡ record event.old { state = put_items (item_list item) event.old.state } }
 {
@@ -27,7 +27,7 @@ pub fn put_any(item: Option<Item>, event: &mut PressEvent)
     }
 }
 
-/// Puts an element that there may be; a virtual key puts nothing.
+/// Outputs the item of an element, if there is one. A virtual key has no item.
 fn put_element(element: Option<Element>, event: &mut PressEvent)
     ensures { event.new ≡ record event.old { state = put_element element event.old.state } }
 {
@@ -36,7 +36,7 @@ fn put_element(element: Option<Element>, event: &mut PressEvent)
     }
 }
 
-/// What `index` does.
+/// Performs `index`: outputs the element of a store at the position that was caught at an offset.
 pub fn put_index(caught: &MatchedItems, store: u32, offset: u32, event: &mut PressEvent)
     ensures { event.new ≡ record event.old {
       state = put_element
@@ -48,7 +48,7 @@ pub fn put_index(caught: &MatchedItems, store: u32, offset: u32, event: &mut Pre
     put_element(element, event);
 }
 
-/// What `context` does: puts all that was matched.
+/// Performs `context`: outputs all items that were matched.
 pub fn put_context(caught: &MatchedItems, event: &mut PressEvent)
     ensures { event.new ≡ record event.old { state = put_items (items_caught caught.now) event.old.state } }
 {

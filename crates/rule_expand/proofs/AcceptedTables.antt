@@ -23,9 +23,9 @@ use Rattle.rule_model.specs.declared.program.Program.{Program}
 use Rattle.rule_model.specs.declared.tables.Store.{Store}
 use Rattle.rule_model.specs.Naming.{names_of, stores_of, elements_named}
 use Rattle.rule_model.specs.Tab.{store_elements}
-use Rattle.kmx_format.specs.Numbers.{dictionary_stores, value_store, values_of}
-use Rattle.kmn_names.specs.First.{first_code}
-use Rattle.kmn_names.specs.Known.{known}
+use Rattle.compile_laws.specs.Numbers.{dictionary_stores, value_store, values_of}
+use Rattle.store_table.specs.First.{first_code}
+use Rattle.store_table.specs.Known.{known}
 use Rattle.item_checker.specs.Items.{is_option, is_far, is_unfit_key, are_unfit_keys, key_code, context_code, rule_output_code, rule_code, rule_refusal, rules_refusal}
 use Rattle.rule_checker.specs.Refused.{IsRead, refused}
 use Rattle.rule_checker.proofs.Unrefused.{none_at_line, none_broken, none_first, Stands}
@@ -103,7 +103,7 @@ module _ (program : Program) (few : All (λ (s : Store). length s.elements ≤ S
       and_from (have_unit_keys (stores_of program) group) (list_all (have_unit_keys (stores_of program)) groups)
       (unit_rules group.using_keys group.rules (none_first (rule_refusal (known program)) [] group.rules items.0.1) fits.0) (unit_groups groups items.1 fits.1)
 
--- what the tables of a program want, an accepted one has
+-- an accepted program meets what its tables require
 pub has_tables : (program : Program) → IsRead program → refused program ≡ None → HasTables program
 has_tables program read h =
     let whole = unrefused program h in

@@ -9,9 +9,9 @@ use Rattle.rule_model.specs.declared.tables.Store.{Store}
 use Rattle.rule_model.specs.declared.tables.Tables.{Tables}
 use Rattle.rule_model.specs.Naming.{SourceNames, names_of, stores_of, stores_onto}
 use Rattle.rule_model.specs.Src.{cased_keys}
-use Rattle.kmn_names.specs.Numbering.{NameLists, lists_of}
-use Rattle.kmx_format.specs.Numbers.{numbers_of, values_of, value_store, dictionary_stores, compiled_stores, version_of}
-use Rattle.kmx_format.specs.WellNamed.{is_word}
+use Rattle.store_table.specs.Numbering.{NameLists, lists_of}
+use Rattle.compile_laws.specs.Numbers.{numbers_of, values_of, value_store, dictionary_stores, compiled_stores, version_of}
+use Rattle.compile_laws.specs.WellNamed.{is_word}
 use Rattle.rule_expand.specs.CasedCodes.{cased_codes, HasCodes}
 use Rattle.rule_expand.specs.Lookups.{source_names, AreFew, BeginWith, store_names, AreNumbers}
 use Rattle.rule_expand.specs.Expanded.{HasTables, expanded_tables, without_stores}

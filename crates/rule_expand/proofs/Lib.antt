@@ -7,3 +7,5 @@ pub mod RuleRecords
 pub mod ExpandedTables
 pub mod AcceptedTables
 pub mod SystemStores
+pub mod RecordSizes
+pub mod FileSizes

@@ -4,15 +4,15 @@ use Rattle.std.specs.Prelude.{position, option_map, unwrap_or, find}
 use Rattle.std.specs.Str.{bytes_eq}
 use Rattle.std.proofs.lemmas.Bool.Decides.{nat_tests}
 use Rattle.kmn_base.specs.Names.{same_name}
-use Rattle.rule_model.specs.Dictionary.{place_in}
+use Rattle.virtual_keys.specs.Dictionary.{place_in}
 use Rattle.rule_model.specs.declared.tables.Store.{Store}
 use Rattle.rule_model.specs.Naming.{mark_number, elements_named}
 use Rattle.rule_model.specs.Tab.{store_elements}
-use Rattle.kmn_names.specs.Numbering.{NameLists, below, number_in, mark_in}
-use Rattle.rule_model.proofs.NamePlaces.{same_either_way}
-use Rattle.kmx_format.proofs.PlacedItems.{first_place}
-use Rattle.rule_model.proofs.NamePlaces.{position_cons}
-use Rattle.rule_model.proofs.PositionLemmas.{position-map}
+use Rattle.store_table.specs.Numbering.{NameLists, below, number_in, mark_in}
+use Rattle.virtual_keys.proofs.NamePlaces.{same_either_way}
+use Rattle.compile_laws.proofs.PlacedItems.{first_place}
+use Rattle.virtual_keys.proofs.NamePlaces.{position_cons}
+use Rattle.virtual_keys.proofs.PositionLemmas.{position-map}
 use Rattle.rule_expand.specs.Lookups.{source_names, AreFew, store_names, BeginWith, place_of_store, elements_at}
 
 below_limit : (limit k : ℕ) → k < limit → (if nat_lt k limit then Some k else None) ≡ Some k
@@ -70,7 +70,7 @@ no_elements : (place : Option ℕ) → elements_at [] place ≡ []
 no_elements None = refl
 no_elements (Some k) = refl
 
--- among the first stores of a list of names a store stands at the place of its name
+-- if names begin with the names of stores, the store of a name is at the place of the name
 first_elements : (stores : List Store) (rest : List (List ℕ)) (name : List ℕ) → elements_at stores (position (λ known. same_name known name) (store_names stores ++ rest)) ≡ elements_named stores name
 first_elements [] rest name = no_elements (position (λ known. same_name known name) rest)
 first_elements (store ∷ stores) rest name =
@@ -90,11 +90,11 @@ elements_found lists stores name few first =
 pub all_begin : (lists : NameLists) (stores : List Store) → lists.stores ≡ store_names stores → BeginWith stores lists.stores
 all_begin lists stores e = record { rest = []; is = e ∙ sym (append-nil (store_names stores)) }
 
--- a value that is found stands within the values
+-- if a value is found, its place is below the number of values
 pub value_within : (values : List (List ℕ)) (value : List ℕ) (k : ℕ) → position (λ known. bytes_eq known value) values ≡ Some k → k < length values
 value_within values value k e = (first_place (λ known. bytes_eq known value) values k e).within
 
--- the elements of a store by its place are those by its name
+-- the elements of the store at the place of a name are the elements of the store of the name
 pub place_elements : (stores : List Store) (name : List ℕ) → elements_at stores (place_of_store stores name) ≡ elements_named stores name
 place_elements stores name =
     ap (elements_at stores)

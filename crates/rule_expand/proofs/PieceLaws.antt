@@ -1,4 +1,4 @@
--- The pieces of an output put what the output puts.
+-- The output of the pieces of an output is the output of the record.
 use Rattle.std.proofs.Common.{◌≡◌, ℕ, ◌+◌, ◌<◌, Bool, true, false, nat_eq, List, [], ◌∷◌, ◌++◌, append-nil, append_assoc, length, map, take, get_or, Option, refl, sym, ap, ◌∙◌, if◌then◌else◌}
 use Rattle.std.specs.Prelude.{flat_map}
 use Rattle.std.proofs.lemmas.Grind.{flat_map-append}
@@ -11,8 +11,8 @@ use Rattle.rule_model.specs.declared.tables.Out.TheVariants as output
 use Rattle.rule_model.specs.declared.tables.Store.{Store}
 use Rattle.rule_model.specs.Match.{element_at}
 use Rattle.rule_model.specs.Naming.{elements_named}
-use Rattle.kmx_format.specs.Numbers.{Numbers, number_of_store}
-use Rattle.kmx_format.specs.Compiles.{element_outs, element_outs_if_any, file_output, file_outputs, or_nul}
+use Rattle.compile_laws.specs.Numbers.{Numbers, number_of_store}
+use Rattle.compile_laws.specs.Compiles.{element_outs, element_outs_if_any, file_output, file_outputs, or_nul}
 use Rattle.rule_expand.specs.declared.pieces.Piece.{Piece}
 use Rattle.rule_expand.specs.declared.pieces.Piece.TheVariants.{Fixed, AtKey}
 use Rattle.rule_expand.specs.Lookups.{place_of_store, elements_at}
@@ -31,7 +31,7 @@ index_put numbers count place store offset true =
     ∙ ap (λ elements. element_outs_if_any (element_at elements place)) (place_elements numbers.stores store)
 index_put numbers count place store offset false = refl
 
--- the pieces of an item put what the item puts
+-- the output of the pieces of an item is the output of the item
 item_put : (numbers : Numbers) (count : ℕ) (place : Option ℕ) (item : SrcItem) → flat_map (piece_outs numbers.stores place) (item_pieces numbers count item) ≡ file_output numbers count place item
 item_put numbers count place (source.Char c) = refl
 item_put numbers count place (source.Dead name) = refl
@@ -64,12 +64,12 @@ items_put numbers count place (item ∷ items) =
     flat_map-append (piece_outs numbers.stores place) (item_pieces numbers count item) (flat_map (item_pieces numbers count) items)
     ∙ (λ j. item_put numbers count place item j ++ items_put numbers count place items j)
 
--- the pieces of an output put the output
+-- the output of the pieces of an output is the output of the record
 pub pieces_put : (numbers : Numbers) (count : ℕ) (place : Option ℕ) (items : List SrcItem)
     → pieces_outputs numbers.stores place (flat_map (item_pieces numbers count) items) ≡ file_outputs numbers count place items
 pieces_put numbers count place items = ap or_nul (items_put numbers count place items)
 
--- one element more
+-- appending the output of the element at an index extends the output of the elements before it
 pub elements_more : (pieces : List Piece) (elements : List Element) (i : ℕ) (e : Element) → i < length elements → e ≡ get_or elements i e
     → (pieces ++ map Fixed (flat_map element_outs (take i elements))) ++ map Fixed (element_outs e) ≡ pieces ++ map Fixed (flat_map element_outs (take (i + 1) elements))
 elements_more pieces elements i e h is =

@@ -17,8 +17,8 @@ use Rattle.rule_model.specs.declared.tables.Store.{Store}
 use Rattle.rule_model.specs.Hold.{key_of_element}
 use Rattle.rule_model.specs.Naming.{elements_named}
 use Rattle.rule_model.specs.Src.{is_plain}
-use Rattle.kmx_format.specs.Numbers.{Numbers}
-use Rattle.kmx_format.specs.Compiles.{has_halves, half_key, file_record, key_records, records_from, own_key, keyed_records, rule_records}
+use Rattle.compile_laws.specs.Numbers.{Numbers}
+use Rattle.compile_laws.specs.Compiles.{has_halves, half_key, file_record, key_records, records_from, own_key, keyed_records, rule_records}
 use Rattle.item_checker.proofs.FoundKeys.{passes_at}
 use Rattle.rule_expand.specs.Groups.{is_unit_element, are_unit_elements, has_unit_key, have_unit_keys, plain_records}
 use Rattle.rule_expand.specs.Pieces.{template_of, template_record, template_halves, template_records, template_keyed}
@@ -86,7 +86,7 @@ plain_alone numbers [] = refl
 plain_alone numbers (rule ∷ rules) =
     ap (λ rest. plain_records numbers rule ++ rest) (plain_alone numbers rules) ∙ plain_next (is_plain rule) numbers rule rules
 
--- those of all rules, which a loop has come to
+-- if a loop has reached the end of the rules, its records are those of all plain rules
 pub plain_all : (numbers : Numbers) (rules : List RuleDef) (i : ℕ) (records : List Rule) → length rules ≤ i → records ≡ flat_map (plain_records numbers) (take i rules)
     → records ≡ flat_map (rule_records numbers) (filter is_plain rules)
 plain_all numbers rules i records h e = e ∙ (ap (flat_map (plain_records numbers)) (take_all i rules h) ∙ plain_alone numbers rules)

@@ -6,18 +6,18 @@ use Rattle.std.proofs.lemmas.Bool.Decides.{nat_tests}
 use Rattle.std.proofs.lemmas.List.{drop_more, take_all, take_more, length-take, map-append}
 use Rattle.std.proofs.lemmas.Option.{slice_get_within, get_or_from_slice_get, none-some}
 use Rattle.kmn_base.proofs.DecodedTexts.{decoded_text}
-use Rattle.rule_model.specs.Dictionary.{name_in}
-use Rattle.rule_model.proofs.NamePlaces.{past, name_read}
+use Rattle.virtual_keys.specs.Dictionary.{name_in}
+use Rattle.virtual_keys.proofs.NamePlaces.{past, name_read}
 use Rattle.kmn_base.specs.Texts.{decoded}
 use Rattle.rule_model.specs.declared.program.StoreDef.{StoreDef}
 use Rattle.rule_model.specs.declared.tables.Store.{Store}
 use Rattle.rule_model.specs.Naming.{SourceNames, is_dropped, store_of, stores_onto}
-use Rattle.kmn_names.specs.Names.{store_names as kept_names}
-use Rattle.kmn_names.proofs.Naming.{names_onto}
+use Rattle.store_table.specs.Names.{store_names as kept_names}
+use Rattle.store_table.proofs.Naming.{names_onto}
 use Rattle.rule_model.specs.Src.{value_elements}
-use Rattle.kmx_format.specs.Numbers.{dictionary_stores, value_store}
-use Rattle.kmx_format.specs.WellNamed.{is_word}
-use Rattle.kmx_format.proofs.Dictionary.{joined_text}
+use Rattle.compile_laws.specs.Numbers.{dictionary_stores, value_store}
+use Rattle.compile_laws.specs.WellNamed.{is_word}
+use Rattle.compile_laws.proofs.Dictionary.{joined_text}
 use Rattle.rule_expand.specs.Lookups.{store_names, BeginWith}
 
 -- one store statement more
@@ -55,7 +55,7 @@ length-take_within xs i h = omega (arith, length-take i xs)
 later_name : (n : ℕ) (name : List ℕ) → (if nat_eq (suc n) 0 then name else 32 ∷ name) ≡ 32 ∷ name
 later_name n name = grind (arith, nat_tests)
 
--- a value more
+-- if a value is at a place, the value stores up to and including the place end with its store
 pub values_more : (values : List (List ℕ)) (place : ℕ) (value : List ℕ) → slice_get values place ≡ Some value
     → map value_store (take (place + 1) values) ≡ map value_store (take place values) ++ value_store value ∷ []
 values_more values place value e =
@@ -72,7 +72,7 @@ value_step stores old new values place value made found is so_far pushed =
     ∙ (append_assoc stores (map value_store (take place values)) (value_store value ∷ [])
     ∙ ap (λ more. stores ++ more) (sym (values_more values place value (sym found)))))
 
--- a name more among joined names
+-- joining names with a further name appends the name, and a space before it unless it is the first
 joined_behind : (names : List (List ℕ)) (name : List ℕ) → join_with_byte 32 (names ++ name ∷ []) ≡ join_with_byte 32 names ++ (if nat_eq (length names) 0 then name else 32 ∷ name)
 joined_behind [] name = refl
 joined_behind (first ∷ []) name = refl

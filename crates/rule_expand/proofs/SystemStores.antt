@@ -1,4 +1,4 @@
--- The first store of a system id is that of a statement, behind the stores of the statements before it.
+-- The first store of a system id is the store of a statement that follows the stores of the earlier statements.
 use Rattle.std.proofs.Common.{◌≡◌, ℕ, suc, Bool, true, false, not, cond, List, [], ◌∷◌, ◌++◌, take, get_or, Option, Some, None, refl, sym, ap, subst, ◌∙◌, if◌then◌else◌}
 use Rattle.std.specs.Prelude.{nat_eq, find, position, option_map, ◌&&◌}
 use Rattle.std.specs.Option.{option_or}
@@ -9,8 +9,8 @@ use Rattle.rule_model.specs.declared.program.Program.{Program}
 use Rattle.rule_model.specs.declared.tables.Store.{Store}
 use Rattle.rule_model.specs.Naming.{SourceNames, names_of, is_dropped, store_of, stores_of, stores_onto}
 use Rattle.rule_model.specs.Tab.{store_elements}
-use Rattle.kmn_names.specs.Numbering.{NameLists, lists_of}
-use Rattle.rule_model.proofs.NamePlaces.{position_cons}
+use Rattle.store_table.specs.Numbering.{NameLists, lists_of}
+use Rattle.virtual_keys.proofs.NamePlaces.{position_cons}
 use Rattle.rule_expand.specs.Expanded.{HasTables}
 use Rattle.rule_expand.specs.Lookups.{source_names, BeginWith}
 use Rattle.rule_expand.specs.Stated.{is_of, states}
@@ -39,12 +39,12 @@ module _ (system : ℕ) (names : SourceNames) where
       by true = e
       by false = find-append (is_of system) before (store_of names before store ∷ []) ∙ ap (λ one. option_or one (find (is_of system) (store_of names before store ∷ []))) e
 
-  -- what is found stays the first
+  -- if a store of the id is found, it is also found after further statements
   found_stays : (before : List Store) (found : Store) (stores : List StoreDef) → find (is_of system) before ≡ Some found → find (is_of system) (stores_onto names before stores) ≡ Some found
   found_stays before found [] e = e
   found_stays before found (store ∷ stores) e = found_stays (with_statement before store) found stores (found_more before found store e)
 
-  -- a statement of another store
+  -- if a statement is of another store, and no store of the id was found before it, none is found after it
   none_more : (before : List Store) (store : StoreDef) → states system store ≡ false → find (is_of system) before ≡ None → find (is_of system) (with_statement before store) ≡ None
   none_more before store other none = by (is_dropped store) refl
     where
@@ -56,7 +56,7 @@ module _ (system : ℕ) (names : SourceNames) where
           ∙ ap (λ one. option_or one (find (is_of system) (store_of names before store ∷ []))) none
           ∙ rw apart refl
 
-  -- a statement of this store
+  -- if a statement is of a store with the id, and none was found before it, its store is found
   found_here : (before : List Store) (store : StoreDef) → states system store ≡ true → find (is_of system) before ≡ None → find (is_of system) (with_statement before store) ≡ Some (store_of names before store)
   found_here before store this none =
       let both = this_id (nat_eq store.system system) (is_dropped store) this in
@@ -77,7 +77,7 @@ module _ (system : ℕ) (names : SourceNames) where
       by false is None at h rest = rest (none_more before store is none) at
       by false is (Some k) at h rest = absurd (none-some (suc k) (sym h))
 
-  -- the first store of the id, where its statement stands
+  -- whether the first store of the id is the store of the statement at an index
   abbrev FoundAt : List Store → List StoreDef → StoreDef → ℕ → Type 0
   FoundAt before stores d k = find (is_of system) (stores_onto names before stores) ≡ Some (store_of names (stores_onto names before (take k stores)) (get_or stores k d))
 

@@ -11,7 +11,7 @@ use Rattle.rule_model.specs.declared.program.GroupDef.{GroupDef}
 use Rattle.rule_model.specs.declared.program.Program.{Program}
 use Rattle.rule_model.specs.Tab.{distinct_onto}
 use Rattle.rule_model.specs.Naming.{rule_items, all_rules}
-use Rattle.kmx_format.specs.Numbers.{item_values, values_of}
+use Rattle.compile_laws.specs.Numbers.{item_values, values_of}
 use Rattle.rule_expand.specs.Values.{with_values}
 
 distinct_append : (seen xs ys : List (List ℕ)) → distinct_onto bytes_eq seen (xs ++ ys) ≡ distinct_onto bytes_eq (distinct_onto bytes_eq seen xs) ys

@@ -12,11 +12,11 @@ use Rattle.rule_model.specs.Src.{is_cased_keys, codes_among}
 abbrev pub cased_codes : List Store → List ℕ
 cased_codes stores = codes_among (store_elements (find is_cased_keys stores))
 
--- known codes, with that of a further element
+-- known codes with the code of a further element, if the element is a key
 abbrev pub with_code : List ℕ → Element → List ℕ
 with_code known (element.Key flags code) = insert_key nat_eq known code
 with_code known e = known
 
--- known codes are those of a list, which may have one more than once
+-- whether known codes are the codes of a list, which may contain a code more than once
 pub record HasCodes (known codes : List ℕ) : Type 0 where
   pub each : (code : ℕ) → list_any (nat_eq code) known ≡ list_any (nat_eq code) codes

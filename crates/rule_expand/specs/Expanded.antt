@@ -6,9 +6,9 @@ use Rattle.rule_model.specs.declared.program.Program.{Program}
 use Rattle.rule_model.specs.declared.tables.Tables.{Tables}
 use Rattle.rule_model.specs.Naming.{names_of, stores_of}
 use Rattle.rule_model.specs.Src.{is_unicode}
-use Rattle.kmx_format.specs.Numbers.{Numbers, numbers_of, number_of_start, version_of, compiled_stores}
-use Rattle.kmx_format.specs.Compiles.{file_group, is_ansi}
-use Rattle.kmx_format.specs.WellNamed.{is_word}
+use Rattle.compile_laws.specs.Numbers.{Numbers, numbers_of, number_of_start, version_of, compiled_stores}
+use Rattle.compile_laws.specs.Compiles.{file_group, is_ansi}
+use Rattle.compile_laws.specs.WellNamed.{is_word}
 use Rattle.rule_expand.specs.Groups.{have_unit_keys}
 
 -- the tables of a program, each group with the records of its rules in their order
@@ -33,8 +33,8 @@ without_stores numbers program version =
       groups = map (file_group numbers) program.groups;
     }
 
--- the numbers of a program have the bits that tables have for them, its keys are characters of one unit, and the names of
--- its key dictionary are words
+-- whether the numbers of a program fit in the fields of tables, its keys are characters of one unit, and the names of its key
+-- dictionary are words
 pub record HasTables (program : Program) : Type 0 where
   pub marks : length (names_of program).marks < 2 ^ 16
   pub keys : length (names_of program).keys ≤ KEY_NAMES

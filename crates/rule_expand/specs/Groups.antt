@@ -11,23 +11,23 @@ use Rattle.rule_model.specs.declared.tables.Rule.{Rule}
 use Rattle.rule_model.specs.declared.tables.Store.{Store}
 use Rattle.rule_model.specs.Naming.{elements_named}
 use Rattle.rule_model.specs.Src.{is_plain}
-use Rattle.kmx_format.specs.Numbers.{Numbers}
-use Rattle.kmx_format.specs.Compiles.{rule_records}
+use Rattle.compile_laws.specs.Numbers.{Numbers}
+use Rattle.compile_laws.specs.Compiles.{rule_records}
 
--- a character of one UTF-16 unit
+-- whether a character has one UTF-16 unit
 abbrev pub is_unit : ℕ → Bool
 is_unit c = nat_lt c 0x1_0000
 
--- an element that is a character has one UTF-16 unit
+-- whether an element is a character of one UTF-16 unit or is not a character
 abbrev pub is_unit_element : Element → Bool
 is_unit_element (element.Char c) = is_unit c
 is_unit_element e = true
 
--- elements for keys, each with two places of 32 bits
+-- whether each character among elements has one UTF-16 unit, and elements are so few that both places of each fit in 32 bits
 abbrev pub are_unit_elements : List Element → Bool
 are_unit_elements elements = nat_le (length elements) 0x7FFF_FFFF && list_all is_unit_element elements
 
--- a key, or each key of a key store, is no character past U+FFFF
+-- whether a key, or each key of a key store, is not a character past U+FFFF
 abbrev pub is_unit_key : List Store → Option SrcItem → Bool
 is_unit_key stores (Some (source.Char c)) = is_unit c
 is_unit_key stores (Some (source.Any store)) = are_unit_elements (elements_named stores store)
@@ -39,6 +39,6 @@ has_unit_key stores rule = is_unit_key stores rule.key
 abbrev pub have_unit_keys : List Store → GroupDef → Bool
 have_unit_keys stores group = list_all (has_unit_key stores) group.rules
 
--- the records of a statement, none of a match or nomatch
+-- the records of a statement; a match or nomatch statement has none
 abbrev pub plain_records : Numbers → RuleDef → List Rule
 plain_records numbers rule = if is_plain rule then rule_records numbers rule else []

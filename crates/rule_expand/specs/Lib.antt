@@ -5,3 +5,4 @@ pub mod Pieces
 pub mod Groups
 pub mod Expanded
 pub mod Stated
+pub mod Sizes

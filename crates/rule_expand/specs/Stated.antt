@@ -8,6 +8,6 @@ use Rattle.rule_model.specs.Naming.{is_dropped}
 abbrev pub is_of : ℕ → Store → Bool
 is_of system store = nat_eq store.system system
 
--- whether a statement is of a store with this system id; one that is read and dropped is of no store
+-- whether a statement has a store with this system id; a statement that is read and dropped has no store
 abbrev pub states : ℕ → StoreDef → Bool
 states system store = nat_eq store.system system && not (is_dropped store)

@@ -1,10 +1,10 @@
-//! The cased keys of a program, and the two halves that such a key has as the key of a rule.
+//! The cased keys of a program, and the two halves of such a key in a rule.
 
 ghost use Rattle.std.specs.Prelude.{◌≡◌, find, IfOk, OnOk};
 ghost use Rattle.rule_model.specs.Tab.{store_elements};
 ghost use Rattle.rule_model.specs.Src.{is_cased_keys, codes_among};
 ghost use Rattle.rule_model.specs.CasedKeys.{half_flags, with_other_shift};
-ghost use Rattle.kmx_format.specs.Compiles.{has_halves, half_key};
+ghost use Rattle.compile_laws.specs.Compiles.{has_halves, half_key};
 ghost use Rattle.rule_expand.specs.CasedCodes.{cased_codes, with_code, HasCodes};
 
 use crate::lookups::Lookups;
@@ -14,14 +14,14 @@ use rule_model::Store;
 use rule_model::system::CASED_KEYS;
 use std::alloc::Global;
 
-// The bits of flags as a compiled key has them.
+// The bits of the flags of a compiled key.
 const SHIFT: u32 = keys::SHIFT as u32;
 
 const CAPS: u32 = keys::CAPS as u32;
 
 const NO_CAPS: u32 = keys::NO_CAPS as u32;
 
-/// The elements of the first `&casedkeys`.
+/// Returns the elements of the first `&casedkeys`.
 fn cased_elements(stores: &[Store]) -> &[Element]
     ensures { result.now ≡ store_elements (find is_cased_keys stores.now) }
 {
@@ -33,7 +33,7 @@ fn cased_elements(stores: &[Store]) -> &[Element]
     &[]
 }
 
-/// Adds the code of an element that is a key.
+/// Adds the code of an element if the element is a key.
 fn add_code(codes: &mut IndexSet<u16>, element: Element) -> Result<(), Memory>
     ensures { OnOk result (codes.new.keys ≡ with_code codes.old.keys element) }
 {
@@ -43,7 +43,7 @@ fn add_code(codes: &mut IndexSet<u16>, element: Element) -> Result<(), Memory>
     Ok(())
 }
 
-/// The codes of the keys among elements, each once.
+/// Returns the codes of the keys among elements, each once.
 fn codes_among(alloc: Global, elements: &[Element]) -> Result<IndexSet<u16>, Memory>
     ensures { IfOk result (λ codes. HasCodes codes.keys (codes_among elements.now)) }
 {
@@ -54,14 +54,14 @@ fn codes_among(alloc: Global, elements: &[Element]) -> Result<IndexSet<u16>, Mem
     Ok(codes)
 }
 
-/// The codes of cased keys, each once, which are found by hash.
+/// Returns the codes of the cased keys, each once, as a set that finds a code by hash.
 pub fn cased_codes(alloc: Global, stores: &[Store]) -> Result<IndexSet<u16>, Memory>
     ensures { IfOk result (λ codes. HasCodes codes.keys (cased_codes stores.now)) }
 {
     codes_among(alloc, cased_elements(stores))
 }
 
-/// Whether a key has two records.
+/// Returns whether a key has two records.
 pub fn has_halves(numbers: &Lookups<'_>, key: RuleKey) -> bool
     ensures { result ≡ has_halves numbers.now.cased key }
 {
@@ -73,7 +73,7 @@ pub fn has_halves(numbers: &Lookups<'_>, key: RuleKey) -> bool
     }
 }
 
-/// Flags that name SHIFT where these don't.
+/// Returns the flags with SHIFT inverted.
 fn with_other_shift(flags: u32) -> u32
     ensures { result ≡ with_other_shift flags }
 {
@@ -84,7 +84,7 @@ fn with_other_shift(flags: u32) -> u32
     }
 }
 
-/// The flags of a half: half 0 is for presses without caps lock, half 1 for those with it.
+/// Returns the flags of a half: half 0 is for presses without caps lock, half 1 for those with it.
 fn half_flags(half: u32, flags: u32) -> u32
     ensures { result ≡ half_flags half flags }
 {
@@ -95,7 +95,7 @@ fn half_flags(half: u32, flags: u32) -> u32
     }
 }
 
-/// A half of a key.
+/// Returns a half of a key.
 pub fn half_key(half: u32, key: RuleKey) -> RuleKey
     ensures { result ≡ half_key half key }
 {

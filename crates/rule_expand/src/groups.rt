@@ -1,10 +1,11 @@
-//! The groups of a file, with their records in the order of the rules.
+//! Builds the groups of a file, with their records in the order of the rules.
 
 ghost use Rattle.std.specs.Prelude.{◌≡◌, ◌++◌, true, None, map, flat_map, filter, find, option_copied, IfOk, OnOk};
 ghost use Rattle.std.specs.List.{list_all};
 ghost use Rattle.rule_model.specs.Src.{is_plain, is_on_match, is_on_nomatch};
-ghost use Rattle.kmx_format.specs.Compiles.{file_outputs, statement_outputs, rule_records, file_group};
+ghost use Rattle.compile_laws.specs.Compiles.{file_outputs, statement_outputs, rule_records, file_group};
 ghost use Rattle.rule_expand.specs.Groups.{has_unit_key, have_unit_keys, plain_records};
+ghost use Rattle.rule_expand.specs.Sizes.{outline_group, without_rules};
 
 use crate::lookups::Lookups;
 use crate::pieces::{outputs_at, pieces_of};
@@ -13,7 +14,7 @@ use kmn_base::{Memory, Seq};
 use rule_model::{Group, GroupDef, Out, Rule, RuleDef, RuleKind};
 use std::alloc::Global;
 
-/// Appends the records of a rule, none of a match or nomatch.
+/// Appends the records of a rule. A match or nomatch statement has no records.
 fn add_rule(
     alloc: Global,
     records: &mut Vec<Rule>,
@@ -30,7 +31,7 @@ fn add_rule(
     }
 }
 
-/// The records of rules.
+/// Returns the records of rules.
 #[tactic(auto, using(crate::proofs::RuleRecords::unit_rule))]
 fn records_of(alloc: Global, numbers: &Lookups<'_>, rules: &[RuleDef]) -> Result<Seq<Rule>, Memory>
     requires { list_all (has_unit_key numbers.now.stores) rules.now ≡ true }
@@ -43,7 +44,7 @@ fn records_of(alloc: Global, numbers: &Lookups<'_>, rules: &[RuleDef]) -> Result
     Ok(Seq::from_vec(records))
 }
 
-/// The first match statement.
+/// Returns the first match statement.
 fn match_statement(rules: &[RuleDef]) -> Option<&RuleDef>
     ensures { option_copied result ≡ find is_on_match rules.now }
 {
@@ -55,7 +56,7 @@ fn match_statement(rules: &[RuleDef]) -> Option<&RuleDef>
     None
 }
 
-/// The first nomatch statement.
+/// Returns the first nomatch statement.
 fn nomatch_statement(rules: &[RuleDef]) -> Option<&RuleDef>
     ensures { option_copied result ≡ find is_on_nomatch rules.now }
 {
@@ -67,7 +68,7 @@ fn nomatch_statement(rules: &[RuleDef]) -> Option<&RuleDef>
     None
 }
 
-/// The output of a match or nomatch statement.
+/// Returns the output of a match or nomatch statement.
 #[tactic(auto, using(crate::proofs::PieceLaws::pieces_put))]
 fn outputs_of(alloc: Global, numbers: &Lookups<'_>, rule: &RuleDef) -> Result<Seq<Out>, Memory>
     ensures { IfOk result (λ output. output ≡ file_outputs numbers.now 0 None rule.now.output) }
@@ -76,7 +77,7 @@ fn outputs_of(alloc: Global, numbers: &Lookups<'_>, rule: &RuleDef) -> Result<Se
     outputs_at(alloc, numbers, pieces.as_slice(), None)
 }
 
-/// The output of a match or nomatch statement, empty where there is none.
+/// Returns the output of a match or nomatch statement, or an empty one if there is no statement.
 fn statement_outputs(
     alloc: Global,
     numbers: &Lookups<'_>,
@@ -90,7 +91,7 @@ fn statement_outputs(
     }
 }
 
-/// The group of a statement.
+/// Returns the group of a statement.
 fn group_of(alloc: Global, numbers: &Lookups<'_>, group: &GroupDef) -> Result<Group, Memory>
     requires { have_unit_keys numbers.now.stores group.now ≡ true }
     ensures { IfOk result (λ made. made ≡ file_group numbers.now group.now) }
@@ -105,7 +106,7 @@ fn group_of(alloc: Global, numbers: &Lookups<'_>, group: &GroupDef) -> Result<Gr
     })
 }
 
-/// The groups of statements.
+/// Returns the groups of statements.
 #[tactic(auto, using(crate::proofs::RuleRecords::unit_group))]
 pub fn groups_of(
     alloc: Global,
@@ -118,6 +119,35 @@ pub fn groups_of(
     let mut made = Vec::with_capacity(alloc, groups.len())?;
     for group in groups {
         made.push(group_of(alloc, numbers, group)?)?;
+    }
+    Ok(Seq::from_vec(made))
+}
+
+/// Returns the group of a statement without its records.
+fn group_outline(alloc: Global, numbers: &Lookups<'_>, group: &GroupDef) -> Result<Group, Memory>
+    ensures { IfOk result (λ made. made ≡ without_rules (file_group numbers.now group.now)) }
+{
+    let rules = group.rules.as_slice();
+    Ok(Group {
+        name: group.name.copy(alloc)?,
+        using_keys: group.using_keys,
+        rules: Seq::new(alloc),
+        on_match: statement_outputs(alloc, numbers, match_statement(rules))?,
+        on_nomatch: statement_outputs(alloc, numbers, nomatch_statement(rules))?,
+    })
+}
+
+/// Returns the groups of statements without their records.
+pub fn outlines_of(
+    alloc: Global,
+    numbers: &Lookups<'_>,
+    groups: &[GroupDef],
+) -> Result<Seq<Group>, Memory>
+    ensures { IfOk result (λ made. made ≡ map (outline_group numbers.now) groups.now) }
+{
+    let mut made = Vec::with_capacity(alloc, groups.len())?;
+    for group in groups {
+        made.push(group_outline(alloc, numbers, group)?)?;
     }
     Ok(Seq::from_vec(made))
 }

@@ -1,12 +1,13 @@
-//! The tables of an accepted program, each group with the records of its rules in their order.
+//! Expands an accepted program to its tables: each group has the records of its rules, in the order of the rules.
 //!
-//! It stands on `rule_checker` for programs that aren't refused and the laws of them, on `kmn_names` for the numbers of names, on
-//! `kmx_format` for the tables that a program compiles to and for the versions, and on `indexmap` for the values. `specs/Expanded` says what the expanded tables are
-//! (`expanded_tables`). The layer above calls `expand`, and then puts the records in order; for the elements of one system store alone
-//! it calls `system_elements`.
+//! Depends on `rule_checker` for programs that aren't refused and their laws, on `store_table` for the numbers of names, on
+//! `kmx_format` for the tables that a program compiles to and for the versions, on `item_codec` for the units of a character, and on
+//! `indexmap` for the values. `specs/Expanded` defines the expanded tables (`expanded_tables`). The layer above calls `expand` and
+//! then sorts the records. Before that, it calls `outline_of`, which returns the tables without records and the size of the records,
+//! computed without building them (`specs/Sizes`). If it needs the elements of only one system store, it calls `system_elements`.
 //!
-//! What is looked up is found by hash, and the elements of a store are gathered once. What all records of a rule have in
-//! common is made once (`Template`), and each record takes time in its own length.
+//! Names, values and cased keys are found by hash, and the elements of a store are gathered once. What all records of a rule have in
+//! common is built once (`Template`), and each record needs time in its own length.
 #![tactic(auto)]
 
 mod cased_keys;
@@ -15,10 +16,11 @@ mod groups;
 mod lookups;
 mod pieces;
 mod records;
+mod sizes;
 mod stores;
 mod system_stores;
 mod values;
 mod versions;
 
-pub use expanding::expand;
+pub use expanding::{Outline, expand, outline_of};
 pub use system_stores::system_elements;

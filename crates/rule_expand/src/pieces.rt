@@ -1,9 +1,9 @@
-//! The pieces of an output: what all keys of a key store put alike, and what each puts by its place.
+//! The pieces of an output: the items that are the same for all keys of a key store, and those that depend on the key's position.
 
 ghost use Rattle.std.specs.Prelude.{◌≡◌, ◌+◌, ◌++◌, nat_eq, [], ◌∷◌, map, flat_map, option_to_list, IfOk, OnOk};
 ghost use Rattle.rule_model.specs.declared.program.SrcItem.TheVariants as source;
 ghost use Rattle.rule_model.specs.Match.{element_at};
-ghost use Rattle.kmx_format.specs.Compiles.{element_outs, element_outs_if_any};
+ghost use Rattle.compile_laws.specs.Compiles.{element_outs, element_outs_if_any};
 ghost use Rattle.rule_expand.specs.declared.pieces.Piece.TheVariants.{Fixed};
 ghost use Rattle.rule_expand.specs.Lookups.{elements_at};
 ghost use Rattle.rule_expand.specs.Pieces.{one_output, item_pieces, piece_outs, pieces_outputs};
@@ -18,12 +18,12 @@ use std::alloc::Global;
 pub enum Piece {
     /// The same for every key.
     Fixed(Out),
-    /// The element of the store at this place that stands where the key stands in its own store. Nothing for no store, for
-    /// no element there, and for a virtual key.
+    /// The element of the store with this number, at the position that the key has in its own store. Outputs nothing if there is
+    /// no store or no element, or if the element is a virtual key.
     AtKey(Option<u32>),
 }
 
-/// The output of an item other than `outs` and `index` at the key's place.
+/// Returns the output of an item that is neither `outs` nor an `index` with the offset of the key.
 fn one_output(numbers: &Lookups<'_>, item: &SrcItem) -> Out
     ensures { result ≡ one_output numbers.now item.now }
 {
@@ -47,14 +47,14 @@ fn one_output(numbers: &Lookups<'_>, item: &SrcItem) -> Out
     }
 }
 
-/// Whether an offset is that of the key, behind so many context items.
+/// Returns whether an offset is the offset of the key, which follows `count` context items.
 fn is_key_place(count: usize, offset: u32) -> bool
     ensures { result ≡ nat_eq offset (count + 1) }
 {
     count.checked_add(1) == Some(offset as usize)
 }
 
-/// The piece of an `index`.
+/// Returns the piece of an `index`.
 fn index_piece(numbers: &Lookups<'_>, count: usize, store: &[u8], offset: u32) -> Piece
     ensures { (result ∷ []) ≡ item_pieces numbers.now count (source.Index store.now offset) }
 {
@@ -65,7 +65,7 @@ fn index_piece(numbers: &Lookups<'_>, count: usize, store: &[u8], offset: u32) -
     }
 }
 
-/// An element as an output, None for a virtual key.
+/// Returns an element as an output, or `None` for a virtual key.
 fn element_out(element: Element) -> Option<Out>
     ensures { option_to_list result ≡ element_outs element }
 {
@@ -76,7 +76,7 @@ fn element_out(element: Element) -> Option<Out>
     }
 }
 
-/// Appends the element as a piece.
+/// Appends an element as a piece, unless it is a virtual key.
 fn add_element(pieces: &mut Vec<Piece>, element: Element) -> Result<(), Memory>
     ensures { OnOk result (pieces.new.items ≡ pieces.old.items ++ map Fixed (element_outs element)) }
 {
@@ -87,7 +87,7 @@ fn add_element(pieces: &mut Vec<Piece>, element: Element) -> Result<(), Memory>
     Ok(())
 }
 
-/// Appends elements as pieces.
+/// Appends elements as pieces, except virtual keys.
 #[tactic(auto, using(crate::proofs::PieceLaws::elements_more))]
 fn add_elements(pieces: &mut Vec<Piece>, elements: &[Element]) -> Result<(), Memory>
     ensures { OnOk result (pieces.new.items ≡ pieces.old.items ++ map Fixed (flat_map element_outs elements.now)) }
@@ -98,7 +98,7 @@ fn add_elements(pieces: &mut Vec<Piece>, elements: &[Element]) -> Result<(), Mem
     Ok(())
 }
 
-/// Appends the pieces of an item of a rule with so many context items.
+/// Appends the pieces of an output item of a rule that has `count` context items.
 fn add_item(
     pieces: &mut Vec<Piece>,
     numbers: &Lookups<'_>,
@@ -117,7 +117,7 @@ fn add_item(
     Ok(())
 }
 
-/// The pieces of an output of a rule with so many context items.
+/// Returns the pieces of the output of a rule that has `count` context items.
 pub fn pieces_of(
     alloc: Global,
     numbers: &Lookups<'_>,
@@ -133,14 +133,14 @@ pub fn pieces_of(
     Ok(Seq::from_vec(pieces))
 }
 
-/// The element at a place.
+/// Returns the element at a position, if any.
 fn element_at(elements: &[Element], place: Option<u32>) -> Option<Element>
     ensures { result ≡ element_at elements.now place }
 {
     elements.get(place? as usize).copied()
 }
 
-/// What the element at a place puts, None for no element and for a virtual key.
+/// Returns the output of the element at a position, or `None` if there is no element or it is a virtual key.
 fn out_at(elements: &[Element], place: Option<u32>) -> Option<Out>
     ensures { option_to_list result ≡ element_outs_if_any (element_at elements.now place) }
 {
@@ -150,8 +150,8 @@ fn out_at(elements: &[Element], place: Option<u32>) -> Option<Out>
     }
 }
 
-/// What a piece puts.
-fn piece_out(numbers: &Lookups<'_>, place: Option<u32>, piece: Piece) -> Option<Out>
+/// Returns the output of a piece, if any, if the key has this position in its store.
+pub fn piece_out(numbers: &Lookups<'_>, place: Option<u32>, piece: Piece) -> Option<Out>
     ensures { option_to_list result ≡ piece_outs numbers.now.stores place piece }
 {
     match piece {
@@ -160,7 +160,7 @@ fn piece_out(numbers: &Lookups<'_>, place: Option<u32>, piece: Piece) -> Option<
     }
 }
 
-/// Appends what a piece puts.
+/// Appends the output of a piece, if any.
 fn add_out(
     output: &mut Vec<Out>,
     numbers: &Lookups<'_>,
@@ -176,7 +176,7 @@ fn add_out(
     Ok(())
 }
 
-/// What pieces put where the key has this place in its store, or a `nul` for nothing.
+/// Returns the output of pieces if the key has this position in its store, or a `nul` if the output is empty.
 pub fn outputs_at(
     alloc: Global,
     numbers: &Lookups<'_>,

@@ -1,9 +1,9 @@
-//! The records of a rule.
+//! Builds the records of a rule.
 
 ghost use Rattle.std.specs.Prelude.{◌≡◌, ◌<◌, ◌≤◌, ◌++◌, true, map, unwrap_or, IfOk, OnOk};
 ghost use Rattle.kmn_base.specs.declared.keys.RuleKey.TheVariants as key;
 ghost use Rattle.rule_model.specs.Hold.{key_of_element};
-ghost use Rattle.kmx_format.specs.Compiles.{file_pattern, own_key, rule_records};
+ghost use Rattle.compile_laws.specs.Compiles.{file_pattern, own_key, rule_records};
 ghost use Rattle.rule_expand.specs.Groups.{is_unit_element, are_unit_elements, is_unit_key, has_unit_key};
 ghost use Rattle.rule_expand.specs.Pieces.{template_of, template_record, template_halves, template_records, template_keyed};
 
@@ -22,7 +22,7 @@ pub struct Template {
     pub pieces: Seq<Piece>,
 }
 
-/// A context item.
+/// Returns the pattern of a context item.
 fn pattern_of(numbers: &Lookups<'_>, item: &SrcItem) -> Pat
     ensures { result ≡ file_pattern numbers.now item.now }
 {
@@ -49,7 +49,7 @@ fn pattern_of(numbers: &Lookups<'_>, item: &SrcItem) -> Pat
     }
 }
 
-/// The context of a rule.
+/// Returns the context of a rule.
 fn context_of(alloc: Global, numbers: &Lookups<'_>, items: &[SrcItem]) -> Result<Seq<Pat>, Memory>
     ensures { IfOk result (λ context. context ≡ map (file_pattern numbers.now) items.now) }
 {
@@ -60,8 +60,8 @@ fn context_of(alloc: Global, numbers: &Lookups<'_>, items: &[SrcItem]) -> Result
     Ok(Seq::from_vec(context))
 }
 
-/// What the records of a rule have in common.
-fn template_of(alloc: Global, numbers: &Lookups<'_>, rule: &RuleDef) -> Result<Template, Memory>
+/// Returns what the records of a rule have in common.
+pub fn template_of(alloc: Global, numbers: &Lookups<'_>, rule: &RuleDef) -> Result<Template, Memory>
     ensures { IfOk result (λ template. template ≡ template_of numbers.now rule.now) }
 {
     let context = context_of(alloc, numbers, rule.context.as_slice())?;
@@ -73,8 +73,8 @@ fn template_of(alloc: Global, numbers: &Lookups<'_>, rule: &RuleDef) -> Result<T
     })
 }
 
-/// The key of a rule without a key store.
-fn own_key(numbers: &Lookups<'_>, key: &Option<SrcItem>) -> RuleKey
+/// Returns the key of a rule whose key is not an `any`.
+pub fn own_key(numbers: &Lookups<'_>, key: &Option<SrcItem>) -> RuleKey
     requires { is_unit_key numbers.now.stores key.now ≡ true }
     ensures { result ≡ own_key numbers.now key.now }
 {
@@ -88,8 +88,8 @@ fn own_key(numbers: &Lookups<'_>, key: &Option<SrcItem>) -> RuleKey
     }
 }
 
-/// The key that an element of a key store stands for.
-fn element_key(element: Element) -> RuleKey
+/// Returns the key that an element of a key store denotes.
+pub fn element_key(element: Element) -> RuleKey
     requires { is_unit_element element ≡ true }
     ensures { result ≡ unwrap_or (key_of_element element) key.Any }
 {
@@ -112,7 +112,7 @@ struct RecordMaker<'a> {
 }
 
 impl<'a> RecordMaker<'a> {
-    /// The record for a key, which has this place in a key store, and of two halves this one.
+    /// Returns the record for a key, given the position of the key in a key store, if any, and the number of the half.
     fn record_of(&self, place: Option<u32>, half: u32, key: RuleKey) -> Result<Rule, Memory>
         requires place { unwrap_or place 0 < 0x7FFF_FFFF }
         requires half { half ≤ 1 }
@@ -128,7 +128,7 @@ impl<'a> RecordMaker<'a> {
         })
     }
 
-    /// Appends the records for a key: one, or two halves.
+    /// Appends the records for a key: one, or one for each of two halves.
     fn add_halves(
         &self,
         records: &mut Vec<Rule>,
@@ -162,7 +162,7 @@ impl<'a> RecordMaker<'a> {
         Ok(())
     }
 
-    /// Appends the records for this key: those for each element of a key store, else those for its own key.
+    /// Appends the records of the rule: those for each element if the key is a key store, else those for the key.
     fn add_keyed(&self, records: &mut Vec<Rule>, key: &Option<SrcItem>) -> Result<(), Memory>
         requires { is_unit_key self.now.numbers.now.stores key.now ≡ true }
         ensures { OnOk result (records.new.items ≡ records.old.items ++ template_keyed self.now.numbers.now self.now.template key.now) }

@@ -1,11 +1,11 @@
-//! The stores of a file.
+//! Builds the stores of a file.
 
 ghost use Rattle.std.specs.Prelude.{◌≡◌, ◌+◌, ◌^◌, ◌<◌, ◌≤◌, ◌++◌, nat_eq, if◌then◌else◌, true, [], ◌∷◌, map, length, IfOk, OnOk};
 ghost use Rattle.std.specs.List.{list_all, join_with_byte};
 ghost use Rattle.rule_model.specs.Naming.{item_elements, store_of, stores_onto};
 ghost use Rattle.rule_model.specs.Src.{value_elements};
-ghost use Rattle.kmx_format.specs.Numbers.{dictionary_stores, value_store};
-ghost use Rattle.kmx_format.specs.WellNamed.{is_word};
+ghost use Rattle.compile_laws.specs.Numbers.{dictionary_stores, value_store};
+ghost use Rattle.compile_laws.specs.WellNamed.{is_word};
 ghost use Rattle.rule_expand.specs.Lookups.{source_names, AreFew, BeginWith};
 
 use crate::lookups::{elements_named, key_number, mark_number};
@@ -13,15 +13,16 @@ use crate::values::Values;
 use kmn_base::limits::KEY_NAMES;
 use kmn_base::texts::decoded;
 use kmn_base::{Element, Memory, Seq};
-use kmn_names::ProgramNames;
 use rule_model::system::{DROPPED, KEY_DICTIONARY};
-use rule_model::{FIRST_OWN_CODE, KeyDictionary, SrcItem, Store, StoreDef};
+use rule_model::{SrcItem, Store, StoreDef};
 use std::alloc::Global;
+use store_table::Names;
+use virtual_keys::{FIRST_OWN_CODE, KeyDictionary};
 
-/// Appends the elements that an item of a store statement stands for, behind these stores.
+/// Appends the elements of an item of a store statement that follows these stores.
 fn add_elements(
     elements: &mut Vec<Element>,
-    names: &ProgramNames,
+    names: &Names,
     before: &[Store],
     item: &SrcItem,
 ) -> Result<(), Memory>
@@ -44,10 +45,10 @@ fn add_elements(
     Ok(())
 }
 
-/// The store of a statement, behind these stores.
+/// Returns the store of a statement that follows these stores.
 pub fn store_of(
     alloc: Global,
-    names: &ProgramNames,
+    names: &Names,
     before: &[Store],
     store: &StoreDef,
 ) -> Result<Store, Memory>
@@ -70,7 +71,7 @@ pub fn store_of(
 fn add_store(
     alloc: Global,
     stores: &mut Vec<Store>,
-    names: &ProgramNames,
+    names: &Names,
     store: &StoreDef,
 ) -> Result<(), Memory>
     requires few { AreFew names.now }
@@ -85,11 +86,11 @@ fn add_store(
     Ok(())
 }
 
-/// The stores of statements, with room for some more.
+/// Returns the stores of statements, with capacity for `room` further stores.
 #[tactic(auto, using(crate::proofs::StoreLists::first_stores, crate::proofs::StoreLists::next_store))]
 pub fn statement_stores(
     alloc: Global,
-    names: &ProgramNames,
+    names: &Names,
     stores: &[StoreDef],
     room: usize,
 ) -> Result<Vec<Store>, Memory>
@@ -104,7 +105,7 @@ pub fn statement_stores(
     Ok(made)
 }
 
-/// Appends a name, behind a space unless it is the first.
+/// Appends a name, and a space before it unless it is the first.
 fn add_name(text: &mut Vec<u8>, place: usize, name: &[u8]) -> Result<(), Memory>
     ensures { OnOk result (text.new.items ≡ text.old.items ++ (if nat_eq place 0 then name.now else 32 ∷ name.now)) }
 {
@@ -115,7 +116,7 @@ fn add_name(text: &mut Vec<u8>, place: usize, name: &[u8]) -> Result<(), Memory>
     Ok(())
 }
 
-/// The names of a key dictionary, parted by spaces.
+/// Returns the names of a key dictionary, separated by spaces.
 #[tactic(auto, using(crate::proofs::StoreLists::joined_more, crate::proofs::StoreLists::joined_all))]
 fn joined_names(alloc: Global, keys: &KeyDictionary) -> Result<Vec<u8>, Memory>
     requires { length keys.now ≤ KEY_NAMES }
@@ -131,7 +132,7 @@ fn joined_names(alloc: Global, keys: &KeyDictionary) -> Result<Vec<u8>, Memory>
     Ok(text)
 }
 
-/// A store of characters without a name.
+/// Returns a store of characters without a name.
 fn characters_store(alloc: Global, system: u32, characters: &[char]) -> Result<Store, Memory>
     ensures { IfOk result (λ made. made ≡ record { system = system; name = []; elements = value_elements characters.now }) }
 {
@@ -146,7 +147,7 @@ fn characters_store(alloc: Global, system: u32, characters: &[char]) -> Result<S
     })
 }
 
-/// How many stores a key dictionary has: one where it has a name.
+/// Returns the number of stores of a key dictionary: 1 if it has a name, else 0.
 #[tactic(auto, using(crate::proofs::StoreLists::dictionary_count, crate::proofs::StoreLists::dictionary_none))]
 fn dictionary_count(keys: &KeyDictionary) -> u32
     ensures count { result ≡ length (dictionary_stores keys.now) }
@@ -158,7 +159,7 @@ fn dictionary_count(keys: &KeyDictionary) -> u32
     }
 }
 
-/// The number of the first value, behind these stores and the key dictionary.
+/// Returns the number of the first value, which follows these stores and the key dictionary.
 pub fn first_value(stores: &[Store], keys: &KeyDictionary) -> u32
     requires { length stores.now + length (dictionary_stores keys.now) < 2 ^ 32 }
     ensures { result ≡ length stores.now + length (dictionary_stores keys.now) }
@@ -167,7 +168,7 @@ pub fn first_value(stores: &[Store], keys: &KeyDictionary) -> u32
     stores.len() as u32 + count
 }
 
-/// Appends the store of the key dictionary, where it has a name.
+/// Appends the store of the key dictionary, if it has a name.
 #[tactic(auto, using(crate::proofs::StoreLists::dictionary_text, crate::proofs::StoreLists::dictionary_none))]
 pub fn add_dictionary(
     alloc: Global,

@@ -1,22 +1,22 @@
-//! The elements of one system store.
+//! Finds the elements of one system store.
 
 ghost use Rattle.std.specs.Prelude.{◌≡◌, [], position, find, IfOk};
 ghost use Rattle.rule_model.specs.Naming.{store_of, stores_of, stores_onto};
 ghost use Rattle.rule_model.specs.Tab.{store_elements};
-ghost use Rattle.kmn_names.specs.Numbering.{lists_of};
+ghost use Rattle.store_table.specs.Numbering.{lists_of};
 ghost use Rattle.rule_expand.specs.Expanded.{HasTables};
 ghost use Rattle.rule_expand.specs.Lookups.{source_names, AreFew, BeginWith};
 ghost use Rattle.rule_expand.specs.Stated.{is_of, states};
 
 use crate::stores::{statement_stores, store_of};
 use kmn_base::{Element, Memory, Seq};
-use kmn_names::ProgramNames;
 use rule_checker::Checked;
 use rule_model::system::DROPPED;
 use rule_model::{Program, StoreDef};
 use std::alloc::Global;
+use store_table::Names;
 
-/// The place of the first statement whose store has a system id.
+/// Returns the index of the first statement whose store has a system id, if any.
 fn system_place(stores: &[StoreDef], system: u32) -> Option<usize>
     ensures { result ≡ position (states system) stores.now }
 {
@@ -25,10 +25,10 @@ fn system_place(stores: &[StoreDef], system: u32) -> Option<usize>
         .position(|store| store.system == system && store.system != DROPPED)
 }
 
-/// The elements of the store of a statement, behind the stores of these statements.
+/// Returns the elements of the store of a statement that follows these statements.
 fn statement_elements(
     alloc: Global,
-    names: &ProgramNames,
+    names: &Names,
     before: &[StoreDef],
     store: &StoreDef,
 ) -> Result<Seq<Element>, Memory>
@@ -41,12 +41,12 @@ fn statement_elements(
     Ok(made.elements)
 }
 
-/// The elements of the first store of a system id, in a program with these names.
+/// Returns the elements of the first store of a system id, in a program with these names.
 #[tactic(auto, using(crate::proofs::SystemStores::first_elements, crate::proofs::SystemStores::no_elements))]
 fn first_elements(
     alloc: Global,
     program: &Program,
-    names: &ProgramNames,
+    names: &Names,
     system: u32,
 ) -> Result<Seq<Element>, Memory>
     requires tables { HasTables program.now }
@@ -60,8 +60,8 @@ fn first_elements(
     }
 }
 
-/// The elements of the first store of a system id, none where there is no such store. The stores behind it and the groups
-/// are not made for that.
+/// Returns the elements of the first store of a system id, or no elements if there is no such store. It does not build the later
+/// stores and the groups.
 pub fn system_elements(
     alloc: Global,
     checked: &Checked,

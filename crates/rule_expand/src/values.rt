@@ -1,11 +1,11 @@
-//! The values that conditions and `set` name, each once, by first appearance.
+//! The values that conditions and `set` name, each once, in the order of their first appearance.
 
 ghost use Rattle.std.specs.Prelude.{◌≡◌, [], ◌∷◌, length, flat_map, option_to_list, option_copied, slice_get, IfOk, OnOk, position};
 ghost use Rattle.std.specs.Str.{bytes_eq};
 ghost use Rattle.rule_model.specs.declared.program.GroupDef.{GroupDef};
 ghost use Rattle.rule_model.specs.Naming.{rule_items};
 ghost use Rattle.rule_model.specs.Tab.{distinct_onto};
-ghost use Rattle.kmx_format.specs.Numbers.{item_values, values_of};
+ghost use Rattle.compile_laws.specs.Numbers.{item_values, values_of};
 ghost use Rattle.rule_expand.specs.Values.{with_values};
 
 use indexmap::IndexSet;
@@ -14,7 +14,7 @@ use rule_model::{GroupDef, Program, RuleDef, SrcItem};
 use std::alloc::Global;
 use std::marker::Model;
 
-/// Values of a program, which are found by hash. Contracts see them as the list of the values.
+/// The values of a program, which are found by hash. Contracts model them as the list of the values.
 #[derive(Drop)]
 pub struct Values<'a> {
     found: IndexSet<&'a [char]>,
@@ -29,7 +29,7 @@ impl<'a> Model for Values<'a> {
 }
 
 impl<'a> Values<'a> {
-    /// No values.
+    /// Creates an empty set of values.
     fn new(alloc: Global) -> Values<'a>
         ensures { result ≡ [] }
     {
@@ -38,7 +38,7 @@ impl<'a> Values<'a> {
         }
     }
 
-    /// Adds a value where it is new.
+    /// Adds a value if it is new.
     fn add(&mut self, value: &'a [char]) -> Result<(), Memory>
         ensures { OnOk result (self.new ≡ distinct_onto bytes_eq self.old (value.now ∷ [])) }
     {
@@ -46,21 +46,21 @@ impl<'a> Values<'a> {
         Ok(())
     }
 
-    /// How many values there are.
+    /// Returns the number of values.
     pub fn len(&self) -> usize
         ensures { result ≡ length self.now }
     {
         self.found.len()
     }
 
-    /// The place of a value.
+    /// Returns the index of a value, if any.
     pub fn place_of(&self, value: &[char]) -> Option<usize>
         ensures { result ≡ position (λ known. bytes_eq known value.now) self.now }
     {
         self.found.get_index_of(value)
     }
 
-    /// The value at a place.
+    /// Returns the value at an index, if any.
     pub fn at(&self, place: usize) -> Option<&'a [char]>
         ensures { option_copied result ≡ slice_get self.now place }
     {
@@ -135,7 +135,7 @@ fn add_groups<'a>(values: &mut Values<'a>, groups: &'a [GroupDef]) -> Result<(),
     Ok(())
 }
 
-/// The values of a program.
+/// Returns the values of a program.
 #[tactic(auto, using(crate::proofs::ValueSets::values_of_program))]
 pub fn values_of<'a>(alloc: Global, program: &'a Program) -> Result<Values<'a>, Memory>
     ensures { IfOk result (λ values. values ≡ values_of program.now) }

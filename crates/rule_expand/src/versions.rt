@@ -4,14 +4,14 @@ ghost use Rattle.std.specs.Prelude.{◌≡◌, ℕ, List, find, map, option_map,
 ghost use Rattle.kmx_format.specs.declared.versions.TheConstants.{OWN_VERSION};
 ghost use Rattle.rule_model.specs.Match.{same_value};
 ghost use Rattle.rule_model.specs.Src.{value_elements};
-ghost use Rattle.kmx_format.specs.Numbers.{is_version, stated_version};
+ghost use Rattle.compile_laws.specs.Numbers.{is_version, stated_version};
 
 use kmn_base::Element;
 use kmx_format::{OWN_VERSION, file_versions};
 use rule_model::Store;
 use rule_model::system::VERSION;
 
-/// Whether elements are the characters of an ASCII text.
+/// Returns whether elements are the characters of an ASCII text.
 fn is_text(text: &[u8], elements: &[Element]) -> bool
     ensures { result ≡ same_value (value_elements text.now) elements.now }
 {
@@ -24,7 +24,7 @@ fn is_text(text: &[u8], elements: &[Element]) -> bool
     }
 }
 
-/// The number of the version that elements state, in a table.
+/// Returns the number of the version that elements state, in a table.
 fn version_in(table: &[(&str, u16)], elements: &[Element]) -> u16
     ensures { result ≡ unwrap_or (option_map (λ (row : List ℕ × ℕ). row.1) (find (λ (row : List ℕ × ℕ). same_value (value_elements row.0) elements.now) (map (λ row. (row.0.now, row.1)) table.now))) OWN_VERSION }
 {
@@ -36,7 +36,7 @@ fn version_in(table: &[(&str, u16)], elements: &[Element]) -> u16
     OWN_VERSION
 }
 
-/// The version of the file of these stores: what the first `&version` states.
+/// Returns the version of the file of these stores, which the first `&version` states.
 pub fn version_of(stores: &[Store]) -> u16
     ensures { result ≡ stated_version (find is_version stores.now) }
 {

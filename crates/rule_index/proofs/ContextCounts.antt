@@ -14,7 +14,7 @@ use Rattle.rule_model.specs.Hold.{pattern_count}
 use Rattle.rule_model.specs.Tab.{tab_pattern}
 use Rattle.rule_index.specs.Groups.{RuleIndexValue, context_count, record_contexts, IsRuleIndexOf}
 
--- a pattern that looks at an item counts, another doesn't
+-- a pattern that takes an item counts, and another pattern does not count
 pub counted : (pattern : Pattern) (context : List Pattern) → takes_item pattern ≡ true → pattern_count (pattern ∷ context) ≡ 1 + pattern_count context
 counted pattern context is = sum_by-cons (λ (p : Pattern). cond (takes_item p) 1 0) pattern context ∙ ap (λ (takes : Bool). cond takes 1 0 + pattern_count context) is
 
@@ -27,7 +27,7 @@ uncounted pattern context is =
 pub few_patterns : (context : List Pattern) → pattern_count context ≤ length context
 few_patterns context = count_by-le-length takes_item context
 
--- the context at the number of a record is the record's
+-- the context at the number of a record is the context of the record
 pub context_found : (group : Group) (index : RuleIndexValue) (n : ℕ) (rule : Rule) → IsRuleIndexOf group index → slice_get group.rules n ≡ Some rule
     → slice_index_or index.contexts n [] ≡ rule.context
 context_found group index n rule is here =
@@ -35,7 +35,7 @@ context_found group index n rule is here =
     ap (λ (contexts : List (List Pat)). slice_index_or contexts n []) is.contexts
     ∙ (get_or-map context group.rules n rule [] (slice_get_within group.rules n rule here) ∙ ap context (get_or_from_slice_get group.rules n rule rule here))
 
--- the count at the number of a record with a short context is its context's
+-- if the context of a record is short, the count at the record's number is the count of the context
 pub count_found : (group : Group) (index : RuleIndexValue) (n : ℕ) (rule : Rule) → IsRuleIndexOf group index → slice_get group.rules n ≡ Some rule
     → length rule.context ≤ CONTEXT_ITEMS → slice_index_or index.counts n 0 ≡ pattern_count (map (tab_pattern []) rule.context)
 count_found group index n rule is here short =

@@ -1,4 +1,4 @@
--- How much room names have that are read: the store that they stand in has no more elements than a store may have.
+-- How many names are read at most: the store of the names has no more elements than a store may have.
 use Rattle.std.proofs.Common.{ℕ, ◌≤◌, List, [], ◌∷◌, length, arith}
 use Rattle.std.specs.Prelude.{find}
 use Rattle.kmn_base.specs.declared.items.Element.{Element}
@@ -8,7 +8,7 @@ use Rattle.rule_model.specs.Tab.{is_dictionary, store_elements}
 use Rattle.rule_model.proofs.KeyNames.{dictionary_has}
 use Rattle.rule_index.specs.Stores.{HaveFewElements}
 
--- 1 for a word that has begun
+-- 1 if a word has begun, else 0
 abbrev pub begun : List ℕ → ℕ
 begun [] = 0
 begun (b ∷ bytes) = 1

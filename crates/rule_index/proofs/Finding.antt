@@ -9,7 +9,7 @@ use Rattle.std.proofs.lemmas.Option.{slice_get_cases, slice_get_within, get_or_f
 use Rattle.kmn_base.specs.declared.limits.TheConstants.{RECORDS}
 use Rattle.rule_index.specs.declared.row.Row.{Row}
 use Rattle.rule_index.specs.Rows.{ranked, rank, AreNumbered, HasRow, IsIndexOf, StartsAt, number_if}
-use Rattle.rule_index.specs.Next.{IsFirstOf, NoneOf, FirstOf}
+use Rattle.rule_index.proofs.Firsts.{IsFirstOf, NoneOf, FirstOf}
 
 -- rows in the order of their numbers, sorted by rank, are the index
 pub index_from : (classes : List ℕ) (before rows : List Row) → length classes ≤ RECORDS → AreNumbered classes before → IsPermutation before rows
@@ -40,7 +40,7 @@ index_from classes before rows few given moved sorted = record { few = few; coun
       | inr past ↦ absurd (omega (arith, given.0))
     ]
 
--- the row of a later number of a class stands no earlier than where its rows start
+-- the row of a number of a class, from a number on, is not before the start of the rows
 row_behind : (class from place n : ℕ) (rows : List Row) (classes : List ℕ) (d : Row) → StartsAt (ranked class from) rows place
     → (has : HasRow classes rows n) → from ≤ n → slice_index_or classes n 0 ≡ class → place ≤ has.place
 row_behind class from place n rows classes d starts has up same = elim (cases_lt has.place place) [
@@ -51,7 +51,7 @@ row_behind class from place n rows classes d starts has up same = elim (cases_lt
       absurd (omega (arith, less, class_is, has.number d, up))
 ]
 
--- the row at the start has the class
+-- if the row at the start has the class, its number is the first of the class
 found : (class from place : ℕ) (rows : List Row) (classes : List ℕ) (row : Row) → StartsAt (ranked class from) rows place → IsIndexOf classes rows
     → slice_get rows place ≡ Some row → row.class ≡ class → IsFirstOf class classes from (Some row.number)
 found class from place rows classes row starts index e same = FirstOf row.number behind within met skipped
@@ -83,7 +83,7 @@ found class from place rows classes row starts index e same = FirstOf row.number
         let class_is : (slice_index_or rows has.place row).class ≡ class = has.class row ∙ is in
         absurd (omega (arith, low, class_is, has.number row, same))
 
--- no row at the start has the class
+-- if no row at the start has the class, no number has it
 not_found : (class from place : ℕ) (rows : List Row) (classes : List ℕ) → StartsAt (ranked class from) rows place → IsIndexOf classes rows
     → ((row : Row) → slice_get rows place ≡ Some row → row.class ≢ class) → IsFirstOf class classes from None
 not_found class from place rows classes starts index other = NoneOf (λ n up within is.
@@ -104,7 +104,7 @@ not_found class from place rows classes starts index other = NoneOf (λ n up wit
       ]
     ])
 
--- a search finds the first number of a class from one on
+-- a search finds the first number of a class, from a number on
 pub first_found : (class from place : ℕ) (rows : List Row) (classes : List ℕ) → StartsAt (ranked class from) rows place → IsIndexOf classes rows
     → IsFirstOf class classes from (number_if class (slice_get rows place))
 first_found class from place rows classes starts index = go (slice_get rows place) refl

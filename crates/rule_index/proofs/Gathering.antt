@@ -1,4 +1,4 @@
--- The elements of a store, walked by what they are, give a row for the first of each item.
+-- Iterating over the elements of a store, sorted by class, produces a row for the first place of each item.
 use Rattle.std.proofs.Common.{◌≡◌, ◌≢◌, ◌+◌, ◌*◌, ◌<◌, ◌≤◌, ℕ, List, [], ◌∷◌, ◌++◌, Some, length, map, slice_index_or, inl, inr, refl, sym, ◌∙◌, ap, subst, arith}
 use Rattle.std.specs.List.{All, Contains}
 use Rattle.std.proofs.lemmas.Bool.{cases_lt}
@@ -13,11 +13,11 @@ use Rattle.rule_index.specs.declared.holding.Holding.{Holding}
 use Rattle.rule_index.specs.declared.row.Row.{Row}
 use Rattle.rule_index.specs.Elements.{element_number, item_number}
 use Rattle.rule_index.specs.Holdings.{holding_rank, content_at, holding_of, IsHeld, IsSmall, StandOnce, AreGathered}
-use Rattle.rule_index.specs.Next.{IsFirstOf, FirstOf}
+use Rattle.rule_index.proofs.Firsts.{IsFirstOf, FirstOf}
 use Rattle.rule_index.specs.Rows.{rank, IsIndexOf}
 use Rattle.rule_index.proofs.Places.{first_is_place, place_has_number}
 
--- the classes of sorted rows never fall
+-- if rows are sorted, their classes never decrease
 classes_rise : (classes : List ℕ) (places : List Row) (i k : ℕ) (d : Row) → IsIndexOf classes places → i ≤ k → k < length places
     → (slice_index_or places i d).class ≤ (slice_index_or places k d).class
 classes_rise classes places i k d index up within =
@@ -26,7 +26,7 @@ classes_rise classes places i k d index up within =
     let second : (slice_index_or places k d).number < length classes = index.numbers k d within in
     omega (arith, rise, first, second, index.few)
 
--- the first row of a class has the first number of it
+-- the first row of a class has the first number that has the class
 first_of_class : (classes : List ℕ) (places : List Row) (i : ℕ) (row : Row) → IsIndexOf classes places → i < length places → slice_index_or places i row ≡ row
     → ((k : ℕ) → k < i → (slice_index_or places k row).class ≢ row.class) → IsFirstOf row.class classes 0 (Some row.number)
 first_of_class classes places i row index within here others = FirstOf row.number (omega arith) number met skipped
@@ -64,8 +64,8 @@ still rows more item store has = record {
   of_store = has.of_store;
 }
 
--- the rows of a store's elements up to a count are passed, and the last class that was put is the greatest of them: all that was put
--- has a row for each item among them, and stands once
+-- the first `count` rows of a store's elements are passed, and the last class that was put is the greatest of them: the rows that were
+-- put include one for each item among them, and no two have the same rank
 pub record ArePassed (stores : List (List Element)) (store : ℕ) (places : List Row) (rows : List Holding) (count last : ℕ) : Type 0 where
   small : All IsSmall rows
   right : All (IsHeld stores) rows
@@ -78,7 +78,7 @@ pub record ArePassed (stores : List (List Element)) (store : ℕ) (places : List
   put : (k : ℕ) (d : Row) → k < count → k < length places → 0 < (slice_index_or places k d).class → HasRowOf rows (slice_index_or places k d).class store
   put_last : 0 < last → HasRowOf rows last store
 
--- none are passed at first
+-- at first, no row is passed
 pub none_passed : (stores : List (List Element)) (store : ℕ) (places : List Row) (rows : List Holding) → AreGathered stores rows store → ArePassed stores store places rows 0 0
 none_passed stores store places rows gathered = record {
   small = gathered.small;
@@ -93,14 +93,14 @@ none_passed stores store places rows gathered = record {
   put_last = λ some. absurd (omega arith);
 }
 
--- one row more is passed
+-- one more row is passed
 module _ (stores : List (List Element)) (store : ℕ) (places : List Row) (rows : List Holding) (count last : ℕ) (row : Row)
     (index : IsIndexOf (map element_number (content_at stores store)) places) (within : count < length places)
     (at : (d : Row) → slice_index_or places count d ≡ row) (passed : ArePassed stores store places rows count last) where
   class_at : (k : ℕ) (d : Row) → k ≡ count → (slice_index_or places k d).class ≡ row.class
   class_at k d is = ap (λ (n : ℕ). (slice_index_or places n d).class) is ∙ ap (λ (r : Row). r.class) (at d)
 
-  -- it is of the class of the one before it
+  -- if the row has the class of the row before it, no row is put
   pub same_passed : row.class ≡ last → ArePassed stores store places rows (count + 1) last
   same_passed same = record {
     small = passed.small;
@@ -123,7 +123,7 @@ module _ (stores : List (List Element)) (store : ℕ) (places : List Row) (rows 
     put_last = passed.put_last;
   }
 
-  -- it is the first of its class, for which a row is put
+  -- if the row is the first of its class, a row is put
   module _ (first : row.class ≢ last) (few : store < 65536) (small : row.number < 65536) where
     abbrev more : Holding
     more = record { item = row.class; store = store; place = row.number }
@@ -180,7 +180,7 @@ item_above : (x : Item) → 0 < item_number x
 item_above (item.Char c) = omega arith
 item_above (item.Mark m) = omega arith
 
--- the row of an item that first stands at a place of a store, where some row is of this item and store
+-- if some row is of an item and of a store that has it, the rows contain the row of the item's first place in the store
 row_known : (stores : List (List Element)) (rows : List Holding) (x : Item) (store place : ℕ) → All (IsHeld stores) rows → place_of x (content_at stores store) ≡ Some place
     → HasRowOf rows (item_number x) store → Contains rows (holding_of x store place)
 row_known stores rows x store place right is has =
@@ -191,7 +191,7 @@ row_known stores rows x store place right is has =
     let same : has.row ≡ holding_of x store place = λ i. record { item = has.of_item i; store = has.of_store i; place = place_is i } in
     subst (Contains rows) same has.among
 
--- when all are passed the store has its rows
+-- if all rows of its elements are passed, the store has its rows
 pub all_passed : (stores : List (List Element)) (store last : ℕ) (places : List Row) (rows : List Holding) → IsIndexOf (map element_number (content_at stores store)) places
     → ArePassed stores store places rows (length places) last → AreGathered stores rows (store + 1)
 all_passed stores store last places rows index passed = record {

@@ -9,7 +9,7 @@ use Rattle.kmn_base.specs.declared.limits.TheConstants.{RECORDS}
 use Rattle.rule_model.specs.declared.tables.Group.{Group}
 use Rattle.rule_index.specs.Groups.{RuleIndexValue, AreIndexesOf, IsRuleIndexOf}
 
--- the groups before those that are left have their indexes
+-- each group before the remaining groups has its index
 pub record AreIndexed (groups : List Group) (indexes : List RuleIndexValue) (left : List Group) : Type 0 where
   pub behind : drop (length indexes) groups ≡ left
   pub count : length indexes + length left ≡ length groups
@@ -26,7 +26,7 @@ none_indexed groups = record {
   right = λ k group d below got. absurd (omega arith);
 }
 
--- the first group that is left is the next one, and the others are left behind it
+-- the first remaining group is the group at this number, and the other groups remain after it
 group_here : (groups : List Group) (n : ℕ) (here : Group) (left : List Group) → drop n groups ≡ here ∷ left → slice_get groups n ≡ Some here
 group_here [] zero here left e = absurd (cc)
 group_here [] (suc n) here left e = absurd (cc)
@@ -41,7 +41,7 @@ groups_behind (group ∷ groups) zero here left e =
     all_left groups ∙ same
 groups_behind (group ∷ groups) (suc n) here left e = groups_behind groups n here left e
 
--- one group more
+-- if the index of the next group is appended, one more group is indexed
 pub one_indexed : (groups : List Group) (indexes : List RuleIndexValue) (here : Group) (left : List Group) (index : RuleIndexValue)
     → AreIndexed groups indexes (here ∷ left) → IsRuleIndexOf here index → AreIndexed groups (indexes ++ index ∷ []) left
 one_indexed groups indexes here left index h is =
@@ -63,14 +63,14 @@ one_indexed groups indexes here left index h is =
       ];
     }
 
--- all groups have theirs
+-- if no group remains, each group has its index
 pub all_indexed : (groups : List Group) (indexes : List RuleIndexValue) → AreIndexed groups indexes [] → AreIndexesOf groups indexes
 all_indexed groups indexes h = record {
   count = omega (arith, h.count);
   right = λ k group d got. h.right k group d (omega (arith, h.count, slice_get_within groups k group got)) got;
 }
 
--- the next group has few records where all have
+-- if all groups have few records, the next group has few records
 pub group_few : (groups : List Group) (indexes : List RuleIndexValue) (here : Group) (left : List Group)
     → All (λ group. length group.rules ≤ RECORDS) groups → AreIndexed groups indexes (here ∷ left) → length here.rules ≤ RECORDS
 group_few groups indexes here left few h =
@@ -78,7 +78,7 @@ group_few groups indexes here left few h =
     subst (λ (g : Group). length g.rules ≤ RECORDS) (get_or_from_slice_get groups (length indexes) here here at)
     (few (length indexes) here (slice_get_within groups (length indexes) here at))
 
--- the index that is found at a group's number is the group's
+-- the index that is found at a group's number is the index of the group
 pub index_within : (groups : List Group) (indexes : List RuleIndexValue) (n : ℕ) (group : Group) → AreIndexesOf groups indexes → slice_get groups n ≡ Some group → n < length indexes
 index_within groups indexes n group h at = omega (arith, h.count, slice_get_within groups n group at)
 

@@ -1,4 +1,4 @@
--- The rows between the start of an item and that of the next are its holders.
+-- The rows between the start of an item and the start of the next item are its holders.
 use Rattle.std.proofs.Common.{◌≡◌, ◌≢◌, ◌+◌, ◌-◌, ◌<◌, ◌≤◌, ℕ, List, Some, length, drop, take, slice_index_or, inl, inr, refl, sym, ◌∙◌, ap, subst, arith}
 use Rattle.std.specs.List.{All, Any, Contains}
 use Rattle.std.specs.List.Sorted.{IsNonDecreasingBy}
@@ -11,7 +11,7 @@ use Rattle.rule_index.specs.declared.holding.Holding.{Holding}
 use Rattle.rule_index.specs.Elements.{item_number}
 use Rattle.rule_index.specs.Holdings.{holding_start, holding_rank, content_at, holding_of, IsSmall, StandOnce, AreHoldings, AreHoldersOf, EndsAt}
 
--- sorted rows that stand once rise
+-- if rows are sorted and no two have the same rank, their ranks increase
 ranks_rise : (rows : List Holding) → IsNonDecreasingBy holding_rank rows → StandOnce rows → (i j : ℕ) (d : Holding) → i < j → j < length rows
     → holding_rank (slice_index_or rows i d) < holding_rank (slice_index_or rows j d)
 ranks_rise rows sorted once i j d less below =
@@ -54,7 +54,7 @@ module _ (stores : List (List Element)) (rows : List Holding) (x : Item) (from t
       let within : k < to - from = omega (arith, run_length, below) in
       subst (λ (r : Holding). r.item ≡ item_number x) (sym (row_of_run k d within)) (of_item k d within)
 
-  -- and they rise in their stores, since one store has one first place of it
+  -- and their store numbers increase, since a store has one first place of the item
   stores_rise : (i j : ℕ) (d : Holding) → i < j → j < to - from → (slice_index_or rows (from + i) d).store < (slice_index_or rows (from + j) d).store
   stores_rise i j d less below =
       let one : Holding = slice_index_or rows (from + i) d in

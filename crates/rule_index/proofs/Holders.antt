@@ -1,4 +1,4 @@
--- Rows of all stores that are sorted are the holdings, and a search finds what they say of an item and a store.
+-- If the rows of all stores are sorted, they are the holdings, and a search finds the first place of an item in a store.
 use Rattle.std.proofs.Common.{◌≡◌, ◌<◌, ◌≤◌, ◌&&◌, eqb, ℕ, Bool, true, false, List, [], Option, Some, None, length, slice_get, slice_index_or, inl, inr, refl, sym, ◌∙◌, ap, subst, arith}
 use Rattle.std.specs.List.{All, Contains}
 use Rattle.std.specs.List.Sorted.{IsPermutation, IsNonDecreasingBy}
@@ -15,7 +15,7 @@ use Rattle.rule_index.specs.declared.holding.Holding.{Holding}
 use Rattle.rule_index.specs.Elements.{item_number}
 use Rattle.rule_index.specs.Holdings.{holding_start, holding_rank, content_at, holding_of, IsHeld, IsSmall, StandOnce, AreGathered, AreHoldings, EndsAt, place_if}
 
--- there is a store that has an item
+-- if a store has an item, its number is less than the count of stores
 store_within : (stores : List (List Element)) (x : Item) (store place : ℕ) → place_of x (content_at stores store) ≡ Some place → store < length stores
 store_within stores x store place is = elim (cases_lt store (length stores)) [
   | inl within ↦ within
@@ -25,7 +25,7 @@ store_within stores x store place is = elim (cases_lt store (length stores)) [
       cc
 ]
 
--- rows that stand once do so in any order
+-- if no two rows have the same rank, no two have it in another order
 abbrev same_rank : Holding → Holding → Bool
 same_rank a b = eqb (holding_rank a) (holding_rank b)
 
@@ -46,7 +46,7 @@ once_moved before rows moved once i j d less below =
     apart : (n k : ℕ) (e : Holding) → n < k → k < length before → same_rank (slice_index_or before n e) (slice_index_or before k e) ≡ false
     apart n k e early within = ne_eqb (holding_rank (slice_index_or before n e)) (holding_rank (slice_index_or before k e)) (once n k e early within)
 
--- the rows of all stores, sorted
+-- if the rows of all stores are sorted, they are the holdings
 pub holdings_from : (stores : List (List Element)) (before rows : List Holding) → AreGathered stores before (length stores) → IsPermutation before rows
     → IsNonDecreasingBy holding_rank rows → AreHoldings stores rows
 holdings_from stores before rows gathered moved sorted = record {
@@ -57,7 +57,7 @@ holdings_from stores before rows gathered moved sorted = record {
   complete = λ x store place is. Contains-permutation before rows (holding_of x store place) moved (gathered.complete x store place (store_within stores x store place is) is);
 }
 
--- the rows of a later start end no earlier
+-- if a start is at least another start, its rows do not end earlier
 pub ends_in_order : (start later from to : ℕ) (rows : List Holding) → start ≤ later → EndsAt start rows from → EndsAt later rows to → from ≤ to
 ends_in_order start later from to rows order one other = elim (cases_lt to from) [
   | inr up ↦ up
@@ -144,7 +144,7 @@ place_found stores rows x store place are below starts = go (slice_get rows plac
             let never : true ≡ false = sym same ∙ other in
             cc
 
--- no store whose number takes more than 16 bits has an item
+-- no store whose number needs more than 16 bits has an item
 pub none_past : (stores : List (List Element)) (rows : List Holding) (x : Item) (store : ℕ) → AreHoldings stores rows → 65536 ≤ store
     → place_of x (content_at stores store) ≡ None
 none_past stores rows x store are past = go (place_of x (content_at stores store)) refl

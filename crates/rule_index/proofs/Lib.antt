@@ -1,3 +1,4 @@
+pub mod Firsts
 pub mod ContextCounts
 pub mod FewNames
 pub mod Finding
@@ -13,4 +14,5 @@ pub mod Places
 pub mod Skipping
 pub mod StoreIndexes
 pub mod StoreValues
+pub mod TextEntries
 pub mod Walk

@@ -1,4 +1,4 @@
--- A record that holds has a class that the press and the last item meet.
+-- If a record holds, the key press and the last item can match its class.
 use Rattle.std.proofs.Common.{◌≡◌, ◌⊎◌, ℕ, zero, suc, ◌+◌, Bool, true, false, List, [], ◌∷◌, ◌++◌, length, drop, ◌-◌, Option, Some, None, eqb, inl, inr, sym, refl, ◌∙◌, ap, subst, arith}
 use Rattle.std.specs.Prelude.{slice_get, ◌&&◌}
 use Rattle.std.specs.List.{list_all}
@@ -9,17 +9,18 @@ use Rattle.kmn_base.specs.declared.items.Item.TheVariants as item
 use Rattle.kmn_base.specs.declared.keys.RuleKey.{RuleKey}
 use Rattle.kmn_base.specs.declared.keys.RuleKey.TheVariants as key
 use Rattle.kmn_base.specs.declared.keys.KeyPress.{KeyPress}
-use Rattle.rule_model.specs.Fits.{char_of_press, key_fits, flags_fit}
+use Rattle.virtual_keys.specs.Fits.{char_of_press, key_fits, flags_fit}
 use Rattle.rule_model.specs.declared.event_state.Catch.{Catch}
 use Rattle.rule_model.specs.declared.event_state.Caught.{Caught}
 use Rattle.rule_model.specs.Keyboard.{Pattern, IsChar, IsMark, IsAny, IsNotAny, IsIndex, IsContextAt, IfEqual, IfUnequal, AtStart, KeyPattern, OneKey, KeyIn, RuleMeaning}
 use Rattle.rule_model.specs.Match.{Content, takes_item, matches, place_for, nothing_caught, catch_item, catches_from}
-use Rattle.rule_model.specs.Hold.{is_true, has_room, pattern_count, fitting_place, caught_by, holds}
+use Rattle.rule_model.specs.Hold.{is_true, has_room, pattern_count, caught_by, holds}
+use Rattle.rule_model.proofs.CaughtParts.{fitting_place}
 use Rattle.rule_model.proofs.CaughtParts.{caught_parts}
 use Rattle.rule_index.specs.Laws.{HoldingIsWanted}
 use Rattle.rule_index.specs.Classes.{key_class, key_part, pattern_class, last_class, given_class, item_class, last_item, class_of}
 
--- a class that an item meets
+-- an item can match a part: 0, or the part of the item
 abbrev pub Meets : Option Item → ℕ → Type 0
 Meets o class = (class ≡ 0) ⊎ (class ≡ item_class o)
 
@@ -36,7 +37,7 @@ pattern_met content seen (IfEqual s v) x e = inl refl
 pattern_met content seen (IfUnequal s v) x e = inl refl
 pattern_met content seen AtStart x e = inl refl
 
--- what is caught behind a pattern
+-- what is caught after a pattern
 abbrev Rest : Type 0
 Rest = Catch → List Item → Option (List Catch)
 
@@ -56,7 +57,7 @@ item_met content seen p rest (x ∷ text) r e = elim (cases_Bool (matches conten
       no_item r _ (sym (cond-false (matches content seen p x) (rest catch text) None other) ∙ e)
 ]
 
--- what a context's last pattern wants, its text's last item is
+-- if a rule context catches a text, the last item of the text can match the part of the last pattern
 pub last_met : (content : Content) (seen : List Catch) (patterns : List Pattern) (text : List Item) (r : List Catch) (before : Option Item) (class : ℕ)
     → catches_from content seen patterns text ≡ Some r → Meets before class → Meets (last_item before text) (last_class class patterns)
 last_met content seen [] [] r before class e h = h
@@ -79,14 +80,14 @@ last_met content seen (p ∷ patterns) text r before class e h =
           subst (λ (k : ℕ). Meets (last_item before text) (last_class k patterns)) (sym (cond-false (takes_item p) (pattern_class p) class none)) met
     ]
 
--- the last of the last items of a list is its last
+-- if the last item of a list's end can match a part, the last item of the list can match it
 pub last_of_last : (k : ℕ) (xs : List Item) (class : ℕ) (before : Option Item) → Meets (last_item None (drop k xs)) class → Meets (last_item before xs) class
 last_of_last zero [] class before h = elim h [ inl e ↦ inl e | inr e ↦ inl e ]
 last_of_last zero (x ∷ xs) class before h = h
 last_of_last (suc k) [] class before h = elim h [ inl e ↦ inl e | inr e ↦ inl e ]
 last_of_last (suc k) (x ∷ xs) class before h = last_of_last k xs class (Some x) h
 
--- by what a key was met
+-- a press can match a key: by 0, by its character or by its code
 abbrev pub KeyMet : KeyPress → RuleKey → Type 0
 KeyMet press wanted =
     (key_class wanted ≡ 0) ⊎ ((key_class wanted ≡ given_class press (char_of_press press)) ⊎ (key_class wanted ≡ 65537 + press.code))
@@ -104,7 +105,7 @@ key_met press (key.Virtual flags code) e = inr (inr (elim (cases_Bool (eqb code 
   | inr other ↦ let absurd_case : false ≡ true = ap (λ (b : Bool). b && flags_fit flags press.mods) (sym other) ∙ e in cc
 ]))
 
--- by what the key of a record was met
+-- a press can match the key of a record: by 0, by its character or by its code
 abbrev PartMet : KeyPress → KeyPattern → Type 0
 PartMet press k = (key_part k ≡ 0) ⊎ ((key_part k ≡ given_class press (char_of_press press)) ⊎ (key_part k ≡ 65537 + press.code))
 
@@ -115,7 +116,7 @@ part_met content press (OneKey wanted) place e = key_met press wanted (elim (cas
   | inr misfit ↦ let absurd_case : None ≡ Some place = sym (cond-false (key_fits wanted press) (Some None) None misfit) ∙ e in cc
 ])
 
--- a record that holds is met by the press and by the last item
+-- if a record holds, the press can match its key and the last item its last pattern
 holding_met : (content : Content) (left : List Item) (press : KeyPress) (rule : RuleMeaning) (caught : Caught)
     → holds content left press rule ≡ Some caught → PartMet press rule.key × Meets (last_item None left) (last_class 0 rule.context)
 holding_met content left press rule caught e =
@@ -138,7 +139,7 @@ pub last_at : (xs : List Item) → last_item None xs ≡ slice_get xs (length xs
 last_at [] = refl
 last_at (x ∷ xs) = last_with None x xs ∙ ap (slice_get (x ∷ xs)) (omega arith)
 
--- a record that holds has one of the classes that the press and the list want
+-- if a record holds, it has one of the classes that the press and the left list can match
 pub holding_is_wanted : HoldingIsWanted
 holding_is_wanted content left press rule caught e =
     let met = holding_met content left press rule caught e in

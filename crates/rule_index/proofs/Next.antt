@@ -1,11 +1,12 @@
--- The next of some classes is the least of the first of each, and before the second least only the class of the least has numbers.
+-- The next number of some classes is the least of their first numbers, and only its class has numbers below the second least.
 use Rattle.std.proofs.Common.{◌+◌, Some, None, Option, ◌≡◌, ◌≢◌, ◌<◌, ◌≤◌, ◌⊎◌, ℕ, List, length, slice_index_or, inl, inr, sym, ◌∙◌, ap, arith}
 use Rattle.std.specs.Prelude.{unwrap_or}
 use Rattle.std.proofs.lemmas.Bool.{cases_lt}
-use Rattle.rule_index.specs.Next.{IsFirstOf, NoneOf, FirstOf, IsNext, NoneIsLeft, IsTheNext}
+use Rattle.rule_index.specs.Next.{IsNext, NoneIsLeft, IsTheNext}
+use Rattle.rule_index.proofs.Firsts.{IsFirstOf, NoneOf, FirstOf}
 
--- the least number, from one on, that has one of the first `count` wanted classes, 131072 where none has one; its class; and a limit
--- before which these classes have a number only where it has this one
+-- the least number, from `from` on, that has one of the first `count` matching classes, or 131072 if there is none; its class; and a
+-- limit below which each number that has one of these classes has this class
 pub record IsLeast (wanted classes : List ℕ) (from count least class limit : ℕ) : Type 0 where
   pub found : least < 131072 → (from ≤ least) × (least < length classes) × (slice_index_or classes least 0 ≡ class)
   pub skipped : (n j : ℕ) → from ≤ n → n < least → n < length classes → j < count → slice_index_or classes n 0 ≢ slice_index_or wanted j 0
@@ -19,7 +20,7 @@ none_yet wanted classes from class = record {
   alone = λ n j a b w h. absurd (omega arith);
 }
 
--- the first number of a class
+-- the first number of a class, from `from` on, or 131072 if there is none
 pub record IsFirstNumber (class : ℕ) (classes : List ℕ) (from first : ℕ) : Type 0 where
   pub found : first < 131072 → (from ≤ first) × (first < length classes) × (slice_index_or classes first 0 ≡ class)
   pub skipped : (n : ℕ) → from ≤ n → n < first → n < length classes → slice_index_or classes n 0 ≢ class
@@ -35,7 +36,7 @@ first_number class from classes (Some m) few (FirstOf p behind within met skippe
   skipped = λ n a b w. skipped n a b;
 }
 
--- one class more, whose first number is this
+-- one more class, with its first number
 module _ (wanted classes : List ℕ) (from count least limit class more first : ℕ) (is : more ≡ slice_index_or wanted count 0)
     (so_far : IsLeast wanted classes from count least class limit) (one : IsFirstNumber more classes from first) where
   split : (j : ℕ) → j < count + 1 → (j < count) ⊎ (j ≡ count)
@@ -74,7 +75,7 @@ module _ (wanted classes : List ℕ) (from count least limit class more first : 
   pub goes_second : least < first → first < limit → IsLeast wanted classes from (count + 1) least class first
   goes_second less below = later first (omega arith) (omega arith) (λ n a b w e. absurd (one.skipped n a b w e))
 
-  -- it's the least again, or no less than the limit
+  -- the first number of the class is the least again, or at least the limit
   pub goes_last : least ≤ first → (least < first → limit ≤ first) → length classes ≤ 131072 → IsLeast wanted classes from (count + 1) least class limit
   goes_last behind beyond few = later limit behind (omega arith) (λ n a b w e. elim (cases_lt least first) [
     | inl less ↦ absurd (one.skipped n a (omega (arith, beyond less)) w e)
@@ -87,7 +88,7 @@ module _ (wanted classes : List ℕ) (from count least limit class more first : 
     ]
   ])
 
--- the least of all classes is the next
+-- the least number of all classes is the next candidate
 pub least_is_next : (wanted classes : List ℕ) (from count least class limit : ℕ) → IsLeast wanted classes from count least class limit
     → (j : ℕ) × (j < count) × (class ≡ slice_index_or wanted j 0) → least < 131072 → IsNext wanted count classes from (Some least)
 least_is_next wanted classes from count least class limit is one less =

@@ -3,11 +3,17 @@ use Rattle.std.proofs.Common.{◌≡◌, ℕ, ◌+◌, ◌<◌, List, [], ◌∷
 use Rattle.std.proofs.lemmas.Bool.{cases_lt, cases_Bool, cond-true, cond-false}
 use Rattle.std.proofs.lemmas.List.{get_or_append_left}
 use Rattle.std.proofs.Math.Seq.{get_or-append_seam}
-use Rattle.rule_index.specs.Values.{AreNumbersOf, AreKnown, IsNumbered, Stayed, Added}
+use Rattle.rule_index.specs.Values.{AreNumbersOf, IsNumbered, Stayed, Added}
 use Rattle.std.specs.Prelude.{bytes_eq}
 use Rattle.std.proofs.lemmas.Slice.Eq.{bytes_eq-Decides}
 
--- a value that is known
+-- the first n values are numbered, and the map has them
+pub record AreKnown (values : List (List ℕ)) (known : List ℕ → Option ℕ) (numbers : List ℕ) (n : ℕ) : Type 0 where
+  pub count : length numbers ≡ n
+  pub value : (q : List ℕ) (c : ℕ) → known q ≡ Some c → (c < length values) × (slice_index_or values c [] ≡ q)
+  pub number : (i : ℕ) → i < n → known (slice_index_or values i []) ≡ Some (slice_index numbers i)
+
+-- if the next value is known, it gets the same number again
 again : (values : List (List ℕ)) (known : List ℕ → Option ℕ) (numbers : List ℕ) (n c : ℕ) → AreKnown values known numbers n
     → known (slice_index_or values n []) ≡ Some c → AreKnown values known (numbers ++ c ∷ []) (n + 1)
 again values known numbers n c h e = record {
@@ -23,7 +29,7 @@ again values known numbers n c h e = record {
   ];
 }
 
--- when all are numbered, the numbers tell the values apart
+-- if all values are numbered, two values have the same number exactly where they are equal
 pub numbered_all : (values : List (List ℕ)) (known : List ℕ → Option ℕ) (numbers : List ℕ) → AreKnown values known numbers (length values) → AreNumbersOf values numbers
 numbered_all values known numbers h = record {
   count = h.count;
@@ -33,7 +39,7 @@ numbered_all values known numbers h = record {
   other = λ i j a b e. sym (h.value _ _ (h.number i a)).1 ∙ ap (λ (k : ℕ). slice_index_or values k []) e ∙ (h.value _ _ (h.number j b)).1;
 }
 
--- one value more
+-- one more value is numbered
 pub one_more : (values : List (List ℕ)) (old new : List ℕ → Option ℕ) (numbers : List ℕ) (n number : ℕ) → n < length values → AreKnown values old numbers n
     → IsNumbered old new (slice_index_or values n []) n number → AreKnown values new (numbers ++ number ∷ []) (n + 1)
 one_more values old new numbers n number within h (Stayed found same) =

@@ -8,17 +8,24 @@ use Rattle.std.proofs.lemmas.List.Elements.{All-nil, All-append}
 use Rattle.std.proofs.lemmas.List.Splits.{slice_split_at, slice_split_none}
 use Rattle.std.proofs.lemmas.Str.{encode_ascii}
 use Rattle.kmn_base.specs.Names.{same_name}
-use Rattle.rule_model.specs.Dictionary.{with_name}
+use Rattle.virtual_keys.specs.Dictionary.{with_name}
 use Rattle.rule_model.specs.Tab.{distinct_onto, words}
-use Rattle.rule_model.proofs.WordBytes.{HasNoSpace, bytes_of}
-use Rattle.rule_model.proofs.NamePlaces.{with_name_new}
-use Rattle.rule_index.specs.OwnNames.{names_with, names_read}
+use Rattle.virtual_keys.proofs.WordBytes.{HasNoSpace, bytes_of}
+use Rattle.virtual_keys.proofs.NamePlaces.{with_name_new}
+use Rattle.rule_index.specs.OwnNames.{names_with}
+use Rattle.rule_index.specs.OwnNames.{word_after}
+use Rattle.rule_index.specs.OwnNames.{names_after}
+
+-- the names after all characters
+abbrev pub names_read : List (List ℕ) → List ℕ → List ℕ → List (List ℕ)
+names_read names word [] = names_with names word
+names_read names word (c ∷ cs) = names_read (names_after c names word) (word_after c word) cs
 
 -- whether a word is not empty
 abbrev is_word : List ℕ → Bool
 is_word word = not (nat_eq (length word) 0)
 
--- a word before others
+-- if a word is before other words, its name is added first, unless the word is empty
 word_as : (names : List (List ℕ)) (word : List ℕ) (rest : List (List ℕ)) (empty : Bool) → nat_eq (length word) 0 ≡ empty
     → distinct_onto same_name names (if not empty then word ∷ filter is_word rest else filter is_word rest)
     ≡ distinct_onto same_name (if empty then names else with_name names word) (filter is_word rest)
@@ -29,7 +36,7 @@ word_first : (names : List (List ℕ)) (word : List ℕ) (rest : List (List ℕ)
     → distinct_onto same_name names (filter is_word (word ∷ rest)) ≡ distinct_onto same_name (names_with names word) (filter is_word rest)
 word_first names word rest = word_as names word rest (nat_eq (length word) 0) refl
 
--- one character more, where the words of what stands behind it are known
+-- one more character is read, if the words of the text after it are known
 words_step : (names : List (List ℕ)) (word : List ℕ) (c : ℕ) (cs : List ℕ) → HasNoSpace word
     → ((more : List (List ℕ)) → names_read more [] cs ≡ distinct_onto same_name more (words (encode_utf8_all cs)))
     → ((longer : List ℕ) → HasNoSpace longer → names_read names longer cs ≡ distinct_onto same_name names (words (longer ++ encode_utf8_all cs)))
@@ -49,7 +56,7 @@ words_step names word c cs whole behind on false e =
     on (word ++ encode_utf8 c) (All-append (λ byte. nat_eq 32 byte ≡ false) word (encode_utf8 c) whole (bytes_of c e))
     ∙ ap (λ text. distinct_onto same_name names (words text)) (append_assoc word (encode_utf8 c) (encode_utf8_all cs))
 
--- the words of a text that goes on behind a word
+-- the names that are read from a text after the beginning of a word are the distinct words of both
 words_read : (names : List (List ℕ)) (word : List ℕ) (cs : List ℕ) → HasNoSpace word
     → names_read names word cs ≡ distinct_onto same_name names (words (word ++ encode_utf8_all cs))
 words_read names word [] whole =

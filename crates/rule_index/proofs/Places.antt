@@ -13,7 +13,7 @@ use Rattle.kmn_base.specs.declared.items.Element.{Element}
 use Rattle.kmn_base.specs.declared.items.Element.TheVariants as element
 use Rattle.rule_model.specs.Match.{is_item, place_of}
 use Rattle.rule_index.specs.Elements.{element_number, item_number}
-use Rattle.rule_index.specs.Next.{IsFirstOf, NoneOf, FirstOf}
+use Rattle.rule_index.proofs.Firsts.{IsFirstOf, NoneOf, FirstOf}
 
 same_number : (x : Item) (e : Element) → is_item x e ≡ eqb (element_number e) (item_number x)
 same_number (item.Char c) (element.Char d) = grind (arith, nat_tests)

@@ -1,4 +1,4 @@
--- Records without a wanted class don't hold, so the first that holds is among the candidates.
+-- A record without a matching class does not hold, so the first record that holds is a candidate.
 use Rattle.std.proofs.Common.{◌≢◌, cond, zero, suc, [], ◌∷◌, map, Some, None, Option, ◌≡◌, ◌<◌, ℕ, Bool, List, slice_index_or, refl, ◌∙◌, ap, arith}
 use Rattle.kmn_base.specs.declared.items.Item.{Item}
 use Rattle.kmn_base.specs.declared.keys.KeyPress.{KeyPress}
@@ -15,7 +15,7 @@ use Rattle.rule_index.specs.Classes.{key_part, pattern_class, last_class, class_
 use Rattle.rule_index.specs.Laws.{ClassIsOfTheRecord, FirstIsCandidate}
 use Rattle.rule_index.proofs.Meeting.{holding_is_wanted}
 
--- what a pattern wants behind another, of these stores
+-- the part of a pattern with these stores, or the part before it if the pattern takes no item
 abbrev after : List Store → ℕ → Pat → ℕ
 after stores before p = cond (takes_item (tab_pattern stores p)) (pattern_class (tab_pattern stores p)) before
 
@@ -41,7 +41,7 @@ pub class_is_of_the_record : ClassIsOfTheRecord
 class_is_of_the_record stores using_keys rule =
     ap (λ (k : ℕ). class_of (key_part (tab_rule [] using_keys rule).key) k) (same_last stores 0 rule.context)
 
--- a record without a wanted class doesn't hold
+-- if a record has no matching class, it does not hold
 not_wanted : (content : Content) (left : List Item) (press : KeyPress) (stores : List Store) (using_keys : Bool) (rule : Rule)
     → ((j : ℕ) → j < 6 → rule_class (tab_rule [] using_keys rule) ≢ slice_index_or (wanted_classes press left) j 0)
     → (o : Option Caught) → holds content left press (tab_rule stores using_keys rule) ≡ o → (others : Option Chosen)

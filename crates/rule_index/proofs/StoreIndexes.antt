@@ -18,28 +18,28 @@ use Rattle.rule_index.specs.declared.holding.Holding.{Holding}
 use Rattle.rule_index.specs.Holdings.{content_at, AreHoldersOf}
 use Rattle.rule_index.specs.Stores.{store_contents, HaveFewElements}
 
--- the elements that are listed at a store's number are the store's
+-- the elements that are listed at a store's number are the elements of the store
 pub contents_found : (stores : List StoreMeaning) (n : ℕ) (elements : List Element) → slice_get (stated stores) n ≡ Some elements → elements_at stores (Some n) ≡ elements
 contents_found [] zero elements at = absurd (cc)
 contents_found [] (suc n) elements at = absurd (cc)
 contents_found (store ∷ stores) zero elements at = cc
 contents_found (store ∷ stores) (suc n) elements at = contents_found stores n elements at
 
--- where none are listed there is no such store
+-- if no elements are listed at a number, the store of this number has no elements
 pub contents_absent : (stores : List StoreMeaning) (n : ℕ) → slice_get (stated stores) n ≡ None → elements_at stores (Some n) ≡ []
 contents_absent [] zero at = refl
 contents_absent [] (suc n) at = refl
 contents_absent (store ∷ stores) zero at = absurd (cc)
 contents_absent (store ∷ stores) (suc n) at = contents_absent stores n at
 
--- what is listed at a number is what the store of this number has
+-- the elements that are listed at a number are the elements of the store of this number
 pub content_is : (stores : List StoreMeaning) (n : ℕ) → content_at (stated stores) n ≡ elements_at stores (Some n)
 content_is [] zero = refl
 content_is [] (suc n) = refl
 content_is (store ∷ stores) zero = refl
 content_is (store ∷ stores) (suc n) = content_is stores n
 
--- so an item's holders among what is listed are those among the stores
+-- so the holders of an item among the listed elements are its holders among the stores
 pub holders_in_stores : (stores : List StoreMeaning) (x : Item) (rows : List Holding) → AreHoldersOf x (content_at (stated stores)) rows
     → AreHoldersOf x (λ store. elements_at stores (Some store)) rows
 holders_in_stores stores x rows = subst (λ contents. AreHoldersOf x contents rows) (λ i n. content_is stores n i)
@@ -48,7 +48,7 @@ holders_in_stores stores x rows = subst (λ contents. AreHoldersOf x contents ro
 few_listed : (stores : List Store) → HaveFewElements stores → All (λ (elements : List Element). length elements ≤ STORE_ELEMENTS) (store_contents stores)
 few_listed stores few = All-map (λ (elements : List Element). length elements ≤ STORE_ELEMENTS) (λ (store : Store). store.elements) stores few
 
--- so is each that a keyboard has, since the system options are short
+-- so each store of a keyboard is short, since the system options are short
 pub few_of_all : (tables : Tables) → HaveFewElements tables.stores → All (λ (elements : List Element). length elements ≤ STORE_ELEMENTS) (stated (tab tables).stores)
 unfolding tab
 few_of_all tables few =
@@ -78,14 +78,14 @@ all_listed tables own more all layer platform are first second one both =
     ∙ (λ i. are i ++ first i ∷ second i ∷ [])
     ∙ sym (all_elements (tab_options tables) 0 tables.stores)
 
--- so as many are listed, and their numbers are of 16 bits
+-- so as many are listed as the keyboard has stores, at most two more than a file may have
 pub counted_all : (tables : Tables) (contents : List (List Element)) → contents ≡ stated (tab tables).stores → length contents ≡ length (tab tables).stores
 counted_all tables contents are = ap length are ∙ length-map (tab tables).stores (λ (store : StoreMeaning). store.elements)
 
 pub few_in_all : (tables : Tables) (contents : List (List Element)) → contents ≡ stated (tab tables).stores → length tables.stores ≤ STORES → length contents ≤ STORES + 2
 few_in_all tables contents are few = omega (arith, counted_all tables contents are, count_of_all tables, few)
 
--- one store more is listed
+-- one more store is listed
 pub one_listed : (all left rest : List Store) (store : Store) (listed more : List (List Element)) (elements : List Element)
     → left ≡ store ∷ rest → elements ≡ store.elements → more ≡ listed ++ elements ∷ []
     → listed ++ store_contents left ≡ store_contents all → more ++ store_contents rest ≡ store_contents all
@@ -96,7 +96,7 @@ one_listed all left rest store listed more elements is same grown before =
     ∙ ap (λ (stores : List Store). listed ++ store_contents stores) (sym is)
     ∙ before
 
--- one store more is told by its elements
+-- one more store is tested by its elements
 elements_within : (stores : List StoreMeaning) (n : ℕ) (d : StoreMeaning) → n < length stores → elements_at stores (Some n) ≡ (get_or stores n d).elements
 elements_within [] n d below = absurd (omega arith)
 elements_within (store ∷ stores) zero d below = refl

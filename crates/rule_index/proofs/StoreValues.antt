@@ -1,4 +1,4 @@
--- The numbers of stores tell whether their elements are the same.
+-- Two stores have the same number exactly where they have the same elements.
 use Rattle.std.proofs.Common.{◌≡◌, ℕ, zero, suc, ◌+◌, ◌*◌, ◌<◌, ◌≤◌, ◌&&◌, Bool, true, false, eqb, List, [], ◌∷◌, ◌++◌, length, map, slice_index, slice_index_or, Option, Some, refl, sym, ◌∙◌, ap, inl, inr, arith}
 use Rattle.std.specs.Prelude.{bytes_eq, unwrap_or}
 use Rattle.std.proofs.lemmas.Bool.{cases_Bool, eqb-true, eq-eqb}
@@ -13,7 +13,7 @@ use Rattle.rule_model.specs.Content.{elements_at}
 use Rattle.rule_model.specs.Keyboard.{StoreMeaning, stated}
 use Rattle.rule_index.specs.Values.{element_code, value_code, number_for, AreNumbersOf}
 
--- no code begins as another, so codes are the same where elements are
+-- no code is the beginning of another code, so codes are the same exactly where the elements are
 longer : (e : Element) (code : List ℕ) → false ≡ bytes_eq [] (element_code e ++ code)
 longer (element.Char c) code = refl
 longer (element.Mark m) code = refl
@@ -48,7 +48,7 @@ same_codes (a ∷ rest) [] = shorter a (value_code rest)
 same_codes (a ∷ rest) (b ∷ others) =
     (λ i. same_element a b && same_codes rest others i) ∙ same_first a b (value_code rest) (value_code others)
 
--- the codes of no elements and of each store's
+-- the code of no elements, followed by the code of each store's elements
 abbrev codes_of : List StoreMeaning → List (List ℕ)
 codes_of stores = map value_code ([] ∷ stated stores)
 
@@ -58,7 +58,8 @@ code_at [] (suc n) = refl
 code_at (store ∷ stores) zero = refl
 code_at (store ∷ stores) (suc n) = code_at stores n
 
-absent : (stores : List StoreMeaning) (n : ℕ) → length stores ≤ n → elements_at stores (Some n) ≡ []
+-- if a number is at least the count of the stores, no store has it
+pub absent : (stores : List StoreMeaning) (n : ℕ) → length stores ≤ n → elements_at stores (Some n) ≡ []
 absent [] zero past = refl
 absent [] (suc n) past = refl
 absent (store ∷ stores) zero past = absurd (omega arith)
@@ -70,7 +71,7 @@ count_of stores =
     let codes : length (map value_code (stated stores)) ≡ length (stated stores) = length-map (stated stores) value_code in
     omega (arith, contents, codes)
 
--- where the number of a store stands, which has the store's code
+-- the index of a store's number, at which the codes have the store's code
 record IsNumberAt (codes : List (List ℕ)) (numbers : List ℕ) (wanted : ℕ) (value : List ℕ) : Type 0 where
   place : ℕ
   within : place < length codes
@@ -94,11 +95,11 @@ number_at stores numbers n count = elim (slice_get_cases numbers (n + 1)).1 [
   }
 ]
 
--- there is at least the number of no elements
+-- the numbers contain at least the number of no elements
 pub some_numbers : (stores : List StoreMeaning) (numbers : List ℕ) → AreNumbersOf (map value_code ([] ∷ stated stores)) numbers → 0 < length numbers
 some_numbers stores numbers are = omega (arith, are.count, count_of stores)
 
--- stores with the same number have the same elements, and others haven't
+-- two stores have the same number exactly where they have the same elements
 pub same_number : (stores : List StoreMeaning) (numbers : List ℕ) (n m : ℕ) → AreNumbersOf (map value_code ([] ∷ stated stores)) numbers
     → eqb (number_for numbers n) (number_for numbers m) ≡ same_value (elements_at stores (Some n)) (elements_at stores (Some m))
 same_number stores numbers n m are = decided ∙ sym (same_codes (elements_at stores (Some n)) (elements_at stores (Some m)))

@@ -1,4 +1,4 @@
--- A head goes on row by row to where its rows start, and the least number of the heads' rows is the next candidate.
+-- A cursor moves row by row to the start of its rows, and the least number at the cursors is the next candidate.
 use Rattle.std.proofs.Common.{◌<◌, ◌≤◌, ◌+◌, ◌≡◌, ◌∙◌, ℕ, List, [], ◌∷◌, Option, Some, None, map, slice_get, slice_index_or, length, inl, inr, refl, sym, ap, subst, eqb, arith}
 use Rattle.std.specs.Prelude.{slice_set, unwrap_or}
 use Rattle.std.specs.List.Sorted.{IsNonDecreasingBy}
@@ -26,7 +26,7 @@ both start passed place rows before less k d below within = elim (cases_lt k pas
   | inr late ↦ less k d late below within
 ]
 
--- the row at the place is the first whose rank is no less
+-- if the row at a place is the first whose rank is at least a start, the rows start there
 pub starts_at_row : (start passed place : ℕ) (rows : List Row) (row : Row) → IsNonDecreasingBy rank rows → AreBefore start rows passed → AreLess start rows passed place
     → ((d : Row) → slice_index_or rows place d ≡ row) → start ≤ rank row → StartsAt start rows place
 starts_at_row start passed place rows row sorted before less at high = record {
@@ -37,7 +37,7 @@ starts_at_row start passed place rows row sorted before less at high = record {
       omega (arith, low, rise);
 }
 
--- all rows have ranks that are less
+-- if all rows have lower ranks, the rows start at the end
 pub starts_at_end : (start passed place : ℕ) (rows : List Row) → AreBefore start rows passed → AreLess start rows passed place
     → length rows ≤ place → StartsAt start rows place
 starts_at_end start passed place rows before less past = record {
@@ -56,7 +56,7 @@ row_found class number (Some row) is less = elim (cases_Bool (eqb row.class clas
       absurd (omega (arith, none))
 ]
 
--- the rows up to the one with that number are less than the next
+-- the rows up to the row with a number have lower ranks than the next number
 passed_one : (class from place number : ℕ) (rows : List Row) → AreBefore (ranked class from) rows place
     → unwrap_or (number_if class (slice_get rows place)) 131072 ≡ number → from ≤ number → number < 131072 → AreBefore (ranked class (number + 1)) rows (place + 1)
 passed_one class from place number rows before is up small k d below within = elim (cases_lt k place) [
@@ -70,13 +70,13 @@ passed_one class from place number rows before is up small k d below within = el
       omega (arith, last, found.2, found.3)
 ]
 
--- the number that is found where the rows of a class start
+-- the number at the start of the rows of a class is its first number
 first_at : (class from place : ℕ) (rows : List Row) (classes : List ℕ) → StartsAt (ranked class from) rows place → IsIndexOf classes rows
     → IsFirstNumber class classes from (unwrap_or (number_if class (slice_get rows place)) 131072)
 first_at class from place rows classes starts index =
     first_number class from classes (number_if class (slice_get rows place)) (omega (arith, index.few)) (first_found class from place rows classes starts index)
 
--- the number that a lead finds before its limit is the next
+-- if a lead finds a number below its limit, the number is the next candidate
 pub led_is_next : (rows : List Row) (wanted classes : List ℕ) (from number : ℕ) (lead : ClassLead) → IsIndexOf classes rows → LeadStands rows wanted from lead
     → unwrap_or (number_if lead.head.class (slice_get rows lead.head.place)) 131072 ≡ number → from ≤ number → number < lead.limit
     → IsNext wanted (length wanted) classes from (Some number)
@@ -93,14 +93,14 @@ led_is_next rows wanted classes from number lead index stands is up below =
     let one = stands.among in
     IsTheNext number up at.1 (one.0, one.1, at.2 ∙ one.2) (λ n j a b h e. first.skipped n a b (omega (arith, at.1)) (stands.alone classes index n j a (omega arith) (omega (arith, at.1)) h e))
 
--- heads stand at the first number where each of them does
+-- if each of six cursors is valid from number 0 on, all of them are
 pub six_stand : (rows : List Row) (a b c d e f : Head) → HeadStands rows 0 a → HeadStands rows 0 b → HeadStands rows 0 c → HeadStands rows 0 d → HeadStands rows 0 e
     → HeadStands rows 0 f → HeadsStand rows 0 (a ∷ b ∷ c ∷ d ∷ e ∷ f ∷ [])
 six_stand rows a b c d e f ha hb hc hd he hf =
     let one = All-cons (HeadStands rows 0) in
     one a (b ∷ c ∷ d ∷ e ∷ f ∷ []) ha (one b (c ∷ d ∷ e ∷ f ∷ []) hb (one c (d ∷ e ∷ f ∷ []) hc (one d (e ∷ f ∷ []) hd (one e (f ∷ []) he (one f [] hf (All-nil (HeadStands rows 0)))))))
 
--- heads that stand at a number stand behind the next candidate
+-- if cursors are valid from a number on, they are valid after the next candidate
 pub heads_behind : (rows : List Row) (wanted : List ℕ) (from count number : ℕ) (heads : List Head) → HeadsStand rows from heads
     → ((classes : List ℕ) → IsIndexOf classes rows → IsNext wanted count classes from (Some number)) → HeadsStand rows (number + 1) heads
 heads_behind rows wanted from count number heads stand next k d within classes index place row below inside =
@@ -108,11 +108,11 @@ heads_behind rows wanted from count number heads stand next k d within classes i
     let less = stand k d within classes index place row below inside in
     omega (arith, less, up)
 
--- what a wanted class is found by
+-- the class of a cursor
 abbrev pub class_of_head : Head → ℕ
 class_of_head head = head.class
 
--- one head more goes on to its first row from a number on, and finds a number there
+-- one more cursor moves to its first row from a number on, and finds a number there
 pub record GoesOn (rows : List Row) (from k number : ℕ) (olds heads : List Head) (d moved : Head) : Type 0 where
   pub within : k < length heads
   pub same : map class_of_head heads ≡ map class_of_head olds
@@ -124,7 +124,7 @@ pub record GoesOn (rows : List Row) (from k number : ℕ) (olds heads : List Hea
   pub small : number ≤ 131072
   pub inside : number < 131072 → moved.place < length rows
 
--- of the first heads this one has the least number, the others of another class none before the limit
+-- of the first `count` cursors, `first` has the least number, and those of another class have no number below the limit
 pub record IsFirst (rows : List Row) (olds : List Head) (from count least limit : ℕ) (first : Head) : Type 0 where
   pub few : (least ≤ 131072) × (limit ≤ 131072)
   pub leads : (classes : List ℕ) → IsIndexOf classes rows → HeadsStand rows from olds
@@ -193,7 +193,7 @@ module _ (rows : List Row) (from k number : ℕ) (olds heads : List Head) (d mov
         goes_last (map class_of_head olds) classes from k least limit first.class moved.class number wanted_there (so_far.leads classes index stand)
         (found_first stand classes index) behind beyond (omega (arith, index.few)))
 
--- the first of all heads is that of the next candidate, and the lead behind it
+-- the first of all cursors is at the next candidate, and the lead is the cursor after it
 module _ (rows : List Row) (olds : List Head) (from least limit : ℕ) (first : Head) (is : IsFirst rows olds from (length olds) least limit first)
     (stand : HeadsStand rows from olds) where
   pub first_is_next : least < 131072 → (classes : List ℕ) → IsIndexOf classes rows → IsNext (map class_of_head olds) (length olds) classes from (Some least)

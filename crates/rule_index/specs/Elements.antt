@@ -1,11 +1,11 @@
--- The elements of a store as numbers, which an item has where it is the same.
+-- The elements of a store as numbers; an item has the same number as an element if they are the same.
 use Rattle.std.specs.Prelude.{ℕ, ◌+◌, ◌*◌}
 use Rattle.kmn_base.specs.declared.items.Item.{Item}
 use Rattle.kmn_base.specs.declared.items.Item.TheVariants as item
 use Rattle.kmn_base.specs.declared.items.Element.{Element}
 use Rattle.kmn_base.specs.declared.items.Element.TheVariants as element
 
--- characters have odd numbers and marks even ones; a number that no item has stands for every virtual key
+-- characters have odd numbers and marks even ones; every virtual key has 0, which is not the number of an item
 abbrev pub element_number : Element → ℕ
 element_number (element.Char c) = 1 + 2 * c
 element_number (element.Mark m) = 2 + 2 * m

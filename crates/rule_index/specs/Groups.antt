@@ -1,4 +1,4 @@
--- An index for each group, of its records.
+-- An index of each group's records.
 use Rattle.std.specs.Prelude.{◌≡◌, ℕ, min, List, [], length, map, slice_get, slice_index_or, Some, Vec}
 use Rattle.rule_model.specs.declared.tables.Group.{Group}
 use Rattle.rule_model.specs.declared.tables.Pat.{Pat}
@@ -10,13 +10,13 @@ use Rattle.rule_index.specs.declared.row.Row.{Row}
 use Rattle.rule_index.specs.Classes.{rule_class}
 use Rattle.rule_index.specs.Rows.{IsIndexOf}
 
--- the rows of a group's records, and for each record its context and how many items of the text that takes
+-- the rows of a group's records, the rule context of each record, and the number of text items that each context takes
 pub record RuleIndexValue : Type 0 where
   pub rows : List Row
   pub contexts : List (List Pat)
   pub counts : List ℕ
 
--- what each record of a group can be met by
+-- the class of each record of a group
 abbrev pub record_classes : Group → List ℕ
 record_classes group = map (λ rule. rule_class (tab_rule [] group.using_keys rule)) group.rules
 
@@ -24,21 +24,21 @@ record_classes group = map (λ rule. rule_class (tab_rule [] group.using_keys ru
 abbrev pub record_contexts : Group → List (List Pat)
 record_contexts group = map (λ rule. rule.context) group.rules
 
--- contexts in the numbers of a file, as lists of the patterns that their items are
+-- the patterns of contexts whose items have the numbers of a file
 abbrev pub listed : {A : Type 0} → List (Vec ContextItem A) → List (List Pat)
 listed contexts = map (λ context. map pattern_of context.items) contexts
 
--- how many items of the text a context takes, as far as a byte counts: no more than `CONTEXT_ITEMS`, which is less, where it can be played
+-- the number of text items that a context takes, at most 255; a context that can be played takes at most `CONTEXT_ITEMS`, which is less
 abbrev pub context_count : List Pat → ℕ
 context_count context = min (pattern_count (map (tab_pattern []) context)) 255
 
--- the rows are those of the group's records, and so are the contexts and their counts
+-- an index has the rows, the contexts and the counts of a group's records
 pub record IsRuleIndexOf (group : Group) (index : RuleIndexValue) : Type 0 where
   pub records : IsIndexOf (record_classes group) index.rows
   pub contexts : index.contexts ≡ record_contexts group
   pub counts : index.counts ≡ map context_count (record_contexts group)
 
--- the index at a group's number is that of its records
+-- the index at a group's number is the index of its records
 pub record AreIndexesOf (groups : List Group) (indexes : List RuleIndexValue) : Type 0 where
   pub count : length indexes ≡ length groups
   pub right : (n : ℕ) (group : Group) (d : RuleIndexValue) → slice_get groups n ≡ Some group → IsRuleIndexOf group (slice_index_or indexes n d)

@@ -1,4 +1,4 @@
--- Which stores have an item, and where it first stands in each.
+-- Which stores have an item, and its first place in each.
 use Rattle.std.specs.Prelude.{◌≡◌, ◌≢◌, ℕ, ◌+◌, ◌*◌, ◌<◌, ◌≤◌, ◌&&◌, nat_eq, if◌then◌else◌, List, [], length, slice_index_or, Option, Some, None}
 use Rattle.std.specs.List.{All, AllPairs, Any, Contains}
 use Rattle.std.specs.List.Sorted.{IsNonDecreasingBy}
@@ -8,27 +8,27 @@ use Rattle.rule_model.specs.Match.{place_of}
 use Rattle.rule_index.specs.declared.holding.Holding.{Holding}
 use Rattle.rule_index.specs.Elements.{item_number}
 
--- an item and a store below 65536 as one number: the rank of a row for the first place of all
+-- an item and a store below 65536 as one number: the lowest rank of a row of both
 abbrev pub holding_start : ℕ → ℕ → ℕ
 holding_start item store = (item * 65536 + store) * 65536
 
--- rows are sorted by item, those of one item by store, and those of one store by place
+-- the rank of a row: rows are sorted by item, then by store, and then by place
 abbrev pub holding_rank : Holding → ℕ
 holding_rank row = (row.item * 65536 + row.store) * 65536 + row.place
 
--- the elements of a store of these, none where there is no such store
+-- the elements of a store by its number, or no elements if there is no such store
 abbrev pub content_at : List (List Element) → ℕ → List Element
 content_at stores store = slice_index_or stores store []
 
--- the row for an item that first stands at a place of a store
+-- the row of an item and its first place in a store
 abbrev pub holding_of : Item → ℕ → ℕ → Holding
 holding_of x store place = record { item = item_number x; store = store; place = place }
 
--- an item that has a row's number first stands at the row's place of its store
+-- an item that has a row's number has its first place in the row's store at the row's place
 abbrev pub IsHeld : List (List Element) → Holding → Type 0
 IsHeld stores row = (x : Item) → item_number x ≡ row.item → place_of x (content_at stores row.store) ≡ Some row.place
 
--- a row's store and place are of 16 bits
+-- the store and the place of a row have 16 bits
 abbrev pub IsSmall : Holding → Type 0
 IsSmall row = (row.store < 65536) × (row.place < 65536)
 
@@ -36,7 +36,7 @@ IsSmall row = (row.store < 65536) × (row.place < 65536)
 abbrev pub StandOnce : List Holding → Type 0
 StandOnce rows = AllPairs (λ a b. holding_rank a ≢ holding_rank b) rows
 
--- the rows of the first stores, up to a count of them, in any order, each once
+-- the rows of the first `count` stores, in any order, each once
 pub record AreGathered (stores : List (List Element)) (rows : List Holding) (count : ℕ) : Type 0 where
   pub small : All IsSmall rows
   pub right : All (IsHeld stores) rows
@@ -52,18 +52,18 @@ pub record AreHoldings (stores : List (List Element)) (rows : List Holding) : Ty
   pub right : All (IsHeld stores) rows
   pub complete : (x : Item) (store place : ℕ) → place_of x (content_at stores store) ≡ Some place → Contains rows (holding_of x store place)
 
--- the rows whose rank is less than a start end at a place
+-- the rows before a place are the rows whose rank is less than a start
 pub record EndsAt (start : ℕ) (rows : List Holding) (place : ℕ) : Type 0 where
   pub within : place ≤ length rows
   pub before : (k : ℕ) (d : Holding) → k < place → holding_rank (slice_index_or rows k d) < start
   pub behind : (k : ℕ) (d : Holding) → place ≤ k → k < length rows → start ≤ holding_rank (slice_index_or rows k d)
 
--- the place of a row that there may be, where it is of an item and a store
+-- the place of an optional row, if the row is of an item and a store
 abbrev pub place_if : ℕ → ℕ → Option Holding → Option ℕ
 place_if item store None = None
 place_if item store (Some row) = if nat_eq row.item item && nat_eq row.store store then Some row.place else None
 
--- each row is of an item and tells where it first stands in a store, every store that has the item has a row, and the stores rise
+-- each row is of an item and has its first place in a store, every store that has the item has a row, and the store numbers increase
 pub record AreHoldersOf (x : Item) (contents : ℕ → List Element) (rows : List Holding) : Type 0 where
   pub items : All (λ row. row.item ≡ item_number x) rows
   pub each : All (λ row. place_of x (contents row.store) ≡ Some row.place) rows

@@ -7,5 +7,6 @@ pub mod Next
 pub mod OwnNames
 pub mod Rows
 pub mod Stores
+pub mod Texts
 pub mod Values
 pub mod Walk

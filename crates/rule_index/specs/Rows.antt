@@ -9,7 +9,7 @@ use Rattle.rule_index.specs.declared.row.TheConstants.{NO_ROW}
 abbrev pub ranked : ℕ → ℕ → ℕ
 ranked class number = class * NO_ROW + number
 
--- rows are sorted by class, and of one class by number
+-- the rank of a row: rows are sorted by class, and rows of one class by number
 abbrev pub rank : Row → ℕ
 rank row = ranked row.class row.number
 
@@ -18,7 +18,7 @@ abbrev pub AreNumbered : List ℕ → List Row → Type 0
 AreNumbered classes rows =
     (length rows ≡ length classes) × ((n : ℕ) (d : Row) → n < length rows → ((slice_index_or rows n d).number ≡ n) × ((slice_index_or rows n d).class ≡ slice_index_or classes n 0))
 
--- a number has a row, which has its class
+-- a number has a row, and the row has the class of the number
 pub record HasRow (classes : List ℕ) (rows : List Row) (n : ℕ) : Type 0 where
   pub place : ℕ
   pub within : place < length rows
@@ -38,12 +38,12 @@ pub record IsIndexOf (classes : List ℕ) (rows : List Row) : Type 0 where
 abbrev pub AreBefore : ℕ → List Row → ℕ → Type 0
 AreBefore start rows place = (k : ℕ) (d : Row) → k < place → k < length rows → rank (slice_index_or rows k d) < start
 
--- the rows whose rank is less than a start end at a place
+-- the rows before a place are the rows whose rank is less than a start
 pub record StartsAt (start : ℕ) (rows : List Row) (place : ℕ) : Type 0 where
   pub before : AreBefore start rows place
   pub behind : (k : ℕ) (d : Row) → place ≤ k → k < length rows → start ≤ rank (slice_index_or rows k d)
 
--- the number of a row that there may be, where it has a class
+-- the number of an optional row, if the row has a class
 abbrev pub number_if : ℕ → Option Row → Option ℕ
 number_if class None = None
 number_if class (Some row) = if nat_eq row.class class then Some row.number else None

@@ -4,7 +4,7 @@ use Rattle.kmn_base.specs.declared.items.Element.{Element}
 use Rattle.kmn_base.specs.declared.limits.TheConstants.{STORE_ELEMENTS}
 use Rattle.rule_model.specs.declared.tables.Store.{Store}
 
--- what each store of a file has, in their order
+-- the elements of each store of a file, in their order
 abbrev pub store_contents : List Store → List (List Element)
 store_contents stores = map (λ (store : Store). store.elements) stores
 

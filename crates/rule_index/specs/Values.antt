@@ -1,4 +1,4 @@
--- Values by the number of the first that is the same.
+-- Numbers of values, which are the same exactly where the values are the same.
 use Rattle.std.specs.Prelude.{◌≡◌, ℕ, ◌+◌, ◌*◌, ◌<◌, List, [], ◌∷◌, length, flat_map, slice_get, slice_index_or, slice_index, unwrap_or, Option, Some, None, bytes_eq, if◌then◌else◌}
 use Rattle.std.specs.Ordering.{nat_cmp}
 use Rattle.std.specs.Cmp.Lexicographic.{slice_cmp}
@@ -7,17 +7,17 @@ use Rattle.std.specs.BTreeMap.{BTreeMap, get_by}
 use Rattle.kmn_base.specs.declared.items.Element.{Element}
 use Rattle.kmn_base.specs.declared.items.Element.TheVariants as element
 
--- an element as numbers, of which the first tells its kind and so how many there are
+-- an element as numbers; the first shows the kind of the element and so how many numbers there are
 abbrev pub element_code : Element → List ℕ
 element_code (element.Char c) = (3 * c) ∷ []
 element_code (element.Mark m) = (1 + 3 * m) ∷ []
 element_code (element.Key flags code) = (2 + 3 * flags) ∷ code ∷ []
 
--- elements as the numbers of one after the other
+-- elements as numbers: the numbers of each element, in their order
 abbrev pub value_code : List Element → List ℕ
 value_code elements = flat_map element_code elements
 
--- the number of a store's elements, where the number of no elements stands before those of the stores
+-- the number of a store's elements; the first of the numbers is the number of no elements, and the numbers of the stores follow it
 abbrev pub number_for : List ℕ → ℕ → ℕ
 number_for numbers store = unwrap_or (slice_get numbers (store + 1)) (slice_index numbers 0)
 
@@ -35,9 +35,3 @@ known_in numbers value = get_by (λ (k : Bor (List ℕ)). slice_cmp nat_cmp valu
 pub data IsNumbered (old new : List ℕ → Option ℕ) (value : List ℕ) (next number : ℕ) : Type 0 where
   Stayed : (found : old value ≡ Some number) → (same : (q : List ℕ) → new q ≡ old q) → IsNumbered old new value next number
   Added : (none : old value ≡ None) → (added : (q : List ℕ) → new q ≡ (if bytes_eq value q then Some next else old q)) → (is : number ≡ next) → IsNumbered old new value next number
-
--- the first n values are numbered, and the map has them
-pub record AreKnown (values : List (List ℕ)) (known : List ℕ → Option ℕ) (numbers : List ℕ) (n : ℕ) : Type 0 where
-  pub count : length numbers ≡ n
-  pub value : (q : List ℕ) (c : ℕ) → known q ≡ Some c → (c < length values) × (slice_index_or values c [] ≡ q)
-  pub number : (i : ℕ) → i < n → known (slice_index_or values i []) ≡ Some (slice_index numbers i)

@@ -11,8 +11,10 @@ use crate::lead::ClassLead;
 use crate::row::{NO_ROW, Row};
 use std::marker::Model;
 
-/// The records of a group that can hold for a press and the last item before the caret, one after the other, in the file's
-/// order.
+/// Iterates, in file order, over the records of a group that can match a key press and the last item before the caret.
+///
+/// This is a merge of six sorted runs: the index rows are sorted by class and then by record number, and a press has six classes. Each
+/// class has a cursor (`heads`). While one class has the next record, `next` reads only that class (`lead`).
 #[derive(Drop)]
 pub struct Candidates<'i> {
     rows: &'i [Row],
@@ -38,7 +40,9 @@ impl<'i> Model for Candidates<'i> {
         × LeadStands candidates.rows.now (map (λ head. head.class) candidates.heads) candidates.from candidates.lead };
 }
 
-/// The first number from one on that has a wanted class. The heads go on to their rows from this number on, and its class leads.
+/// Returns the lowest record number, from `from` on, that has one of the classes of `heads`, or `None` if there is none. Moves each
+/// cursor to the first row of its class from `from` on. If there is a record, sets `lead` to the cursor after it and to the limit below
+/// which no other class has a record.
 #[inline(never)]
 fn next_of(rows: &[Row], heads: &mut [Head], lead: &mut ClassLead, from: u32) -> Option<u32>
     requires { from ≤ NO_ROW }
@@ -74,7 +78,7 @@ fn next_of(rows: &[Row], heads: &mut [Head], lead: &mut ClassLead, from: u32) ->
 impl<'i> Candidates<'i> {
     ghost use Rattle.rule_index.specs.Walk.{CandidatesValue};
 
-    /// All candidates that there are among these rows.
+    /// Creates an iterator over the records among `rows` that have one of these classes.
     pub fn of(rows: &'i [Row], wanted: &[Class; 6]) -> Candidates<'i>
         ensures { result ≡ record { rows = rows.now; wanted = wanted.now; from = 0 } }
     {
@@ -98,7 +102,8 @@ impl<'i> Candidates<'i> {
         }
     }
 
-    /// The next candidate; None where there is none left. While the lead's class goes on, no head is looked at.
+    /// Returns the next candidate, or `None` if there are no more. Does not move the cursors while the class of the last candidate
+    /// continues.
     #[inline(always)]
     pub fn next(&mut self) -> Option<u32>
         ensures next { (classes : List ℕ) → IsIndexOf classes self.old.rows

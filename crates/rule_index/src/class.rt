@@ -2,14 +2,14 @@ ghost use Rattle.std.specs.Prelude.{◌≡◌, ◌<◌, ◌^◌};
 
 use std::marker::Model;
 
-/// The part of a class for its key, and the part for its last item, are below this.
+/// The bound of both parts of a class: the part for its key and the part for its last item are less.
 pub(crate) const PARTS: u64 = 2_097_152;
-/// The part of the first code of a key; below it stand the characters that a key gives.
+/// The part of the first key code. The characters that a key produces have smaller parts.
 pub(crate) const FIRST_CODE: u64 = 65_537;
-/// The part of the first mark; below it stand the characters of a text.
+/// The part of the first mark (a deadkey in the item list). The characters of a text have smaller parts.
 pub(crate) const FIRST_MARK: u64 = 1_114_113;
 
-/// What a record can be met by, or what an element is, as one number by which rows are sorted.
+/// What a record can match, or what an element is, as one number by which rows are sorted.
 #[derive(Clone, Copy, Drop)]
 pub struct Class {
     number: u64,
@@ -28,7 +28,7 @@ impl Model for Class {
 }
 
 impl Class {
-    /// The class of a number.
+    /// Returns the class with a number.
     pub fn of(number: u64) -> Class
         requires { number < 2 ^ 42 }
         ensures { result ≡ number }
@@ -36,7 +36,7 @@ impl Class {
         Class { number }
     }
 
-    /// The number of a class.
+    /// Returns the number of a class.
     pub fn number(self) -> u64
         ensures value { result ≡ self }
         ensures small { result < 2 ^ 42 }

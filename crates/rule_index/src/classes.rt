@@ -1,5 +1,5 @@
 ghost use Rattle.std.specs.Prelude.{◌≡◌, ◌<◌, [], map, None, IfOk};
-ghost use Rattle.rule_model.specs.Fits.{char_of_press};
+ghost use Rattle.virtual_keys.specs.Fits.{char_of_press};
 ghost use Rattle.rule_model.specs.Tab.{tab_pattern, tab_rule};
 ghost use Rattle.kmx_parts.specs.ContextItems.{pattern_of};
 ghost use Rattle.rule_index.specs.Classes.{key_class, pattern_class, last_class, given_class, item_class, class_of, rule_class, wanted_classes};
@@ -9,10 +9,10 @@ ghost use Rattle.rule_index.specs.Groups.{record_classes};
 use crate::class::{Class, FIRST_CODE, FIRST_MARK, PARTS};
 use kmn_base::{Item, KeyPress, Memory, RuleKey};
 use kmx_parts::{ContextItem, ContextItems, FileGroup, FileRule};
-use rule_model::char_of;
 use std::alloc::Global;
+use virtual_keys::char_of;
 
-/// By which presses a key can be met.
+/// Returns the part of a class for its key: which key presses the key can match.
 fn key_class(key: RuleKey) -> u64
     ensures value { result ≡ key_class key }
     ensures small { result < PARTS }
@@ -24,7 +24,7 @@ fn key_class(key: RuleKey) -> u64
     }
 }
 
-/// What an item of a context wants.
+/// Returns the part of a class for an item of a rule context: which text item it can match.
 fn pattern_class(item: ContextItem) -> u64
     ensures value { result ≡ pattern_class (tab_pattern [] (pattern_of item)) }
     ensures small { result < PARTS }
@@ -36,7 +36,7 @@ fn pattern_class(item: ContextItem) -> u64
     }
 }
 
-/// What the last item of a context that looks at one of the text wants.
+/// Returns the part of a class for a context: the part of its last item that matches a text item.
 fn last_class(context: ContextItems<'_>) -> u64
     ensures value { result ≡ last_class 0 (map (tab_pattern []) (map pattern_of context.entry)) }
     ensures small { result < PARTS }
@@ -50,7 +50,7 @@ fn last_class(context: ContextItems<'_>) -> u64
     class
 }
 
-/// The class of a key's and a pattern's part.
+/// Returns the class with the part of a key and the part of a pattern.
 fn class_of(by_key: u64, by_item: u64) -> Class
     requires key { by_key < PARTS }
     requires item { by_item < PARTS }
@@ -59,7 +59,7 @@ fn class_of(by_key: u64, by_item: u64) -> Class
     Class::of(by_key * PARTS + by_item)
 }
 
-/// What a record can be met by; in a group without keys by every press.
+/// Returns the class of a record: what it can match. In a group without keys, it can match every press.
 fn rule_class(using_keys: bool, rule: &FileRule<'_>) -> Class
     ensures { result ≡ rule_class (tab_rule [] using_keys rule.now) }
 {
@@ -67,7 +67,7 @@ fn rule_class(using_keys: bool, rule: &FileRule<'_>) -> Class
     class_of(key_class(key), last_class(rule.context_items()))
 }
 
-/// The classes of a group's records, in their order.
+/// Returns the classes of a group's records, in their order.
 pub fn record_classes(alloc: Global, group: &FileGroup<'_>) -> Result<Vec<Class>, Memory>
     ensures { IfOk result (λ classes. classes.items ≡ record_classes group.now) }
 {
@@ -79,7 +79,7 @@ pub fn record_classes(alloc: Global, group: &FileGroup<'_>) -> Result<Vec<Class>
     Ok(classes)
 }
 
-/// What an item meets.
+/// Returns the part of a class that an item can match.
 fn item_class(item: Option<Item>) -> u64
     ensures value { result ≡ item_class item }
     ensures small { result < PARTS }
@@ -91,7 +91,7 @@ fn item_class(item: Option<Item>) -> u64
     }
 }
 
-/// What the character of a press meets, and what its code does where it gives none.
+/// Returns the part of a class that the character of a press can match, or its code if the press produces no character.
 fn given_class(press: KeyPress) -> u64
     ensures value { result ≡ given_class press (char_of_press press) }
     ensures small { result < PARTS }
@@ -102,7 +102,7 @@ fn given_class(press: KeyPress) -> u64
     }
 }
 
-/// What a press on a list can meet of the records of a group.
+/// Returns the classes of records of a group that a press and a left list can match.
 #[tactic(auto, using(crate::proofs::Meeting::last_at))]
 pub fn wanted_classes(press: KeyPress, left: &[Item]) -> [Class; 6]
     ensures { result ≡ wanted_classes press left.now }

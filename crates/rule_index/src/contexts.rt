@@ -6,7 +6,7 @@ use kmn_base::Memory;
 use kmx_parts::{ContextItem, ContextItems, FileGroup};
 use std::alloc::Global;
 
-/// A copy of a context that lies in a file.
+/// Copies a rule context of a file.
 fn copied(alloc: Global, context: ContextItems<'_>) -> Result<Vec<ContextItem>, Memory>
     ensures { IfOk result (λ copied. copied.items ≡ context.entry) }
 {
@@ -17,7 +17,7 @@ fn copied(alloc: Global, context: ContextItems<'_>) -> Result<Vec<ContextItem>, 
     Ok(copied)
 }
 
-/// The contexts of a group's records, in their order.
+/// Returns the contexts of a group's records, in their order.
 pub fn record_contexts(
     alloc: Global,
     group: &FileGroup<'_>,
@@ -31,7 +31,7 @@ pub fn record_contexts(
     Ok(contexts)
 }
 
-/// How many items of the text a context takes, as far as a byte counts.
+/// Returns the number of text items that a context matches, at most 255.
 #[tactic(auto, using(crate::proofs::ContextCounts::counted, crate::proofs::ContextCounts::uncounted))]
 fn context_count(context: &[ContextItem]) -> u8
     ensures { result ≡ context_count (map pattern_of context.now) }
@@ -45,7 +45,7 @@ fn context_count(context: &[ContextItem]) -> u8
     count
 }
 
-/// The counts of contexts, in their order.
+/// Returns the count of each context, in their order.
 pub fn counts(alloc: Global, contexts: &[Vec<ContextItem>]) -> Result<Vec<u8>, Memory>
     ensures { IfOk result (λ counts. counts.items ≡ map context_count (listed contexts.now)) }
 {

@@ -5,7 +5,7 @@ use crate::class::Class;
 use kmn_base::{Element, Item, Memory};
 use std::alloc::Global;
 
-/// The number of an element.
+/// Returns the number of an element.
 fn element_number(element: Element) -> Class
     ensures value { result ≡ element_number element }
     ensures small { result < 4194304 }
@@ -17,7 +17,7 @@ fn element_number(element: Element) -> Class
     }
 }
 
-/// The number of an item.
+/// Returns the number of an item.
 pub fn item_number(item: Item) -> u32
     ensures value { result ≡ item_number item }
     ensures small { result < 4194304 }
@@ -28,7 +28,7 @@ pub fn item_number(item: Item) -> u32
     }
 }
 
-/// The numbers of elements, in their order.
+/// Returns the numbers of elements, in their order.
 pub fn element_numbers(alloc: Global, elements: &[Element]) -> Result<Vec<Class>, Memory>
     ensures value { IfOk result (λ numbers. numbers.items ≡ map element_number elements.now) }
     ensures small { IfOk result (λ numbers. All (λ number. number < 4194304) numbers.items) }

@@ -7,7 +7,7 @@ use crate::class::Class;
 use crate::row::{NO_ROW, Row};
 use crate::rows::{place_behind, place_from, rank_of};
 
-/// A wanted class, and a place before which no row is left of it.
+/// A cursor: a matching class, and an index before which no row of the class is left.
 #[derive(Clone, Copy, Drop)]
 pub struct Head {
     pub class: Class,
@@ -15,7 +15,7 @@ pub struct Head {
 }
 
 impl Head {
-    /// The head of a class, at its first row.
+    /// Returns the cursor of a class, at its first row.
     pub fn of(rows: &[Row], class: Class) -> Head
         ensures class { result.class ≡ class }
         ensures stands { HeadStands rows.now 0 result }
@@ -26,7 +26,7 @@ impl Head {
         }
     }
 
-    /// The head at the first row whose number is no less than one.
+    /// Returns the cursor at the first row of its class whose number is at least `from`.
     pub fn behind(&self, rows: &[Row], from: u32) -> Head
         requires { from ≤ NO_ROW }
         ensures class { result.class ≡ self.now.class }
@@ -39,7 +39,7 @@ impl Head {
         }
     }
 
-    /// The number of the row where the head is, `NO_ROW` where it hasn't the class.
+    /// Returns the number of the row at the cursor, or `NO_ROW` if no row of the class is there.
     #[inline(always)]
     pub fn number(&self, rows: &[Row]) -> u32
         ensures value { result ≡ unwrap_or (number_if self.now.class (slice_get rows.now self.now.place)) NO_ROW }

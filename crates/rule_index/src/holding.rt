@@ -1,4 +1,4 @@
-/// That a store has an item: the number of the item, the store, and the first place of the item there.
+/// An item in a store: the number of the item, the number of the store, and the first position of the item in the store.
 #[derive(Clone, Copy, Drop)]
 pub struct Holding {
     pub item: u32,

@@ -16,7 +16,7 @@ use kmn_base::{Element, Item, Memory, Seq};
 use std::alloc::Global;
 use std::marker::Model;
 
-/// Which stores have an item, by item and then by store. Contracts see it as its rows.
+/// The stores that contain each item, sorted by item and then by store. Contracts model it as its rows.
 #[derive(Drop)]
 pub struct Holdings {
     rows: Vec<Holding>,
@@ -31,21 +31,22 @@ impl Model for Holdings {
     ghost view = { λ holdings. holdings.rows.items };
 }
 
-/// The rank of an item's first place in a store.
+/// Returns the lowest rank that a row of an item and a store can have.
 fn start_of(item: u32, store: u16) -> u64
     ensures { result ≡ holding_start item store }
 {
     (u64::from(item) * 65_536 + u64::from(store)) * 65_536
 }
 
-/// The rank of a row.
+/// Returns the rank of a row.
 fn rank(row: &Holding) -> u64
     ensures { result ≡ holding_rank row.now }
 {
     start_of(row.item, row.store) + u64::from(row.place)
 }
 
-/// Puts a row for each item of a store, whose elements stand in rows by class: the first of each class that items have.
+/// Appends a row for each item of a store: the first of each class in `places`, the sorted rows of the store's elements. The class 0 of
+/// virtual keys is not the class of an item.
 fn put_firsts(rows: &mut Vec<Holding>, places: &[Row], store: u16) -> Result<(), Memory>
     requires classes { All (λ row. row.class < 4194304) places.now }
     requires numbers { All (λ row. row.number < 65536) places.now }
@@ -67,7 +68,7 @@ fn put_firsts(rows: &mut Vec<Holding>, places: &[Row], store: u16) -> Result<(),
     Ok(())
 }
 
-/// Puts a row for each item of a store.
+/// Appends a row for each item of a store.
 fn put_store(
     alloc: Global,
     rows: &mut Vec<Holding>,
@@ -83,7 +84,7 @@ fn put_store(
     put_firsts(rows, places.as_slice(), store)
 }
 
-/// The rows of all stores, store by store.
+/// Returns the rows of all stores, store by store.
 fn gathered(alloc: Global, stores: &[Seq<Element>]) -> Result<Vec<Holding>, Memory>
     requires count { length stores.now ≤ STORES + 2 }
     requires few { All (λ elements. length elements ≤ STORE_ELEMENTS) stores.now }
@@ -96,7 +97,7 @@ fn gathered(alloc: Global, stores: &[Seq<Element>]) -> Result<Vec<Holding>, Memo
     Ok(rows)
 }
 
-/// The place of the first row whose rank is no less.
+/// Returns the index of the first row whose rank is at least `start`.
 fn place_from(rows: &[Holding], start: u64) -> usize
     requires { IsNonDecreasingBy holding_rank rows.now }
     ensures { EndsAt start rows.now result }
@@ -108,7 +109,7 @@ fn place_from(rows: &[Holding], start: u64) -> usize
     )
 }
 
-/// The place that the row at a place tells, where it is of an item and a store.
+/// Returns the position in the row at an index, if the row is of this item and this store.
 fn place_if(rows: &[Holding], place: usize, item: u32, store: u16) -> Option<usize>
     ensures { result ≡ place_if item store (slice_get rows.now place) }
 {
@@ -118,7 +119,7 @@ fn place_if(rows: &[Holding], place: usize, item: u32, store: u16) -> Option<usi
     }
 }
 
-/// The rows from one place to another.
+/// Returns the rows from one index to another.
 fn between(rows: &[Holding], from: usize, to: usize) -> &[Holding]
     requires order { from ≤ to }
     requires within { to ≤ length rows.now }
@@ -128,7 +129,7 @@ fn between(rows: &[Holding], from: usize, to: usize) -> &[Holding]
 }
 
 impl Holdings {
-    /// The rows of these stores.
+    /// Creates the rows of these stores.
     pub fn of(alloc: Global, stores: &[Seq<Element>]) -> Result<Holdings, Memory>
         requires count { length stores.now ≤ STORES + 2 }
         requires few { All (λ elements. length elements ≤ STORE_ELEMENTS) stores.now }
@@ -143,7 +144,7 @@ impl Holdings {
         Ok(Holdings { rows })
     }
 
-    /// The first place of an item in a store.
+    /// Returns the first position of an item in a store.
     pub fn place_of(&self, store: u16, item: Item) -> Option<usize>
         requires { IsNonDecreasingBy holding_rank self.now }
         ensures { (stores : List (List Element)) → AreHoldings stores self.now → result ≡ place_of item (content_at stores store) }
@@ -154,7 +155,7 @@ impl Holdings {
         place_if(rows, place, item, store)
     }
 
-    /// The stores that have an item, in their order, each with its first place there.
+    /// Returns the stores that contain an item, in their order, each with the first position of the item in it.
     pub fn holders(&self, item: Item) -> &[Holding]
         requires { IsNonDecreasingBy holding_rank self.now }
         ensures { (stores : List (List Element)) → AreHoldings stores self.now → AreHoldersOf item (content_at stores) result.now }

@@ -1,6 +1,7 @@
-ghost use Rattle.std.specs.Prelude.{◌≡◌, ◌≤◌, ◌+◌, ◌-◌, Some, All, IfOk, IfSome, length, map, option_copied, option_map, slice_get};
+ghost use Rattle.std.specs.Prelude.{◌≡◌, ◌≤◌, ◌+◌, ◌-◌, None, Some, All, IfOk, IfSome, length, map, option_copied, option_map, slice_get};
+ghost use Rattle.kmn_base.specs.declared.items.Element.TheVariants.{Char};
 ghost use Rattle.kmn_base.specs.declared.limits.TheConstants.{RECORDS, STORES};
-ghost use Rattle.rule_model.specs.Dictionary.{name_in};
+ghost use Rattle.virtual_keys.specs.Dictionary.{name_in};
 ghost use Rattle.rule_model.specs.Content.{elements_at, option_number};
 ghost use Rattle.rule_model.specs.Keyboard.{Numbered, StoreMeaning, stated};
 ghost use Rattle.rule_model.specs.Match.{place_of, same_value};
@@ -10,36 +11,40 @@ ghost use Rattle.rule_model.specs.Tab.{tab};
 ghost use Rattle.rule_index.specs.Groups.{AreIndexesOf, IsRuleIndexOf};
 ghost use Rattle.rule_index.specs.Holdings.{AreHoldersOf};
 ghost use Rattle.rule_index.specs.Stores.{store_contents, HaveFewElements};
+ghost use Rattle.rule_index.specs.Texts.{IsApart};
 
 use crate::holding::Holding;
 use crate::holdings::Holdings;
 use crate::options::option_numbers;
 use crate::own_names::own_keys;
 use crate::rule_index::RuleIndex;
+use crate::texts::texts_of;
 use crate::values::{number_for, store_numbers};
 use indexed_tables::{has_words, number_at, system_elements};
+use indexmap::IndexMap;
 use kmn_base::{Element, Item, Memory, Seq};
 use kmx_parts::{FileGroup, FileStore, FileTables};
-use rule_model::KeyDictionary;
 use std::alloc::Global;
 use std::marker::Model;
+use virtual_keys::KeyDictionary;
 
-/// A file with what an engine looks up: each store by place, its option number, the stores that have an item, a number that
-/// the stores with the same elements have, an index of each group's records, and the names of own keys. Elements, contexts
-/// and these names are copied, and nothing else of the file. Behind the stores of the file stand the two system options, in all
-/// that is looked up by store. Contracts see the file's tables.
+/// A compiled keyboard with what an engine looks up: the elements of each store, its option number, the stores that contain an item, a
+/// number that stores with the same elements share, a store for each text that a store is stated with, an index of each group's records,
+/// and the names of custom keys. It copies only elements, contexts, these names, and the characters of texts a second time. In all that
+/// is looked up by store, the two system options follow the stores of the file. Contracts model it as the file's tables.
 pub struct IndexedKeyboard<'a> {
     alloc: Global,
     file: FileTables<'a>,
     stores: Vec<Seq<Element>>,
     holdings: Holdings,
     values: Vec<usize>,
+    texts: IndexMap<Vec<char>, u32>,
     numbers: Vec<Option<usize>>,
     indexes: Vec<RuleIndex>,
     names: KeyDictionary,
 }
 
-/// One call in proofs, where a derived drop is written out in each exit.
+/// This drop is one call in proofs, while a derived drop is written out at each exit.
 impl Drop for IndexedKeyboard<'_> {
     fn drop(self) {
         let IndexedKeyboard {
@@ -48,6 +53,7 @@ impl Drop for IndexedKeyboard<'_> {
             stores: _,
             holdings: _,
             values: _,
+            texts: _,
             numbers: _,
             indexes: _,
             names: _,
@@ -64,6 +70,7 @@ impl<'a> Model for IndexedKeyboard<'a> {
     ghost use Rattle.rule_index.specs.Groups.{AreIndexesOf};
     ghost use Rattle.rule_index.specs.Holdings.{AreHoldings};
     ghost use Rattle.rule_model.specs.Keyboard.{stated};
+    ghost use Rattle.rule_index.specs.Texts.{AreTexts};
     ghost use Rattle.rule_index.specs.Values.{value_code, AreNumbersOf};
 
     ghost Value = { Tables };
@@ -77,10 +84,11 @@ impl<'a> Model for IndexedKeyboard<'a> {
         × (keyboard.stores.items ≡ stated (tab keyboard.file).stores)
         × AreHoldings (stated (tab keyboard.file).stores) keyboard.holdings
         × AreNumbersOf (map value_code ([] ∷ stated (tab keyboard.file).stores)) keyboard.values.items
-        × (length keyboard.file.stores ≤ STORES) };
+        × (length keyboard.file.stores ≤ STORES)
+        × AreTexts (stated (tab keyboard.file).stores) (length (stated (tab keyboard.file).stores)) keyboard.texts.entries };
 }
 
-/// A copy of the elements of a store, with room for no more: a file can have four million.
+/// Copies the elements of a store without spare capacity: a file can have four million elements.
 fn copied(alloc: Global, store: &FileStore<'_>) -> Result<Seq<Element>, Memory>
     ensures { IfOk result (λ copied. copied ≡ store.now.elements) }
 {
@@ -91,7 +99,7 @@ fn copied(alloc: Global, store: &FileStore<'_>) -> Result<Seq<Element>, Memory>
     Ok(Seq::from_vec(copied))
 }
 
-/// What each store of a file has.
+/// Returns the elements of each store of a file.
 fn stores_of(alloc: Global, file: &FileTables<'_>) -> Result<Vec<Seq<Element>>, Memory>
     ensures { IfOk result (λ stores. stores.items ≡ store_contents file.now.stores) }
 {
@@ -102,7 +110,7 @@ fn stores_of(alloc: Global, file: &FileTables<'_>) -> Result<Vec<Seq<Element>>, 
     Ok(stores)
 }
 
-/// What each store of a file has, and behind them the two system options.
+/// Returns the elements of each store of a file, followed by the elements of the two system options.
 fn all_stores_of(alloc: Global, file: &FileTables<'_>) -> Result<Vec<Seq<Element>>, Memory>
     ensures { IfOk result (λ stores. stores.items ≡ stated (tab file.now).stores) }
 {
@@ -112,7 +120,7 @@ fn all_stores_of(alloc: Global, file: &FileTables<'_>) -> Result<Vec<Seq<Element
     Ok(stores)
 }
 
-/// The index of each group's records.
+/// Creates the index of each group's records.
 fn indexes_of(alloc: Global, file: &FileTables<'_>) -> Result<Vec<RuleIndex>, Memory>
     requires { All (λ group. length group.rules ≤ RECORDS) file.now.groups }
     ensures { IfOk result (λ indexes. AreIndexesOf file.now.groups indexes.items) }
@@ -126,7 +134,7 @@ fn indexes_of(alloc: Global, file: &FileTables<'_>) -> Result<Vec<RuleIndex>, Me
 }
 
 impl<'a> IndexedKeyboard<'a> {
-    /// Looks up what an engine needs of a file.
+    /// Builds from a file what an engine looks up.
     #[tactic(auto, unfolding(rule_model::specs::Tab::tab))]
     pub fn new(alloc: Global, file: FileTables<'a>) -> Result<IndexedKeyboard<'a>, Memory>
         requires records { All (λ group. length group.rules ≤ RECORDS) file.groups }
@@ -137,6 +145,7 @@ impl<'a> IndexedKeyboard<'a> {
         let stores = all_stores_of(alloc, &file)?;
         let values = store_numbers(alloc, stores.as_slice())?;
         let holdings = Holdings::of(alloc, stores.as_slice())?;
+        let texts = texts_of(alloc, stores.as_slice())?;
         let numbers = option_numbers(alloc, &file)?;
         let indexes = indexes_of(alloc, &file)?;
         let names = own_keys(alloc, &file)?;
@@ -146,46 +155,47 @@ impl<'a> IndexedKeyboard<'a> {
             stores,
             holdings,
             values,
+            texts,
             numbers,
             indexes,
             names,
         })
     }
 
-    /// The allocator.
+    /// Returns the allocator.
     pub fn alloc(&self) -> Global {
         self.alloc
     }
 
-    /// The file.
+    /// Returns the tables of the file.
     pub fn file(&self) -> FileTables<'a>
         ensures { result ≡ self.now }
     {
         self.file.copy()
     }
 
-    /// The names of the file's own keys.
+    /// Returns the names of the file's custom keys.
     pub fn names(&self) -> &KeyDictionary
         ensures { result.now ≡ (tab self.now).dictionary }
     {
         &self.names
     }
 
-    /// The name of an own key that has a code.
+    /// Returns the name of the custom key that has a code.
     pub fn own_key(&self, code: u16) -> Option<&[u8]>
         ensures { option_copied result ≡ name_in (tab self.now).dictionary code }
     {
         self.names.name_at(code)
     }
 
-    /// The number of the Unicode start group.
+    /// Returns the number of the Unicode start group.
     pub fn start(&self) -> u32
         ensures { result ≡ self.now.start_unicode }
     {
         self.file.start_unicode()
     }
 
-    /// The group of a number, and the index of its records.
+    /// Returns the group with a number, and the index of its records.
     #[tactic(auto, using(crate::proofs::GroupIndexes::index_within))]
     pub fn group(&self, number: u32) -> Option<(FileGroup<'a>, &RuleIndex)>
         ensures group { option_map (λ found. found.0) result ≡ slice_get self.now.groups number }
@@ -197,14 +207,14 @@ impl<'a> IndexedKeyboard<'a> {
         }
     }
 
-    /// The option number of each store.
+    /// Returns the option number of each store.
     pub fn numbers(&self) -> &[Option<usize>]
         ensures { result.now ≡ option_numbers 0 (tab self.now).stores }
     {
         self.numbers.as_slice()
     }
 
-    /// The option number of a store.
+    /// Returns the option number of a store.
     #[tactic(auto, using(rule_model::proofs::PlainOptions::number_found))]
     pub fn option_number(&self, store: u32) -> Option<usize>
         ensures { result ≡ option_number (tab self.now).stores (Numbered store) }
@@ -212,7 +222,7 @@ impl<'a> IndexedKeyboard<'a> {
         number_at(self.numbers.as_slice(), store)
     }
 
-    /// How many stores there are: those of the file and the two system options.
+    /// Returns the number of stores: the stores of the file and the two system options.
     #[tactic(auto, using(crate::proofs::StoreIndexes::counted_all, crate::proofs::StoreIndexes::few_in_all))]
     pub fn store_count(&self) -> u32
         ensures value { result ≡ length (tab self.now).stores }
@@ -221,7 +231,7 @@ impl<'a> IndexedKeyboard<'a> {
         self.stores.len() as u32
     }
 
-    /// The number of the layer, the system option before the last.
+    /// Returns the store number of the layer, the first of the two system options.
     #[tactic(auto, using(crate::proofs::StoreIndexes::count_of_all))]
     pub fn layer(&self) -> u32
         ensures { result ≡ length (tab self.now).stores - 2 }
@@ -229,7 +239,7 @@ impl<'a> IndexedKeyboard<'a> {
         self.store_count() - 2
     }
 
-    /// The number of the platform, the last system option.
+    /// Returns the store number of the platform, the last system option.
     #[tactic(auto, using(crate::proofs::StoreIndexes::count_of_all))]
     pub fn platform(&self) -> u32
         ensures { result ≡ length (tab self.now).stores - 1 }
@@ -237,7 +247,7 @@ impl<'a> IndexedKeyboard<'a> {
         self.store_count() - 1
     }
 
-    /// The elements that a store is stated with, none where there is no such store.
+    /// Returns the elements that a store is stated with, or no elements if there is no such store.
     #[tactic(auto, using(crate::proofs::StoreIndexes::contents_found, crate::proofs::StoreIndexes::contents_absent))]
     pub fn stated(&self, store: u32) -> &[Element]
         ensures { result.now ≡ elements_at (tab self.now).stores (Some store) }
@@ -248,7 +258,7 @@ impl<'a> IndexedKeyboard<'a> {
         }
     }
 
-    /// The first place of an item in a store.
+    /// Returns the first position of an item in a store.
     pub fn place_of(&self, store: u32, item: Item) -> Option<usize>
         ensures { result ≡ place_of item (elements_at (tab self.now).stores (Some store)) }
     {
@@ -258,21 +268,21 @@ impl<'a> IndexedKeyboard<'a> {
         }
     }
 
-    /// The stores that have an item, in their order, each with its first place there, by a search.
+    /// Searches for the stores that contain an item and returns them in their order, each with the first position of the item in it.
     pub fn holders(&self, item: Item) -> &[Holding]
         ensures { AreHoldersOf item (λ store. elements_at (tab self.now).stores (Some store)) result.now }
     {
         self.holdings.holders(item)
     }
 
-    /// The element at a place of a store.
+    /// Returns the element at a position of a store.
     pub fn element_at(&self, store: u32, place: usize) -> Option<Element>
         ensures { result ≡ slice_get (elements_at (tab self.now).stores (Some store)) place }
     {
         self.stated(store).get(place).copied()
     }
 
-    /// Whether two stores have the same elements.
+    /// Returns whether two stores have the same elements.
     #[tactic(auto, using(crate::proofs::StoreValues::some_numbers, crate::proofs::StoreValues::same_number))]
     pub fn same_elements(&self, store: u32, other: u32) -> bool
         ensures { result ≡ same_value (elements_at (tab self.now).stores (Some store)) (elements_at (tab self.now).stores (Some other)) }
@@ -281,8 +291,22 @@ impl<'a> IndexedKeyboard<'a> {
         number_for(values, store) == number_for(values, other)
     }
 
-    /// Finds for each store whether each word of its elements is a word of a content, so that conditions on the platform are
-    /// told by the number of their value.
+    /// Returns a store that is stated with a text, found by hash. An empty text is also the content of the number after the last
+    /// store, which has no elements.
+    #[tactic(auto, using(crate::proofs::TextEntries::empty_has_text, crate::proofs::TextEntries::found_has_text, crate::proofs::TextEntries::missing_is_apart))]
+    pub fn stated_with(&self, text: &[char]) -> Option<u32>
+        ensures same { IfSome result (λ value. elements_at (tab self.now).stores (Some value) ≡ map Char text.now) }
+        ensures apart { result ≡ None → IsApart (tab self.now).stores text.now }
+    {
+        if text.is_empty() {
+            return Some(self.store_count());
+        }
+        let store = self.texts.get(text)?;
+        Some(*store)
+    }
+
+    /// Sets the flag of each store to whether each word of its elements is a word of a content. Then the number of its value decides a
+    /// condition on the platform.
     pub fn find_truths(&self, truths: &mut [bool], content: &[Element])
         requires { length truths.old ≡ length (tab self.now).stores }
         ensures { truths.new ≡ map (λ (store : StoreMeaning). has_words content.now store.elements) (tab self.now).stores }

@@ -1,18 +1,18 @@
-//! What the records that an index leaves out are: records that don't hold.
+//! The laws of an index: a record that is not a candidate does not hold.
 
 ghost use Rattle.rule_index.specs.Laws.{HoldingIsWanted, ClassIsOfTheRecord, FirstIsCandidate};
 
-/// A record that holds has one of the classes that the press and the list want.
+/// If a record holds, it has one of the classes that the key press and the left list can match.
 pub fn holding_is_wanted()
     ensures { HoldingIsWanted }
 {}
 
-/// The class of a record doesn't depend on the stores.
+/// The class of a record does not depend on the stores.
 pub fn class_is_of_the_record()
     ensures { ClassIsOfTheRecord }
 {}
 
-/// The first record that holds stands behind all that have no wanted class.
+/// If no record between two numbers has a matching class, the first record that holds is the same from either number on.
 pub fn first_is_candidate()
     ensures { FirstIsCandidate }
 {}

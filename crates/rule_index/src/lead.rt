@@ -3,7 +3,7 @@ ghost use Rattle.rule_index.specs.declared.row.TheConstants.{NO_ROW};
 
 use crate::head::Head;
 
-/// The head of the last candidate's class, behind its row, and a number before which no other wanted class has a record.
+/// The cursor of the last candidate's class, after the candidate's row, and a number below which no other matching class has a record.
 #[derive(Clone, Copy, Drop)]
 pub struct ClassLead {
     pub head: Head,

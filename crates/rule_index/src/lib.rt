@@ -1,19 +1,23 @@
-//! Finds, of a group's records, those that can hold for a press and the last item before the caret, and the stores that have
-//! an item, each with its first place there, by search, and at once what stands at a place of a store and which stores are alike.
+//! Indexes the tables of a compiled keyboard, so that the engine finds the records that can match a key press, and the position of an
+//! item in a store, without a scan.
 //!
-//! It stands on `kmn_base`, `rule_model`, `indexed_tables` and `kmx_parts`. The layer above makes an
-//! `IndexedKeyboard` of `FileTables`, which has what is looked up: an index of each group's records (`specs/Groups`), each store
-//! by place (`specs/Stores`), one array for all stores of which item stands first where in which store (`specs/Holdings`), a
-//! number that stores with the same elements have (`specs/Values`), the option number of each store (`indexed_tables`), and the
-//! names of own keys (`specs/OwnNames`). Behind the stores of the file stand the layer and the platform, the last two numbers. It
-//! asks `wanted_classes` of a press and the list before the caret, and tries the records that the
-//! `Candidates` of a group's `RuleIndex` answer, in the file's order: the rows are searched when the walk begins, and from then
-//! on passed one by one. The index has each record's context, in the numbers of the file, and how many items of the text that
-//! takes. The layer above asks `holders` for all stores that have an item, `place_of` for the place in one, `element_at` for what
-//! `index` takes, and `same_elements` in conditions; `find_truths` tells once which values the platform has the words of.
-//! `specs/Classes` says by what a record can be met, `specs/Next` which record
-//! is the next candidate, `specs/Walk` from where a walk goes on. The laws stand in `laws`: a record that holds is among the
-//! wanted ones, so the first record that holds is the first candidate that does.
+//! Depends on `kmn_base`, `virtual_keys`, `rule_model`, `indexed_tables`, `kmx_parts` and `indexmap`.
+//!
+//! Use: create an `IndexedKeyboard` from `FileTables`. It contains an index of each group's records (`specs/Groups`), the elements of
+//! each store (`specs/Stores`), one array for all stores with the first position of each item in each store (`specs/Holdings`), a
+//! number that stores with the same elements share (`specs/Values`), a store for each text that a store is stated with
+//! (`specs/Texts`), the option number of each store (`indexed_tables`), and the names of custom keys (`specs/OwnNames`). The layer and
+//! the platform follow the stores of the file and have the last two store numbers.
+//!
+//! For a press, call `wanted_classes` with the press and the left list. Then test the records that the `Candidates` of a group's
+//! `RuleIndex` return, in file order. The iterator searches the rows when it is created, and then moves over them one by one. The index
+//! also contains each record's context, in the numbers of the file, and the number of text items that the context matches. `holders`
+//! returns all stores that contain an item, `place_of` the position of an item in a store, `element_at` the element that `index`
+//! outputs, and `stated_with` a store that is stated with a text of the host. `same_elements` compares two stores for conditions.
+//! `find_truths` finds once for each store whether the platform has all its words.
+//!
+//! `specs/Classes` defines what a record can match, `specs/Next` the next candidate, and `specs/Walk` where the iterator continues.
+//! Laws (`laws`): a record that holds has one of the matching classes, so the first record that holds is the first candidate that holds.
 #![tactic(auto)]
 
 mod candidates;
@@ -32,6 +36,7 @@ mod own_names;
 mod row;
 mod rows;
 mod rule_index;
+mod texts;
 mod values;
 
 pub use candidates::Candidates;

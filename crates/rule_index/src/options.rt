@@ -1,4 +1,4 @@
-//! The option number of each store of a file, and of the system options behind them.
+//! The option number of each store of a file, followed by the option numbers of the system options.
 
 ghost use Rattle.std.specs.Prelude.{◌≡◌, ◌++◌, false, IfOk, length, replicate, flat_map};
 ghost use Rattle.rule_model.specs.Tab.{pattern_options, output_options, rule_options, group_options, tab_options, with_options};
@@ -67,7 +67,7 @@ fn mark_groups(flags: &mut [bool], file: &FileTables<'_>)
     }
 }
 
-/// A flag for each store: whether some item uses it as an option.
+/// Returns a flag for each store: whether some item uses it as an option.
 #[tactic(auto, unfolding(rule_model::specs::Tab::tab_options))]
 fn option_flags(alloc: Global, file: &FileTables<'_>) -> Result<Vec<bool>, Memory>
     ensures { IfOk result (λ flags. flags.items ≡ with_flags (replicate (length file.now.stores) false) (tab_options file.now)) }
@@ -77,7 +77,7 @@ fn option_flags(alloc: Global, file: &FileTables<'_>) -> Result<Vec<bool>, Memor
     Ok(flags)
 }
 
-/// The option number of each store, and of the system options behind them.
+/// Returns the option number of each store, followed by the option numbers of the system options.
 pub fn option_numbers(alloc: Global, file: &FileTables<'_>) -> Result<Vec<Option<usize>>, Memory>
     ensures { IfOk result (λ numbers. numbers.items ≡ option_numbers 0 (with_options (tab_options file.now) 0 file.now.stores ++ system_options)) }
 {

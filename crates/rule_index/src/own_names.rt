@@ -1,4 +1,4 @@
-//! The names of a file's own keys.
+//! The names of a file's custom keys.
 
 ghost use Rattle.std.specs.Prelude.{◌≡◌, ◌<◌, IfOk, OnOk, find, length};
 ghost use Rattle.std.specs.String.{string_bytes};
@@ -9,11 +9,11 @@ ghost use Rattle.rule_index.specs.Stores.{HaveFewElements};
 
 use kmn_base::{Element, Memory};
 use kmx_parts::{Elements, FileTables, StringParts};
-use rule_model::KeyDictionary;
 use rule_model::system::KEY_DICTIONARY;
 use std::alloc::Global;
+use virtual_keys::KeyDictionary;
 
-/// The elements of the store of the names, none where there is no such store.
+/// Returns the elements of the store of the names, or no elements if there is no such store.
 fn dictionary_elements<'a>(file: &FileTables<'a>) -> Elements<'a>
     ensures { result ≡ store_elements (find is_dictionary file.now.stores) }
 {
@@ -37,7 +37,7 @@ fn add_word(names: &mut KeyDictionary, word: &[u8]) -> Result<(), Memory>
     Ok(())
 }
 
-/// Takes up one more character: a space ends the word, any other one belongs to it.
+/// Reads one more character. A space ends the word, and any other character belongs to it.
 fn take_char(names: &mut KeyDictionary, word: &mut String, c: char) -> Result<(), Memory>
     requires { length names.old < KEY_NAMES }
     ensures names { OnOk result (names.new ≡ names_after c names.old (string_bytes word.old)) }
@@ -52,7 +52,7 @@ fn take_char(names: &mut KeyDictionary, word: &mut String, c: char) -> Result<()
     Ok(())
 }
 
-/// The names of a file's own keys: the words of the store's characters, each once. The one store that they stand in is too
+/// Returns the names of a file's custom keys: the words of the store's characters, each once. Only one store has names, and it is too
 /// short for more names than there are codes.
 pub fn own_keys(alloc: Global, file: &FileTables<'_>) -> Result<KeyDictionary, Memory>
     requires { HaveFewElements file.now.stores }

@@ -3,10 +3,10 @@ ghost use Rattle.rule_index.specs.declared.row.TheConstants.{NO_ROW};
 
 use crate::class::Class;
 
-/// More than the number of any row.
+/// A number that is greater than the number of each row.
 pub(crate) const NO_ROW: u32 = 131_072;
 
-/// A record or an element: its class, and its place among the others.
+/// A record or an element: its class, and its index in the group or the store.
 #[derive(Clone, Copy, Drop)]
 pub struct Row {
     pub class: Class,

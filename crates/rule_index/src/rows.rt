@@ -9,7 +9,7 @@ use crate::row::{NO_ROW, Row};
 use kmn_base::Memory;
 use std::alloc::Global;
 
-/// A class and a number as one number, by which rows are sorted.
+/// Returns a class and a number as one number, by which rows are sorted.
 pub fn rank_of(class: Class, number: u32) -> u64
     requires { number ≤ NO_ROW }
     ensures { result ≡ ranked class number }
@@ -17,14 +17,14 @@ pub fn rank_of(class: Class, number: u32) -> u64
     class.number() * u64::from(NO_ROW) + u64::from(number)
 }
 
-/// The rank of a row.
+/// Returns the rank of a row.
 fn rank(row: &Row) -> u64
     ensures { result ≡ rank row.now }
 {
     rank_of(row.class, row.number)
 }
 
-/// The rows of these classes, in their order.
+/// Creates a row for each of these classes, in their order.
 fn numbered(alloc: Global, classes: &[Class]) -> Result<Vec<Row>, Memory>
     requires { length classes.now ≤ RECORDS }
     ensures { IfOk result (λ rows. AreNumbered classes.now rows.items) }
@@ -39,7 +39,7 @@ fn numbered(alloc: Global, classes: &[Class]) -> Result<Vec<Row>, Memory>
     Ok(rows)
 }
 
-/// The rows of these classes, by class and then by number.
+/// Creates the rows of these classes, sorted by class and then by number.
 pub fn rows_of(alloc: Global, classes: &[Class]) -> Result<Vec<Row>, Memory>
     requires { length classes.now ≤ RECORDS }
     ensures { IfOk result (λ rows. IsIndexOf classes.now rows.items) }
@@ -53,7 +53,7 @@ pub fn rows_of(alloc: Global, classes: &[Class]) -> Result<Vec<Row>, Memory>
     Ok(rows)
 }
 
-/// The place of the first row whose rank is no less.
+/// Returns the index of the first row whose rank is at least `start`.
 pub fn place_from(rows: &[Row], start: u64) -> usize
     ensures { (sorted : IsNonDecreasingBy rank rows.now) → StartsAt start rows.now result }
 {
@@ -64,7 +64,7 @@ pub fn place_from(rows: &[Row], start: u64) -> usize
     )
 }
 
-/// The place of the first row whose rank is no less, gone to step by step from a place before which all are less.
+/// Returns the index of the first row whose rank is at least `start`. It moves row by row from `passed`, and all earlier ranks are less.
 pub fn place_behind(rows: &[Row], passed: usize, start: u64) -> usize
     ensures { (sorted : IsNonDecreasingBy rank rows.now) → AreBefore start rows.now passed → StartsAt start rows.now result }
 {

@@ -14,7 +14,7 @@ use kmx_parts::{ContextItem, FileGroup};
 use std::alloc::Global;
 use std::marker::Model;
 
-/// The records of a group by what they can be met by, the context of each, and how many items of the text it takes.
+/// The records of a group, sorted by what they can match, with the context of each and the number of text items that it matches.
 #[derive(Drop)]
 pub struct RuleIndex {
     rows: Vec<Row>,
@@ -31,7 +31,7 @@ impl Model for RuleIndex {
 }
 
 impl RuleIndex {
-    /// The index of a group's records.
+    /// Creates the index of a group's records.
     pub fn new(alloc: Global, group: &FileGroup<'_>) -> Result<RuleIndex, Memory>
         requires { length group.now.rules ≤ RECORDS }
         ensures { IfOk result (λ index. IsRuleIndexOf group.now index) }
@@ -47,14 +47,14 @@ impl RuleIndex {
         })
     }
 
-    /// The records that have one of some classes, one after the other.
+    /// Returns an iterator over the records that have one of these classes.
     pub fn candidates(&self, wanted: &[Class; 6]) -> Candidates<'_>
         ensures { result ≡ record { rows = self.now.rows; wanted = wanted.now; from = 0 } }
     {
         Candidates::of(self.rows.as_slice(), wanted)
     }
 
-    /// The context of a record in the numbers of the file; empty where there is no such record.
+    /// Returns the context of a record in the numbers of the file, or an empty context if there is no such record.
     pub fn context(&self, number: u32) -> &[ContextItem]
         ensures { map pattern_of result.now ≡ slice_index_or self.now.contexts number [] }
     {
@@ -64,7 +64,7 @@ impl RuleIndex {
         }
     }
 
-    /// How many items of the text the context of a record takes; none where there is no such record.
+    /// Returns the number of text items that the context of a record matches, or 0 if there is no such record.
     pub fn pattern_count(&self, number: u32) -> usize
         ensures { result ≡ slice_index_or self.now.counts number 0 }
     {

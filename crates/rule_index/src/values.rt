@@ -5,7 +5,7 @@ use kmn_base::{Element, Memory, Seq};
 use std::alloc::Global;
 use std::collections::BTreeMap;
 
-/// Puts the code of an element.
+/// Appends the code of an element.
 fn put_code(code: &mut Seq<u32>, element: Element) -> Result<(), Memory>
     ensures { OnOk result (code.new ≡ code.old ++ element_code element) }
 {
@@ -19,7 +19,7 @@ fn put_code(code: &mut Seq<u32>, element: Element) -> Result<(), Memory>
     }
 }
 
-/// The code of elements, which other elements don't have.
+/// Returns the code of elements. Different elements have different codes.
 fn value_code(alloc: Global, elements: &[Element]) -> Result<Seq<u32>, Memory>
     ensures { IfOk result (λ code. code ≡ value_code elements.now) }
 {
@@ -30,7 +30,7 @@ fn value_code(alloc: Global, elements: &[Element]) -> Result<Seq<u32>, Memory>
     Ok(code)
 }
 
-/// The codes of no elements and, behind it, of each store's.
+/// Returns the code of no elements, followed by the code of each store's elements.
 fn value_codes(alloc: Global, stores: &[Seq<Element>]) -> Result<Vec<Seq<u32>>, Memory>
     ensures { IfOk result (λ codes. codes.items ≡ map value_code ([] ∷ stores.now)) }
 {
@@ -42,7 +42,7 @@ fn value_codes(alloc: Global, stores: &[Seq<Element>]) -> Result<Vec<Seq<u32>>, 
     Ok(codes)
 }
 
-/// The number of a value that is known, else the next one, which is then known.
+/// Returns the number of a value if it is known. Otherwise adds it with the next number and returns that number.
 fn numbered<'a>(
     known: &mut BTreeMap<&'a [u32], usize>,
     value: &'a [u32],
@@ -57,7 +57,7 @@ fn numbered<'a>(
     Ok(next)
 }
 
-/// For each value the number of the first that is the same, so that values are compared by one comparison.
+/// Returns for each value the number of the first equal value, so that one comparison of numbers compares two values.
 fn value_numbers(alloc: Global, values: &[Seq<u32>]) -> Result<Vec<usize>, Memory>
     ensures { IfOk result (λ numbers. AreNumbersOf values.now numbers.items) }
 {
@@ -70,7 +70,7 @@ fn value_numbers(alloc: Global, values: &[Seq<u32>]) -> Result<Vec<usize>, Memor
     Ok(numbers)
 }
 
-/// The numbers of no elements and, behind it, of each store's.
+/// Returns the number of no elements, followed by the number of each store's elements.
 pub fn store_numbers(alloc: Global, stores: &[Seq<Element>]) -> Result<Vec<usize>, Memory>
     ensures { IfOk result (λ numbers. AreNumbersOf (map value_code ([] ∷ stores.now)) numbers.items) }
 {
@@ -78,7 +78,7 @@ pub fn store_numbers(alloc: Global, stores: &[Seq<Element>]) -> Result<Vec<usize
     value_numbers(alloc, codes.as_slice())
 }
 
-/// The number of a store's elements among these numbers, that of no elements where there is no such store.
+/// Returns the number of a store's elements among these numbers, or the number of no elements if there is no such store.
 pub fn number_for(numbers: &[usize], store: u32) -> usize
     requires { 0 < length numbers.now }
     ensures { result ≡ number_for numbers.now store }

@@ -1,4 +1,4 @@
--- What a context catches where each of its conditions and each `nul` stands, pattern by pattern, and that a record holds by it.
+-- What a context catches, pattern by pattern, if each condition and each `nul` is satisfied, and that this decides whether a record holds.
 use Rattle.std.proofs.Common.{◌≡◌, ℕ, ◌-◌, ◌<◌, ◌≤◌, Bool, true, false, List, [], ◌∷◌, ◌++◌, length, drop, map, Option, Some, None, refl, sym, ◌∙◌, ap, inl, inr, arith}
 use Rattle.std.specs.Prelude.{if◌then◌else◌, ◌&&◌, ◌||◌, not, nat_eq, nat_le}
 use Rattle.std.specs.List.{list_all, list_any}
@@ -7,7 +7,7 @@ use Rattle.std.proofs.Math.Bool.{and-false}
 use Rattle.kmn_base.specs.declared.items.Item.{Item}
 use Rattle.kmn_base.specs.declared.keys.KeyPress.{KeyPress}
 use Rattle.kmn_base.specs.declared.keys.RuleKey.TheVariants as key
-use Rattle.rule_model.specs.Fits.{key_fits}
+use Rattle.virtual_keys.specs.Fits.{key_fits}
 use Rattle.rule_model.specs.declared.event_state.Catch.{Catch}
 use Rattle.rule_model.specs.declared.tables.Rule.{Rule}
 use Rattle.rule_model.specs.declared.tables.Store.{Store}
@@ -18,7 +18,7 @@ use Rattle.rule_model.specs.Tab.{tab_pattern, tab_rule}
 use Rattle.rule_matching.specs.Matching.{is_allowed, allowed, allowed_catches}
 use Rattle.rule_model.proofs.PlainContexts.{pattern_count_same}
 
--- a pattern that looks at an item is allowed
+-- if a pattern takes an item, it is allowed
 pub taking_is_allowed : (content : Content) (whole : Bool) (pattern : Pattern) → takes_item pattern ≡ true → is_allowed content whole pattern ≡ true
 taking_is_allowed content whole (IsChar c) takes = refl
 taking_is_allowed content whole (IsMark m) takes = refl
@@ -35,12 +35,12 @@ if_none true x none = none
 if_none false x none = refl
 
 module _ (content : Content) (whole : Bool) (seen : List Catch) (pattern : Pattern) (patterns : List Pattern) (text : List Item) where
-  -- behind a pattern that is allowed the others decide
+  -- if the first pattern is allowed, the patterns after it decide
   others_decide : is_allowed content whole pattern ≡ true
       → allowed_catches content whole seen (pattern ∷ patterns) text ≡ (if allowed content whole patterns then catches_from content seen (pattern ∷ patterns) text else None)
   others_decide is = ap (λ (b : Bool). if b && allowed content whole patterns then catches_from content seen (pattern ∷ patterns) text else None) is
 
-  -- a pattern that looks at an item catches what it catches without the conditions
+  -- if the first pattern takes an item, it catches the same with the conditions as without them
   pub allowed_with_item : takes_item pattern ≡ true → (catch : Catch) (behind : List Item)
       → catches_from content seen (pattern ∷ patterns) text ≡ catches_from content (seen ++ catch ∷ []) patterns behind
       → allowed_catches content whole seen (pattern ∷ patterns) text ≡ allowed_catches content whole (seen ++ catch ∷ []) patterns behind
@@ -48,12 +48,12 @@ module _ (content : Content) (whole : Bool) (seen : List Catch) (pattern : Patte
       others_decide (taking_is_allowed content whole pattern takes)
       ∙ ap (λ (caught : Option (List Catch)). if allowed content whole patterns then caught else None) is
 
--- where the patterns catch nothing, they catch nothing with their conditions
+-- if the patterns catch nothing, they catch nothing with their conditions
 pub allowed_catches_none : (content : Content) (whole : Bool) (seen : List Catch) (patterns : List Pattern) (text : List Item)
     → catches_from content seen patterns text ≡ None → allowed_catches content whole seen patterns text ≡ None
 allowed_catches_none content whole seen patterns text none = if_none (allowed content whole patterns) (catches_from content seen patterns text) none
 
--- conditions and room are asked of one pattern and the others, or of each pattern
+-- testing the conditions and the length for the first pattern and the others together is the same as testing them pattern by pattern
 one_and_others : (here start others any whole : Bool)
     → ((here && others) && (if start || any then whole else true)) ≡ ((here && (not start || whole)) && (others && (if any then whole else true)))
 one_and_others false start others any whole = refl
@@ -72,7 +72,7 @@ conditions_and_room content whole (pattern ∷ patterns) =
     one_and_others (is_true content pattern) (is_at_start pattern) (list_all (is_true content) patterns) (list_any is_at_start patterns) whole
     ∙ ap (λ (b : Bool). is_allowed content whole pattern && b) (conditions_and_room content whole patterns)
 
--- what was caught, where it may be
+-- `caught_by` can be applied before or after a test
 caught_by_if : (b : Bool) (catches : Option (List Catch)) → caught_by (if b then catches else None) (Some None) ≡ (if b then caught_by catches (Some None) else None)
 caught_by_if true catches = refl
 caught_by_if false catches = refl
@@ -85,7 +85,7 @@ if_same : (b c : Bool) → (if b then c else c) ≡ c
 if_same true c = refl
 if_same false c = refl
 
--- a number is not a larger one
+-- if a number is less than another, they are not equal
 not_larger : (a b : ℕ) → a < b → nat_eq a b ≡ false
 not_larger a b less = elim (cases_Bool (nat_eq a b)) [
   | inl same ↦ absurd (omega (arith, less, eqb-true a b same))
@@ -102,7 +102,7 @@ module _ (content : Content) (press : KeyPress) (stores : List Store) (using_key
   abbrev found : ℕ → Option (List Catch)
   found taken = catches_from content [] patterns (drop (length left - taken) left)
 
-  -- a record whose key doesn't fit doesn't hold
+  -- if the key of a record does not fit, the record does not hold
   pub unfitting_holds_not : is_fitting ≡ false → None ≡ holds content left press (tab_rule stores using_keys rule)
   unfitting_holds_not unfit =
       let caught : Option (List Catch) = found (pattern_count patterns) in
@@ -110,7 +110,7 @@ module _ (content : Content) (press : KeyPress) (stores : List Store) (using_key
       sym (ap (λ (b : Bool). if may then caught_by caught (if b then Some None else None) else None) unfit
       ∙ if_none may (caught_by caught None) (caught_by_none caught))
 
-  -- nor does one that takes more items than there are
+  -- if a record takes more items than there are, it does not hold
   pub short_holds_not : count ≡ pattern_count (map (tab_pattern []) rule.context) → length left < count
       → None ≡ holds content left press (tab_rule stores using_keys rule)
   short_holds_not is short =
@@ -124,7 +124,8 @@ module _ (content : Content) (press : KeyPress) (stores : List Store) (using_key
       sym (ap (λ (b : Bool). if conditions && b then caught_by (found taken) place else None) roomless
       ∙ ap (λ (b : Bool). if b then caught_by (found taken) place else None) (and-false conditions))
 
-  -- one whose key fits has caught what its context catches where each condition and each `nul` stands
+  -- if the key of a record fits and the list has enough items, the record catches what its context catches if each condition and each
+  -- `nul` is satisfied
   pub allowed_holds : is_fitting ≡ true → count ≡ pattern_count (map (tab_pattern []) rule.context) → count ≤ length left
       → caught_by (allowed_catches content (nat_eq (length left) count) [] patterns (drop (length left - count) left)) (Some None)
       ≡ holds content left press (tab_rule stores using_keys rule)

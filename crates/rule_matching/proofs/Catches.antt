@@ -1,4 +1,4 @@
--- How many items were caught.
+-- The number of items that were caught.
 use Rattle.std.proofs.Common.{◌≤◌, List, length, arith}
 use Rattle.std.specs.Prelude.{is_some, filter_map}
 use Rattle.std.proofs.lemmas.List.Sums.{count_by-le-length}

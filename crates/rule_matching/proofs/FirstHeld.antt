@@ -1,4 +1,5 @@
--- The first record of a group that holds: a candidate that does, with those before it passed over, and none where all are passed over.
+-- The first record of a group that holds: a candidate that holds after all records before it are passed over, or none if all records are
+-- passed over.
 use Rattle.std.proofs.Common.{◌≡◌, ◌≢◌, ℕ, zero, suc, ◌+◌, ◌<◌, Bool, true, false, List, [], ◌∷◌, length, Some, None, Option, inl, inr, refl, sym, ◌∙◌, ap, arith}
 use Rattle.std.specs.Prelude.{find, is_some, option_map, slice_get, slice_index_or}
 use Rattle.std.proofs.lemmas.Bool.{cases_lt, cond-true, cond-false}
@@ -20,11 +21,11 @@ use Rattle.rule_index.proofs.Skipping.{class_is_of_the_record}
 use Rattle.rule_matching.specs.Moment.{content_at, held_record, is_held, MomentValue}
 use Rattle.rule_matching.proofs.Candidates.{classes_of, there}
 
--- the records before a number are passed over: a test is false of each
+-- the records before a number are passed over: a test is false for each of them
 abbrev pub ArePassed : (Rule → Bool) → List Rule → ℕ → Type 0
 ArePassed test rules count = (n : ℕ) (d : Rule) → n < count → n < length rules → test (slice_index_or rules n d) ≡ false
 
--- a record that passes the test where all before it are passed over is the first
+-- if a record passes the test and all records before it are passed over, it is the first that passes
 found_at : (test : Rule → Bool) (rules : List Rule) (number : ℕ) (rule : Rule) → slice_get rules number ≡ Some rule → test rule ≡ true → ArePassed test rules number
     → Some rule ≡ find test rules
 found_at test [] number rule is held passed = absurd (cc)
@@ -35,14 +36,14 @@ found_at test (r ∷ rules) (suc number) rule is held passed =
     found_at test rules number rule is held (λ n d below within. passed (suc n) d (omega (arith, below)) (omega (arith, within)))
     ∙ sym (cond-false (test r) (Some r) (find test rules) (passed zero r (omega arith) (omega arith)))
 
--- and there is none where all are passed over
+-- if all records are passed over, no record passes the test
 pub none_found : (test : Rule → Bool) (rules : List Rule) → ArePassed test rules (length rules) → None ≡ find test rules
 none_found test [] passed = refl
 none_found test (r ∷ rules) passed =
     none_found test rules (λ n d below within. passed (suc n) d (omega (arith, below)) (omega (arith, within)))
     ∙ sym (cond-false (test r) (Some r) (find test rules) (passed zero r (omega arith) (omega arith)))
 
--- a record that is held on the list holds, and else it doesn't
+-- if `held_record` is Some, the record holds; if it is None, the record does not hold
 held_is : (content : Content) (left : List Item) (press : KeyPress) (rule : RuleMeaning) (chosen : Chosen) → held_record content left press (Some rule) ≡ Some chosen
     → is_some (holds content left press rule) ≡ true
 held_is content left press rule chosen = by (holds content left press rule)
@@ -60,7 +61,7 @@ held_not content left press rule = by (holds content left press rule)
     by (Some caught) is = absurd (cc)
 
 module _ (moment : MomentValue) (group : Group) (left : List Item) (press : KeyPress) where
-  -- a record without a wanted class doesn't hold
+  -- if the class of a record is not a class of the press and the list, the record does not hold
   unwanted : (rule : Rule) → ((j : ℕ) → j < 6 → rule_class (tab_rule [] group.using_keys rule) ≢ slice_index_or (wanted_classes press left) j 0)
       → is_held moment group left press rule ≡ false
   unwanted rule none = by (holds (content_at moment) left press (tab_rule moment.tables.stores group.using_keys rule)) refl
@@ -75,7 +76,7 @@ module _ (moment : MomentValue) (group : Group) (left : List Item) (press : KeyP
       → slice_index_or (classes_of group.using_keys group.rules) n 0 ≡ rule_class (tab_rule [] group.using_keys (slice_index_or group.rules n d))
   class_at n d within = get_or-map (λ (rule : Rule). rule_class (tab_rule [] group.using_keys rule)) group.rules n d 0 within
 
-  -- so the records before the next candidate are passed over, and all where none is left
+  -- if the records before a number are passed over, so are the records before the next candidate, or all records if no candidate is left
   pub passed_to : (from number : ℕ) → IsNext (wanted_classes press left) 6 (classes_of group.using_keys group.rules) from (Some number)
       → ArePassed (is_held moment group left press) group.rules from → ArePassed (is_held moment group left press) group.rules number
   passed_to from number (IsTheNext m behind inside met skipped) passed n d below within = elim (cases_lt n from) [
@@ -101,14 +102,14 @@ module _ (moment : MomentValue) (group : Group) (left : List Item) (press : KeyP
     held_there rule answer is held =
         sym (ap (λ (given : Option Rule). held_record (content_at moment) left press (option_map (tab_rule moment.tables.stores group.using_keys) given)) is) ∙ held
 
-    -- a candidate that holds is the first that does
+    -- if a candidate holds and the records before it are passed over, it is the first record that holds
     pub candidate_found : (rule : Rule) (chosen : Chosen) → slice_get group.rules number ≡ Some rule → held_at ≡ Some chosen
         → ArePassed (is_held moment group left press) group.rules number → Some rule ≡ find (is_held moment group left press) group.rules
     candidate_found rule chosen is held passed =
         found_at (is_held moment group left press) group.rules number rule is
         (held_is (content_at moment) left press (tab_rule moment.tables.stores group.using_keys rule) chosen (held_there rule (Some chosen) is held)) passed
 
-    -- and one that doesn't is passed over
+    -- if a candidate does not hold, it is passed over
     pub passed_one : number < length group.rules → held_at ≡ None → ArePassed (is_held moment group left press) group.rules number
         → ArePassed (is_held moment group left press) group.rules (number + 1)
     passed_one inside none passed n d below within = elim (cases_lt n number) [

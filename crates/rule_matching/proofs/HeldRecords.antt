@@ -1,4 +1,4 @@
--- Whether the record of a number holds, and what it has caught then.
+-- Whether the record with a number holds, and what it has caught then.
 use Rattle.std.proofs.Common.{◌≡◌, ℕ, ◌-◌, ◌<◌, ◌≤◌, Bool, true, false, List, [], ◌∷◌, drop, length, map, Option, Some, None, unwrap_or, inl, inr, refl, sym, ◌∙◌, ap, arith}
 use Rattle.std.proofs.lemmas.Bool.{cases_Bool}
 use Rattle.std.proofs.lemmas.List.{length-map}
@@ -8,7 +8,7 @@ use Rattle.kmn_base.specs.declared.limits.TheConstants.{CONTEXT_ITEMS}
 use Rattle.kmn_base.specs.declared.items.Item.{Item}
 use Rattle.kmn_base.specs.declared.keys.KeyPress.{KeyPress}
 use Rattle.kmn_base.specs.declared.keys.RuleKey.TheVariants as key
-use Rattle.rule_model.specs.Fits.{key_fits}
+use Rattle.virtual_keys.specs.Fits.{key_fits}
 use Rattle.rule_model.specs.declared.event_state.Catch.{Catch}
 use Rattle.rule_model.specs.declared.event_state.Caught.{Caught}
 use Rattle.rule_model.specs.declared.tables.Group.{Group}
@@ -29,19 +29,19 @@ use Rattle.rule_matching.specs.Moment.{held_record, AreShort}
 use Rattle.rule_matching.proofs.AllowedContexts.{allowed_holds, short_holds_not, unfitting_holds_not}
 use Rattle.rule_matching.proofs.Contexts.{short_in_rules}
 
--- items mean what their patterns do
+-- the meanings of items are the meanings of their patterns
 meanings : (stores : List Store) (items : List ContextItem) → map (item_meaning stores) items ≡ map (tab_pattern stores) (map pattern_of items)
 meanings stores [] = refl
 meanings stores (item ∷ items) = ap (λ (patterns : List Pattern). item_meaning stores item ∷ patterns) (meanings stores items)
 
--- the count that an index has of a short record is its context's
+-- if a record is short, the count that an index has for it is the count of its context
 pub record_count : (group : Group) (index : RuleIndexValue) (number : ℕ) (rule : Rule) → IsRuleIndexOf group index → AreShort group.rules
     → slice_get group.rules number ≡ Some rule → (count : ℕ) → count ≡ slice_index_or index.counts number 0
     → count ≡ pattern_count (map (tab_pattern []) rule.context)
 record_count group index number rule is short here count counted =
     counted ∙ count_found group index number rule is here (short_in_rules group.rules number rule short here)
 
--- the context that an index has at a number is that of the record, and empty where there is none
+-- the context that an index has at a number is the context of the record, or empty if there is no record
 context_of : (group : Group) (index : RuleIndexValue) (number : ℕ) → IsRuleIndexOf group index
     → slice_index_or index.contexts number [] ≡ unwrap_or (option_map (λ (rule : Rule). rule.context) (slice_get group.rules number)) []
 context_of group index number is =
@@ -50,7 +50,7 @@ context_of group index number is =
     ∙ (sym (unwrap_or-slice_get (map context group.rules) number [])
     ∙ ap (λ (given : Option (List Pat)). unwrap_or given []) (slice_get-map context group.rules number))
 
--- its items are few
+-- if the contexts of a group are short, the context that an index has at a number has at most `CONTEXT_ITEMS` items
 pub items_few : (group : Group) (index : RuleIndexValue) (number : ℕ) → IsRuleIndexOf group index → AreShort group.rules
     → (items : List ContextItem) → map pattern_of items ≡ slice_index_or index.contexts number [] → length items ≤ CONTEXT_ITEMS
 items_few group index number is short items are = by (slice_get group.rules number) refl
@@ -76,18 +76,18 @@ module _ (content : Content) (press : KeyPress) (stores : List Store) (group : G
   abbrev is_fitting : Rule → Bool
   is_fitting rule = key_fits (if group.using_keys then rule.key else key.Any) press
 
-  -- nothing is held where there is no such record
+  -- if there is no record with the number, none is held
   pub none_not_held : slice_get group.rules number ≡ None → None ≡ answer
   none_not_held here = sym (ap (λ (given : Option Rule). held_record content left press (option_map meant given)) here)
 
-  -- else what the record catches
+  -- if there is a record with the number, the result is what it catches
   answered : (rule : Rule) → slice_get group.rules number ≡ Some rule → (caught : Option Caught) → caught ≡ holds content left press (meant rule)
       → option_map (λ (c : Caught). (meant rule, c)) caught ≡ answer
   answered rule here caught are =
       ap (option_map (λ (c : Caught). (meant rule, c))) are
       ∙ sym (ap (λ (given : Option Rule). held_record content left press (option_map meant given)) here)
 
-  -- nothing where its key doesn't fit, nor where it takes more items than there are
+  -- if the key of the record does not fit, or if it takes more items than there are, it is not held
   pub unfitting_not_held : (rule : Rule) → slice_get group.rules number ≡ Some rule → is_fitting rule ≡ false → None ≡ answer
   unfitting_not_held rule here unfit = answered rule here None (unfitting_holds_not content press stores group.using_keys rule left count unfit)
 
@@ -102,7 +102,7 @@ module _ (content : Content) (press : KeyPress) (stores : List Store) (group : G
   module _ (few : count ≤ length left) (items : List ContextItem) (are : map pattern_of items ≡ slice_index_or index.contexts number [])
       (found : Option (List Catch))
       (caught : found ≡ allowed_catches content (nat_eq (length left) count) [] (map (item_meaning stores) items) (drop (length left - count) left)) where
-    -- what the items of its context catch, where its key fits
+    -- if the key of the record fits, it is held with what the items of its context catch
     pub items_held : (rule : Rule) → slice_get group.rules number ≡ Some rule → is_fitting rule ≡ true
         → option_map (λ (c : Caught). (meant rule, c)) (caught_by found (Some None)) ≡ answer
     items_held rule here fit =
@@ -111,7 +111,7 @@ module _ (content : Content) (press : KeyPress) (stores : List Store) (group : G
         (ap (λ (f : Option (List Catch)). caught_by f (Some None)) (caught ∙ ap all (meanings stores items ∙ ap (map (tab_pattern stores)) (are ∙ context_found group index number rule is here)))
         ∙ allowed_holds content press stores group.using_keys rule left count fit (record_count group index number rule is short here count counted) few)
 
-    -- and nothing where they catch nothing, whatever its key is
+    -- if the items of its context catch nothing, the record is not held, whatever its key is
     pub uncaught_not_held : found ≡ None → None ≡ answer
     uncaught_not_held none = by (slice_get group.rules number) refl
       where

@@ -1,4 +1,4 @@
--- Stores are marked as those that have an item.
+-- The marked stores are the stores that contain an item.
 use Rattle.std.proofs.Common.{◌≡◌, ◌≢◌, ◌⊎◌, ℕ, ◌<◌, true, false, List, [], ◌∷◌, All, Option, Some, None, nat_eq, refl, sym, ap, subst, ◌∙◌, inl, inr}
 use Rattle.std.specs.Prelude.{is_some, option_and_then}
 use Rattle.std.proofs.lemmas.Bool.{cases_Bool, eqb-true, eq-eqb}
@@ -17,12 +17,12 @@ use Rattle.rule_matching.specs.Matching.{item_before, place_before, place_in_sta
 use Rattle.rule_matching.specs.StoreMarks.{Marking, has_holder, is_known, is_marked, marked_room}
 use Rattle.rule_matching.proofs.Remembering.{same_or_other}
 
--- there is a place, or none
+-- an optional place is some place or none
 some_or_none : (place : Option ℕ) → ((n : ℕ) × (place ≡ Some n)) ⊎ (place ≡ None)
 some_or_none None = inr refl
 some_or_none (Some n) = inl (n, refl)
 
--- a holder has the item
+-- if a store is among the holders of an item, it contains the item
 holder_has : (x : Item) (contents : ℕ → List Element) (rows : List Holding) (store : ℕ) → All (λ row. place_of x (contents row.store) ≡ Some row.place) rows
     → has_holder rows store ≡ true → is_some (place_of x (contents store)) ≡ true
 holder_has x contents [] store each has = absurd (cc)
@@ -36,7 +36,7 @@ holder_has x contents (row ∷ rows) store each has =
           (let skipped : has_holder (row ∷ rows) store ≡ has_holder rows store = cc in sym skipped ∙ has)
     ]
 
--- a store that isn't among the holders of an item hasn't the item
+-- if a store is not among the holders of an item, it does not contain the item
 has_none : (x : Item) (contents : ℕ → List Element) (rows : List Holding) (store : ℕ) → AreHoldersOf x contents rows
     → has_holder rows store ≡ false → is_some (place_of x (contents store)) ≡ false
 has_none x contents rows store holders none = elim (some_or_none (place_of x (contents store))) [
@@ -48,7 +48,7 @@ has_none x contents rows store holders none = elim (some_or_none (place_of x (co
   | inr absent ↦ ap (λ (p : Option ℕ). is_some p) absent
 ]
 
--- the stores among the holders are those that have the item
+-- a store is among the holders of an item exactly where it contains the item
 pub holders_are_those : (x : Item) (contents : ℕ → List Element) (rows : List Holding) (store : ℕ) → AreHoldersOf x contents rows
     → has_holder rows store ≡ is_some (place_of x (contents store))
 holders_are_those x contents rows store holders = elim (cases_Bool (has_holder rows store)) [
@@ -56,11 +56,11 @@ holders_are_those x contents rows store holders = elim (cases_Bool (has_holder r
   | inr none ↦ none ∙ sym (has_none x contents rows store holders none)
 ]
 
--- the elements that the stores of tables are stated with
+-- the elements that the stores of tables are defined with
 abbrev stated_in : Tables → ℕ → List Element
 stated_in tables store = elements_at (tab tables).stores (Some store)
 
--- where the stores that have an item are newly marked, what is known is right
+-- if the marks are right and the stores that contain an item are newly marked, the marks are right afterwards
 pub marked_right : (tables : Tables) (left : List Item) (distance : ℕ) (item : Item) (holders : List Holding) (before after : Marking)
     → Some item ≡ item_before left distance → AreHoldersOf item (stated_in tables) holders
     → ((d : ℕ) → d ≢ distance → is_known after d ≡ is_known before d)
@@ -81,7 +81,7 @@ marked_right tables left distance item holders before after is are known_others 
           ];
     }
 
--- an item stands in what a store has where it stands in the store that is held for it
+-- an item is in the content of a store exactly where it is in the store that is held for it
 pub in_what_is_held : (content : Content) (tables : Tables) (left : List Item) (store held distance : ℕ) → content (Numbered store) ≡ elements_at (tab tables).stores (Some held)
     → is_some (place_in_stated tables left held distance) ≡ is_some (place_before content left store distance)
 in_what_is_held content tables left store held distance same =

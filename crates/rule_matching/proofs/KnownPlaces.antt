@@ -1,4 +1,4 @@
--- What is known of the places of a list's items stays right, and what a context catches item by item.
+-- What is known about the places of items remains right, and what a context catches item by item.
 use Rattle.std.proofs.Common.{◌≡◌, ℕ, zero, suc, ◌+◌, ◌-◌, ◌<◌, ◌≤◌, ◌⊎◌, Bool, true, false, List, [], ◌∷◌, ◌++◌, length, drop, get_or, Option, Some, None, refl, sym, ◌∙◌, ap, subst, inl, inr, arith}
 use Rattle.std.specs.Prelude.{if◌then◌else◌, option_and_then, slice_get}
 use Rattle.std.proofs.lemmas.Bool.{le-ltb, lt-ltb}
@@ -13,7 +13,7 @@ use Rattle.rule_matching.specs.KnownPlaces.{known_place}
 use Rattle.rule_matching.specs.Matching.{catch_of, item_before, place_before, IsMarkedRight, RemembersRight}
 use Rattle.rule_matching.specs.Moment.{MomentValue, content_at}
 
--- what is known stays right where a right place is remembered
+-- if a right place is remembered, what is known remains right
 pub still_right : (moment : MomentValue) (left : List Item) (store distance : ℕ) (place : Option ℕ) (before after : PlaceMemory)
     → ((s d : ℕ) (p : Option ℕ) → known_place after.found s d ≡ Some p → (known_place before.found s d ≡ Some p) ⊎ ((s ≡ store) × (d ≡ distance) × (p ≡ place)))
     → before.marks ≡ after.marks
@@ -27,7 +27,7 @@ still_right moment left store distance place before after only same is right =
       marks = subst (IsMarkedRight moment.tables left) same right.marks;
     }
 
--- there is an item before the caret for each distance below the list's length, and none behind them
+-- if a distance is below the length of the list, there is an item at this distance; if it is not, there is none
 pub item_within : (left : List Item) (distance : ℕ) → distance < length left → item_before left distance ≡ slice_get left (length left - (distance + 1))
 item_within left distance within =
     ap (λ (b : Bool). if b then slice_get left (length left - (distance + 1)) else None) (lt-ltb distance (length left) within)
@@ -36,24 +36,24 @@ pub item_beyond : (left : List Item) (distance : ℕ) → length left ≤ distan
 item_beyond left distance beyond =
     ap (λ (b : Bool). if b then slice_get left (length left - (distance + 1)) else None) (le-ltb distance (length left) beyond)
 
--- so no place of such an item is in a store
+-- if a distance is not below the length of the list, no store has a place for an item at this distance
 pub place_beyond : (content : Content) (left : List Item) (store distance : ℕ) → length left ≤ distance → None ≡ place_before content left store distance
 place_beyond content left store distance beyond =
     sym (ap (option_and_then (λ (item : Item). place_of item (content (Numbered store)))) (item_beyond left distance beyond))
 
--- a list has an element at each place below its length
+-- if a place is below the length of a list, the list has an element there
 there : {X : Type 0} (xs : List X) (n : ℕ) → n < length xs → (x : X) × (slice_get xs n ≡ Some x)
 there [] n within = absurd (omega arith)
 there (x ∷ xs) zero within = (x, refl)
 there (x ∷ xs) (suc n) within = there xs n (omega arith)
 
--- so there is an item
+-- if a distance is below the length of the list, there is an item at this distance
 pub item_there : (left : List Item) (distance : ℕ) → distance < length left → (x : Item) × (item_before left distance ≡ Some x)
 item_there left distance within =
     let found = there left (length left - (distance + 1)) (omega (arith, within)) in
     (found.0, item_within left distance within ∙ found.1)
 
--- the last items begin with the first of them
+-- the last `distance + 1` items are the item at the distance, followed by the last `distance` items
 one_ahead : (left : List Item) (distance : ℕ) (item : Item) → distance < length left → item_before left distance ≡ Some item
     → drop (length left - (distance + 1)) left ≡ item ∷ drop (length left - distance) left
 one_ahead left distance item within given =
@@ -63,7 +63,7 @@ one_ahead left distance item within given =
     let behind : (length left - (distance + 1)) + 1 ≡ length left - distance = omega (arith, within) in
     drop_more left (length left - (distance + 1)) item inside ∙ (λ i. here i ∷ drop (behind i) left)
 
--- the last items are some
+-- if some of the last items are left after the last pattern, nothing is caught
 pub some_ahead : (content : Content) (seen : List Catch) (left : List Item) (count : ℕ) → 0 < count → count ≤ length left
     → catches_from content seen [] (drop (length left - count) left) ≡ None
 some_ahead content seen left count some few =
@@ -71,7 +71,7 @@ some_ahead content seen left count some few =
     let found = there left (length left - count) inside in
     ap (catches_from content seen []) (drop_more left (length left - count) found.0 inside)
 
--- where an item stands to a pattern, or doesn't
+-- if a pattern catches an item, the rest is caught after it; if it does not, nothing is caught
 if_caught : (fits : Bool) (one catch : Catch) (rest : Catch → Option (List Catch)) → Some catch ≡ (if fits then Some one else None)
     → (if fits then rest one else None) ≡ rest catch
 if_caught true one catch rest is = let same : one ≡ catch = cc in ap rest same
@@ -89,7 +89,7 @@ module _ (content : Content) (seen : List Catch) (pattern : Pattern) (patterns :
   abbrev one : Item → Catch
   one item = record { item = Some item; place = place_for content pattern item }
 
-  -- a pattern that looks at an item looks at the first
+  -- if the first pattern takes an item, it takes the first of the last items
   first : (distance : ℕ) (item : Item) → distance < length left → item_before left distance ≡ Some item
       → catches_from content seen (pattern ∷ patterns) (drop (length left - (distance + 1)) left)
       ≡ (if matches content seen pattern item then rest (one item) (drop (length left - distance) left) else None)
@@ -98,7 +98,7 @@ module _ (content : Content) (seen : List Catch) (pattern : Pattern) (patterns :
       ∙ (λ i. if takes i then catch_item content seen pattern rest (item ∷ drop (length left - distance) left)
       else rest nothing_caught (item ∷ drop (length left - distance) left))
 
-  -- it catches it
+  -- if the first pattern catches the first of the last items, the other patterns catch the items after it
   pub caught_ahead : (distance : ℕ) (catch : Catch) → distance < length left → Some catch ≡ option_and_then (catch_of content seen pattern) (item_before left distance)
       → catches_from content seen (pattern ∷ patterns) (drop (length left - (distance + 1)) left) ≡ catches_from content (seen ++ catch ∷ []) patterns (drop (length left - distance) left)
   caught_ahead distance catch within is =
@@ -108,7 +108,7 @@ module _ (content : Content) (seen : List Catch) (pattern : Pattern) (patterns :
       first distance found.0 within here
       ∙ if_caught (matches content seen pattern found.0) (one found.0) catch (λ c. rest c (drop (length left - distance) left)) caught
 
-  -- or it doesn't, and then nothing is caught
+  -- if the first pattern does not catch the first of the last items, nothing is caught
   pub uncaught_ahead : (distance : ℕ) → distance < length left → None ≡ option_and_then (catch_of content seen pattern) (item_before left distance)
       → catches_from content seen (pattern ∷ patterns) (drop (length left - (distance + 1)) left) ≡ None
   uncaught_ahead distance within is =

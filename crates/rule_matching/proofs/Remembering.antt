@@ -1,4 +1,4 @@
--- What is known of the places in stores when a cell of one store is written.
+-- What is known about the places in stores after a cell of one store is written.
 use Rattle.std.proofs.Common.{◌≡◌, ◌≢◌, ℕ, zero, suc, ◌<◌, ◌⊎◌, List, length, set, replicate, slice_get, true, false, eqb, ltb, cond, refl, sym, ap, ◌∙◌, inl, inr}
 use Rattle.std.specs.Prelude.{Option, Some, None}
 use Rattle.std.proofs.lemmas.Bool.{cases_Bool, eqb-true, eq-eqb}
@@ -7,26 +7,26 @@ use Rattle.kmn_base.proofs.Elements.{slice_get-set_other, slice_get-set_same}
 use Rattle.rule_matching.specs.declared.known_places.StorePlaces.{StorePlaces}
 use Rattle.rule_matching.specs.KnownPlaces.{said, said_by, known_of, memorable, IsBlank}
 
--- each of equal elements is that one
+-- each element of a list of equal elements is that element
 pub each_is_the_one : {X : Type 0} (n k : ℕ) (x y : X) → slice_get (replicate n x) k ≡ Some y → x ≡ y
 each_is_the_one zero k x y is = cc
 each_is_the_one (suc n) zero x y is = cc
 each_is_the_one (suc n) (suc k) x y is = each_is_the_one n k x y is
 
--- two numbers are the same, or not
+-- two numbers are equal or different
 pub same_or_other : (a b : ℕ) → (a ≡ b) ⊎ (a ≢ b)
 same_or_other a b = elim (cases_Bool (eqb a b)) [
   | inl same ↦ inl (eqb-true a b same)
   | inr other ↦ inr (λ (same : a ≡ b). let is : eqb a b ≡ true = eq-eqb a b same in cc)
 ]
 
--- cells of 0 say nothing
+-- if all cells are 0, nothing is known
 pub zeros_say_nothing : (n distance : ℕ) → said_by (slice_get (replicate n 0) distance) ≡ None
 zeros_say_nothing zero distance = refl
 zeros_say_nothing (suc n) zero = refl
 zeros_say_nothing (suc n) (suc distance) = zeros_say_nothing n distance
 
--- of a blank store nothing is known
+-- if a store is blank, nothing is known about it
 pub blank_is_unknown : (choice : ℕ) (places : StorePlaces) → IsBlank places → (distance : ℕ) → known_of choice (Some places) distance ≡ None
 blank_is_unknown choice places blank distance =
     elim (eqb places.asked choice) as (λ b. cond b (said_by (slice_get places.cells distance)) None ≡ None) [
@@ -34,28 +34,28 @@ blank_is_unknown choice places blank distance =
       | false ↦ refl
     ]
 
--- nor of blank stores
+-- if all stores are blank, nothing is known about any of them
 pub blanks_are_unknown : (choice n : ℕ) (places : StorePlaces) → IsBlank places
     → (store distance : ℕ) → known_of choice (slice_get (replicate n places) store) distance ≡ None
 blanks_are_unknown choice zero places blank store distance = refl
 blanks_are_unknown choice (suc n) places blank zero distance = blank_is_unknown choice places blank distance
 blanks_are_unknown choice (suc n) places blank (suc store) distance = blanks_are_unknown choice n places blank store distance
 
--- of a store that was asked for at another choice nothing is known
+-- if a store was last written at another choice, nothing is known about it
 pub other_choice_is_unknown : (choice : ℕ) (places : StorePlaces) → places.asked ≢ choice → (distance : ℕ) → known_of choice (Some places) distance ≡ None
 other_choice_is_unknown choice places other distance = elim (cases_Bool (eqb places.asked choice)) [
   | inl same ↦ absurd (other (eqb-true places.asked choice same))
   | inr differs ↦ ap (λ b. cond b (said_by (slice_get places.cells distance)) None) differs
 ]
 
--- of what was asked for at this choice a written cell is known
+-- if a store was last written at this choice, a cell that is written is known
 pub written_is_known : (choice distance cell : ℕ) (before after : StorePlaces) → before.asked ≡ choice → distance < length before.cells
     → after.asked ≡ before.asked → after.cells ≡ set before.cells distance cell → known_of choice (Some after) distance ≡ said cell
 written_is_known choice distance cell before after now within asked cells =
     ap (λ b. cond b (said_by (slice_get after.cells distance)) None) (eq-eqb after.asked choice (asked ∙ now))
     ∙ ap said_by (ap (λ xs. slice_get xs distance) cells ∙ slice_get-set_same before.cells distance cell within)
 
--- and the others stay known
+-- if a cell is written, what is known about the other distances is unchanged
 pub others_stay_known : (choice distance cell : ℕ) (before after : StorePlaces)
     → after.asked ≡ before.asked → after.cells ≡ set before.cells distance cell
     → (d : ℕ) → d ≢ distance → known_of choice (Some after) d ≡ known_of choice (Some before) d
@@ -63,7 +63,7 @@ others_stay_known choice distance cell before after asked cells d other =
     ap (λ n. cond (eqb n choice) (said_by (slice_get after.cells d)) None) asked
     ∙ ap (λ o. cond (eqb before.asked choice) (said_by o) None) (ap (λ xs. slice_get xs d) cells ∙ slice_get-set_other before.cells distance d cell other)
 
--- what was remembered is memorable, so it is that place
+-- if a place can be remembered, what is remembered is that place
 pub memorable_is_itself : (place known : Option ℕ) → memorable place ≡ Some known → known ≡ place
 memorable_is_itself None known is = cc
 memorable_is_itself (Some n) known is = elim (cases_Bool (ltb n STORE_ELEMENTS)) [
@@ -71,7 +71,7 @@ memorable_is_itself (Some n) known is = elim (cases_Bool (ltb n STORE_ELEMENTS))
   | inr large ↦ let is_none : None ≡ Some known = sym (ap (λ b. cond b (Some (Some n)) None) large) ∙ is in cc
 ]
 
--- after a store's cell was written that place is known, and else only what was known
+-- if a cell of a store is written, each place that is known was known before or is the written place
 pub only_this_is_new : (choice store distance : ℕ) (place : Option ℕ) (stores : List StorePlaces) (before after : StorePlaces)
     → store < length stores → slice_get stores store ≡ Some before
     → known_of choice (Some after) distance ≡ memorable place
@@ -91,7 +91,7 @@ only_this_is_new choice store distance place stores before after within was writ
           ]
     ]
 
--- what was known of another place stays known
+-- if a cell of a store is written, what is known about another store or distance is unchanged
 pub others_stay_remembered : (choice store distance : ℕ) (stores : List StorePlaces) (before after : StorePlaces)
     → store < length stores → slice_get stores store ≡ Some before
     → ((d : ℕ) → d ≢ distance → known_of choice (Some after) d ≡ known_of choice (Some before) d)
@@ -107,7 +107,7 @@ others_stay_remembered choice store distance stores before after within was othe
           ap (λ o. known_of choice o d) there ∙ others d other ∙ sym (ap (λ o. known_of choice o d) was_here)
     ]
 
--- that place is known
+-- if a store is replaced, what is known about it is what the new value states
 pub this_is_known : (choice store distance : ℕ) (stores : List StorePlaces) (after : StorePlaces) → store < length stores
     → known_of choice (slice_get (set stores store after) store) distance ≡ known_of choice (Some after) distance
 this_is_known choice store distance stores after within = ap (λ o. known_of choice o distance) (slice_get-set_same stores store after within)

@@ -1,4 +1,4 @@
--- What is caught by what the items of a context take, item by item.
+-- What a record catches, from what the items of its context take, item by item.
 use Rattle.std.proofs.Common.{◌≡◌, ℕ, zero, suc, ◌+◌, ◌-◌, ◌<◌, ◌≤◌, Bool, true, false, List, [], ◌∷◌, ◌++◌, length, drop, get_or, map, Option, Some, None, refl, sym, ◌∙◌, ap, inl, inr, arith}
 use Rattle.std.specs.Prelude.{if◌then◌else◌, is_some, nat_eq, not, option_and_then, option_map}
 use Rattle.std.proofs.lemmas.Bool.{cases_Bool, eqb-true, eqb-false}
@@ -22,7 +22,7 @@ module _ (content : Content) (left : List Item) where
   abbrev caught : TakenItem → Catch
   caught = caught_by_taken content left
 
-  -- what is caught at an offset is what is caught by what was taken there
+  -- the catch at an offset is the catch from what was taken at the offset
   caught_at : (taken : List TakenItem) (offset : ℕ) → catch_at (map caught taken) offset ≡ option_map caught (taken_at taken offset)
   caught_at taken zero = refl
   caught_at taken (suc before) = slice_get-map caught taken before
@@ -31,7 +31,7 @@ module _ (content : Content) (left : List Item) where
   place_of_one None = refl
   place_of_one (Some one) = refl
 
-  -- so is its place
+  -- the place caught at an offset is the place of what was taken at the offset
   pub place_is_caught : (taken : List TakenItem) (offset : ℕ)
       → option_and_then (λ (t : TakenItem). (caught t).place) (taken_at taken offset) ≡ place_caught (map caught taken) offset
   place_is_caught taken offset =
@@ -45,7 +45,7 @@ module _ (content : Content) (left : List Item) where
     abbrev place : Option Item → Option ℕ
     place given = option_and_then (λ (x : Item). place_of x (content (Numbered store))) given
 
-    -- an `any` takes an item that its store has, with that store
+    -- an `any` takes the item exactly where its store contains the item, together with the store
     pub any_is_taken : option_map caught (if b then Some (record { distance = distance; store = Some store }) else None)
         ≡ option_and_then (catch_of content seen (IsAny (Numbered store))) (item_before left distance)
     any_is_taken =
@@ -56,7 +56,7 @@ module _ (content : Content) (left : List Item) where
         ∙ (ap (λ (given : Option Item). if is_some (place given) then Some (whole given) else None) found.1
         ∙ sym (ap (option_and_then (catch_of content seen (IsAny (Numbered store)))) found.1)))
 
-    -- a `notany` takes one that its store doesn't have
+    -- a `notany` takes the item exactly where its store does not contain the item
     pub not_any_is_taken : option_map caught (if not b then Some (record { distance = distance; store = None }) else None)
         ≡ option_and_then (catch_of content seen (IsNotAny (Numbered store))) (item_before left distance)
     not_any_is_taken =
@@ -76,11 +76,11 @@ module _ (content : Content) (left : List Item) where
     abbrev behind : List Pattern
     behind = map (item_meaning stores) (drop (index + 1) context)
 
-    -- what a pattern catches of the next item
+    -- what the pattern catches from the next item
     abbrev next : Option Catch
     next = option_and_then (catch_of content (map caught taken) here) (item_before left (ahead - 1))
 
-    -- the pattern and those behind it catch what all do
+    -- the pattern and the patterns after it catch what the whole context catches
     from_here : index < length context → 0 < ahead → allowed_catches content whole (map caught taken) (here ∷ behind) (drop (length left - (ahead - 1 + 1)) left) ≡ all
     from_here within some =
         let one : ahead - 1 + 1 ≡ ahead = omega (arith, some) in
@@ -89,7 +89,7 @@ module _ (content : Content) (left : List Item) where
         (sym (drop_more context index (Char 0) within))
         ∙ same)
 
-    -- where the pattern takes an item, the others catch it behind that
+    -- if the pattern takes the next item, the patterns after it catch the items after that
     pub one_is_taken : index < length context → 0 < ahead → true ≡ takes_item (item_meaning [] (get_or context index (Char 0)))
         → (one : TakenItem) (more : List TakenItem) → Some (caught one) ≡ next → more ≡ taken ++ one ∷ []
         → allowed_catches content whole (map caught more) behind (drop (length left - (ahead - 1)) left) ≡ all
@@ -102,7 +102,7 @@ module _ (content : Content) (left : List Item) where
         (caught_ahead content (map caught taken) here behind left item (ahead - 1) (caught one) inside is))
         ∙ from_here within some)
 
-    -- where it takes none, nothing is caught
+    -- if the pattern does not take the next item, nothing is caught
     pub none_is_taken : index < length context → 0 < ahead → true ≡ takes_item (item_meaning [] (get_or context index (Char 0))) → None ≡ next → None ≡ all
     none_is_taken within some takes is =
         let item : takes_item here ≡ true = takes_same stores (pattern_of (get_or context index (Char 0))) ∙ sym takes in
@@ -111,7 +111,7 @@ module _ (content : Content) (left : List Item) where
         (uncaught_ahead content (map caught taken) here behind left item (ahead - 1) inside is))
         ∙ from_here within some
 
-    -- behind the last pattern all is caught where no item is left
+    -- after the last pattern, everything is caught if no item is left, and nothing if an item is left
     pub all_is_taken : length context ≤ index → (if nat_eq ahead 0 then Some (map caught taken) else None) ≡ all
     all_is_taken beyond =
         let text : ℕ → List Item = λ (n : ℕ). drop (length left - n) left in

@@ -1,5 +1,5 @@
--- What records are chosen by: what each store has then, what records and the items of their contexts mean and catch, and when
--- what is remembered is right.
+-- The inputs of a choice: the content of each store, what records and the items of their contexts mean and catch, and when what is
+-- remembered is right.
 use Rattle.std.specs.Prelude.{List}
 use Rattle.rule_model.specs.declared.event_state.Catch.{Catch}
 use Rattle.rule_model.specs.declared.event_state.Caught.{Caught}
@@ -15,7 +15,7 @@ use Rattle.rule_matching.specs.declared.taken.TakenItem.{TakenItem}
 use Rattle.rule_matching.specs.Matching.{caught_by_all, caught_by_taken, item_meaning, RemembersRight}
 use Rattle.rule_matching.specs.Moment.{content_at}
 
--- what each store has
+-- the content of each store
 abbrev pub content_of : Choice → Content
 content_of choice = content_at choice.moment.now
 
@@ -23,7 +23,7 @@ content_of choice = content_at choice.moment.now
 abbrev pub meaning_in : Choice → ContextItem → Pattern
 meaning_in choice = item_meaning choice.moment.now.tables.stores
 
--- what is caught by what an item of a context takes
+-- the catch from what an item of a context takes
 abbrev pub caught_in : Choice → TakenItem → Catch
 caught_in choice = caught_by_taken (content_of choice) choice.left.now
 
@@ -34,6 +34,6 @@ all_caught choice = caught_by_all (content_of choice) choice.left.now
 abbrev pub record_in : Choice → Group → Rule → RuleMeaning
 record_in choice group = tab_rule choice.moment.now.tables.stores group.using_keys
 
--- what is remembered is right
+-- whether what is remembered is right for a choice
 abbrev pub RemembersFor : Choice → PlaceMemory → Type 0
 RemembersFor choice = RemembersRight choice.moment.now choice.left.now

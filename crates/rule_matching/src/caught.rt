@@ -8,8 +8,8 @@ use kmn_base::Item;
 use kmn_base::limits::CONTEXT_ITEMS;
 use std::marker::Model;
 
-/// What an item of a context caught: an item of the text where it is a pattern, and of an `any` the first place of that
-/// item in its store.
+/// What one item of a rule context caught. A pattern catches an item of the text. An `any` also catches the first position of
+/// that item in its store.
 #[derive(Clone, Copy, Default, Drop)]
 pub struct MatchedItem {
     pub item: Option<Item>,
@@ -26,7 +26,7 @@ impl Model for MatchedItem {
     ghost inverse = { λ catch. record { item = catch.item; place = catch.place } };
 }
 
-/// What a record caught when it matched, by the items of its context. It stays so while the output acts.
+/// What a record caught when it matched, by the items of its context. It is unchanged while the output acts.
 #[derive(Drop)]
 pub struct MatchedItems {
     found: ArrayVec<MatchedItem, CONTEXT_ITEMS>,
@@ -45,7 +45,7 @@ impl Model for MatchedItems {
 }
 
 impl MatchedItems {
-    /// What an output has that stands for no record.
+    /// Returns empty catches, for an output that does not belong to a record.
     pub fn nothing() -> MatchedItems
         ensures { result ≡ record { catches = []; key_place = None } }
     {
@@ -54,14 +54,14 @@ impl MatchedItems {
         }
     }
 
-    /// Nothing is caught any more.
+    /// Removes all catches.
     pub fn clear(&mut self)
         ensures { self.new ≡ record { catches = []; key_place = None } }
     {
         self.found.clear();
     }
 
-    /// Adds what the next item of a context caught.
+    /// Appends what the next item of a context caught.
     pub(crate) fn push(&mut self, found: MatchedItem)
         requires { length self.old.catches < CONTEXT_ITEMS }
         ensures { self.new ≡ record { catches = self.old.catches ++ found ∷ []; key_place = None } }
@@ -69,14 +69,14 @@ impl MatchedItems {
         self.found.push(found);
     }
 
-    /// What was found, item by item.
+    /// Returns the catches, one for each item of the context.
     pub fn found(&self) -> &[MatchedItem]
         ensures { result.now ≡ self.now.catches }
     {
         self.found.as_slice()
     }
 
-    /// How many items were caught.
+    /// Returns the number of items that were caught.
     #[tactic(auto, using(rule_model::proofs::PlainLists::length_filter_map, crate::proofs::Catches::items_are_few))]
     pub fn item_count(&self) -> usize
         ensures value { result ≡ length (items_caught self.now) }
@@ -89,7 +89,7 @@ impl MatchedItems {
             .count()
     }
 
-    /// The place that an `index` takes. No key is a store here, so none has a place.
+    /// Returns the position that an `index` uses. The key is never a store here, so the offset of the key has no position.
     pub fn place_for_index(&self, offset: u32) -> Option<usize>
         ensures { result ≡ place_for_index self.now offset }
     {

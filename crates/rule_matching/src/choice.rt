@@ -1,9 +1,9 @@
 use crate::moment::Moment;
 use kmn_base::Item;
-use rule_model::Pressed;
+use virtual_keys::Pressed;
 
-/// What records are chosen by: the keyboard at a moment, the press, and the last items before the caret. All of it stands still
-/// while one choice is made.
+/// The inputs of the choice of a record: the state of the keyboard, the key press, and the last items before the caret. They do
+/// not change during one choice.
 #[derive(Drop)]
 pub struct Choice<'c> {
     pub moment: &'c Moment<'c>,

@@ -2,7 +2,8 @@ use kmn_base::KeyPress;
 use kmx_parts::FileGroup;
 use rule_index::RuleIndex;
 
-/// What a record is chosen from: a group that a press enters, and the index of its records.
+/// The group from which a record is selected: the key press that enters it, the group in the file, and the index of its
+/// records.
 #[derive(Drop)]
 pub struct EnteredGroup<'c, 'g> {
     pub press: KeyPress,

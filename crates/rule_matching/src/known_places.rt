@@ -7,8 +7,8 @@ use kmn_base::limits::{STORE_ELEMENTS, WINDOW_ITEMS};
 use std::alloc::Global;
 use std::marker::Model;
 
-/// What is known of one store: the choice at which it was last asked for, and a cell for each distance from the caret: 0
-/// says nothing, 1 that the item has no place, and `place + 2` its place.
+/// What is known about one store: the choice at which a cell was last written, and a cell for each distance from the caret. A
+/// cell is 0 if nothing is known, 1 if the item is not in the store, and `place + 2` if its position is known.
 #[derive(Clone, Copy, Drop)]
 pub struct StorePlaces {
     asked: u64,
@@ -16,7 +16,7 @@ pub struct StorePlaces {
 }
 
 impl StorePlaces {
-    /// Nothing is known of the store at a choice.
+    /// Returns the cells of a store about which nothing is known at a choice.
     fn blank(choice: u64) -> StorePlaces
         ensures asked { result.asked ≡ choice }
         ensures blank { IsBlank result }
@@ -27,7 +27,7 @@ impl StorePlaces {
         }
     }
 
-    /// What was known at another choice is forgotten.
+    /// Forgets what was known at another choice.
     #[tactic(auto, using(crate::proofs::Remembering::blank_is_unknown, crate::proofs::Remembering::other_choice_is_unknown))]
     fn ask(&mut self, choice: u64)
         ensures asked { self.new.asked ≡ choice }
@@ -51,7 +51,7 @@ impl StorePlaces {
     }
 }
 
-/// The cell that says a place, where it can be remembered.
+/// Returns the cell that stores a position, or 0 if the position is too large for a cell.
 fn cell_of(place: Option<usize>) -> u32
     ensures { said result ≡ memorable place }
 {
@@ -62,8 +62,8 @@ fn cell_of(place: Option<usize>) -> u32
     }
 }
 
-/// What is known of the items of a window: for a store and an item's distance from the caret, the first place of that item
-/// in what the store has. A choice is the time while the window and the stores stand still; nothing is known beyond it.
+/// What is known about the items of the window: for a store and an item's distance from the caret, the first position of that
+/// item in the content of the store. A choice lasts while the window and the stores are unchanged. Nothing is known after it.
 #[derive(Drop)]
 pub struct KnownPlaces {
     choice: u64,
@@ -81,7 +81,8 @@ impl Model for KnownPlaces {
 }
 
 impl KnownPlaces {
-    /// Room for so many stores, of which nothing is known.
+    /// Creates space for `stores` stores, about which nothing is known.
+    /// Errors: `Memory` if an allocation fails.
     pub fn new(alloc: Global, stores: usize) -> Result<KnownPlaces, Memory>
         requires { stores ≤ STORES + 2 }
         ensures unknown { IfOk result (λ memory. (store distance : ℕ) → known_place memory store distance ≡ None) }
@@ -93,7 +94,7 @@ impl KnownPlaces {
         })
     }
 
-    /// Room for no store, without any memory.
+    /// Creates a memory without space for any store. Does not allocate.
     pub fn without_room(alloc: Global) -> KnownPlaces
         ensures unknown { (store distance : ℕ) → known_place result store distance ≡ None }
         ensures room { room result ≡ 0 }
@@ -104,7 +105,7 @@ impl KnownPlaces {
         }
     }
 
-    /// Nothing is known of each store at the first choice.
+    /// Resets to the first choice, at which nothing is known about any store.
     fn begin_anew(&mut self)
         ensures unknown { (store distance : ℕ) → known_place self.new store distance ≡ None }
         ensures room { room self.new ≡ room self.old }
@@ -113,7 +114,7 @@ impl KnownPlaces {
         self.stores.as_mut_slice().fill(StorePlaces::blank(0));
     }
 
-    /// Begins another choice, of which nothing is known; where there is no further number for it, the first one again.
+    /// Begins the next choice, at which nothing is known. After the last choice number, begins again with the first.
     pub fn forget(&mut self)
         ensures unknown { (store distance : ℕ) → known_place self.new store distance ≡ None }
         ensures room { room self.new ≡ room self.old }
@@ -124,7 +125,8 @@ impl KnownPlaces {
         }
     }
 
-    /// What is known of the place in a store of the item at a distance from the caret: nothing, that it has none, or its place.
+    /// Returns what is known about the position in a store of the item at a distance from the caret: nothing, that the store
+    /// does not contain the item, or its position.
     pub fn known(&self, store: u32, distance: usize) -> Option<Option<usize>>
         ensures { result ≡ known_place self.now store distance }
     {
@@ -139,8 +141,8 @@ impl KnownPlaces {
         }
     }
 
-    /// The place in a store of the item at a distance from the caret, or that it has none, is known until the next choice, where
-    /// there is room for it.
+    /// Remembers until the next choice the position in a store of the item at a distance from the caret, or that the store does
+    /// not contain it. Has no effect if there is no space for it.
     pub fn remember(&mut self, store: u32, distance: usize, place: Option<usize>)
         ensures only { (s d : ℕ) (p : Option ℕ) → known_place self.new s d ≡ Some p
             → (known_place self.old s d ≡ Some p) ⊎ ((s ≡ store) × (d ≡ distance) × (p ≡ place)) }

@@ -1,18 +1,20 @@
-//! Which records of a compiled file hold at a moment of a key press, and what they catch.
-//!
-//! It stands on `rule_model`, whose `specs` say when a rule holds, on `kmx_parts`, which lends the file's parts where they
-//! lie, on `rule_index` for what is looked up in the tables, and on `engine_state` for the values of options. The layer above
-//! lends a `Moment`, the keyboard with what its stores hold, an `EnteredGroup`, which is a group with its index and the press, the
-//! last items before the caret, a `PlaceMemory`, and room for what is caught: `first_held` answers the first record of the group that
-//! holds then, and writes there what it has caught (`MatchedItems`).
-//! A moment is seen as a `MomentValue`, and what each store has then is `content_at` of it. It is told for each
-//! store whether the platform has its words (`truths_at`), so that no condition walks over words. The memory knows in which stores
-//! the items before the caret stand, a mark for each store and distance (`specs/StoreMarks`), and the places that were looked for
-//! (`specs/KnownPlaces`). What it knows doesn't matter to the layer above: `first_held` forgets it
-//! first. Of each item of a context that is walked over only what it takes is kept (`TakenItem`): places are looked up for an `index`
-//! and for the record that holds. Memory is taken by `PlaceMemory::new` and by the copy of a `StoreValue` alone. A stranger's file
-//! can have three hundred million items of contexts walked over for one key, so `takes_context` is kept a function by itself in
-//! the machine's code: what each item asks is inlined in it, and what is done once in a choice is not.
+//! Finds the first record of a group that holds for a key press in the current state of a compiled keyboard, and what it
+//! catches.
+//! Depends on `rule_model`, whose `specs` define when a rule holds; `kmx_parts`, which returns references to the parts of the
+//! file in place; `rule_index`, which looks up what the tables contain; and `option_store`, which holds the values of options.
+//! The layer above passes a `Moment` (the keyboard with the content of its stores), an `EnteredGroup` (a group with its index
+//! and the key press), the last items before the caret, a `PlaceMemory`, and a `MatchedItems`. `first_held` returns the first
+//! record of the group that holds in this state, and writes what the record has caught to the `MatchedItems`.
+//! Contracts model a `Moment` as a `MomentValue`; `content_at` is the content of each store. A `Moment` contains for each store
+//! whether the platform has its words (`truths_at`), so that no condition scans words. No store is defined with a text that an
+//! option holds as a text of the host (`AreApart`), so that a condition on the elements of a store is one comparison. The
+//! memory knows which stores contain the items before the caret, with a mark for each store and distance (`specs/StoreMarks`),
+//! and the positions that were looked up (`specs/KnownPlaces`). What it knows doesn't matter to the layer above: `first_held`
+//! begins by forgetting it. For each item of a context that is checked, only what it takes is kept (`TakenItem`). Positions are
+//! looked up for an `index` and for the record that holds. Only `PlaceMemory::new` and the copy of a `StoreValue` allocate.
+//! An untrusted file can make one key press check three hundred million context items, so `takes_context` is kept a separate
+//! function in the machine code: the test of an item against a store is inlined in it, and what is done once for each choice is
+//! not.
 #![tactic(auto)]
 
 mod caught;

@@ -11,7 +11,7 @@ use crate::places::item_before;
 use crate::store_marks::StoreMarks;
 use kmn_base::Item;
 
-/// Marks the stores that are stated with the item which so many items stand behind, once while the list stands still.
+/// Marks the stores that are defined with the item at a distance from the caret, unless that is already done for this choice.
 #[inline(always)]
 fn mark_distance(choice: &Choice<'_>, distance: usize, marks: &mut StoreMarks)
     requires within { distance < length choice.now.left.now }
@@ -30,7 +30,7 @@ fn mark_distance(choice: &Choice<'_>, distance: usize, marks: &mut StoreMarks)
     );
 }
 
-/// Whether a store that there are marks of is stated with that item.
+/// Returns whether a store is defined with the item at a distance from the caret. There must be marks for the store.
 #[inline(always)]
 pub fn is_marked(choice: &Choice<'_>, distance: usize, store: u32, places: &mut PlaceMemory) -> bool
     requires within { distance < length choice.now.left.now }

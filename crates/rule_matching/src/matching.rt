@@ -24,9 +24,10 @@ use kmn_base::limits::CONTEXT_ITEMS;
 use kmn_base::{Element, Item, RuleKey};
 use kmx_parts::{ContextItem, FileRule};
 use rule_index::wanted_classes;
-use rule_model::{Pressed, is_element, is_item, is_same};
+use rule_model::{is_element, is_item, is_same};
+use virtual_keys::Pressed;
 
-/// An item that is taken of no store, where it stands to its pattern as that asks.
+/// Returns an item that is taken from no store, or `None` if the item does not match its pattern.
 fn storeless(fits: bool, distance: usize) -> Option<TakenItem>
     ensures { result ≡ (if fits then Some (record { distance = distance; store = None }) else None) }
 {
@@ -36,9 +37,9 @@ fn storeless(fits: bool, distance: usize) -> Option<TakenItem>
     })
 }
 
-/// What a pattern that looks at no store takes of the item that so many items stand behind, behind what was taken so far. It stays
-/// a call, and `any` and `notany` are one arm: with more arms in place a pattern is told by a jump through a table, which costs
-/// some processors as much as the rest of an item.
+/// Returns what a pattern that uses no store takes at a distance from the caret, after the items taken so far, or `None` if the
+/// item does not match. The function is not inlined, and `any` and `notany` share one arm of the caller: with more arms the
+/// pattern is selected by a jump table, which costs some processors as much as the rest of an item.
 #[inline(never)]
 fn taken_storeless(
     choice: &Choice<'_>,
@@ -62,7 +63,8 @@ fn taken_storeless(
     storeless(fits, distance)
 }
 
-/// What a pattern that looks at an item takes of the one that so many items stand behind, behind what was taken so far.
+/// Returns what a pattern takes at a distance from the caret, after the items taken so far, or `None` if the item does not
+/// match.
 #[inline(always)]
 #[tactic(auto, using(crate::proofs::TakenItems::any_is_taken, crate::proofs::TakenItems::not_any_is_taken))]
 fn taken_by(
@@ -105,7 +107,7 @@ fn taken_by(
     }
 }
 
-/// Whether a condition on a system option is true at a moment. It stays a call, so that `stands` keeps few arms.
+/// Returns whether a condition on a system option is true. The function is not inlined, so that `stands` keeps few arms.
 #[inline(never)]
 fn stands_in_system(moment: &Moment<'_>, item: ContextItem) -> bool
     requires { compares_store item ≡ false }
@@ -122,8 +124,8 @@ fn stands_in_system(moment: &Moment<'_>, item: ContextItem) -> bool
     }
 }
 
-/// Whether an item of a context that looks at no item of the text stands at a moment: a condition is true, and a `nul` stands
-/// where the list has no more items than the context takes.
+/// Returns whether a condition or `nul` of a context is satisfied. A `nul` is satisfied if the list has no more items than the
+/// context takes.
 fn stands(moment: &Moment<'_>, item: ContextItem, is_whole: bool) -> bool
     ensures { result ≡ is_allowed (content_at moment.now) is_whole (item_meaning moment.now.tables.stores item) }
 {
@@ -135,8 +137,8 @@ fn stands(moment: &Moment<'_>, item: ContextItem, is_whole: bool) -> bool
     }
 }
 
-/// Whether a context stands on so many of the last items of a list: each pattern takes one, and each condition and each `nul`
-/// stands. Then this is what its items take.
+/// Returns whether a context matches the last `count` items of a list: each pattern takes one of them, and each condition and
+/// each `nul` is satisfied. If so, `taken` is what the items of the context take.
 #[inline(never)]
 fn takes_context(
     choice: &Choice<'_>,
@@ -179,15 +181,15 @@ fn takes_context(
     ahead == 0
 }
 
-/// The key of a record; in a group without keys each press fits.
+/// Returns the key of a record. In a group without keys, each key press fits.
 fn key_of(using_keys: bool, rule: &FileRule<'_>) -> RuleKey
     ensures { result ≡ (if using_keys then rule.now.key else RuleKey.Any) }
 {
     if using_keys { rule.key() } else { RuleKey::Any }
 }
 
-/// The record of a number, where there is one that holds on a list at a moment. Then this is what its items take. Most candidates
-/// fail by their context, so the record's key is read from the file afterwards.
+/// Returns the record with a number, if there is one and it holds. Then `taken` is what the items of its context take. Most
+/// candidates fail by their context, so the key of the record is read from the file afterwards.
 fn held_record<'g>(
     choice: &Choice<'_>,
     entered: &EnteredGroup<'_, 'g>,
@@ -227,10 +229,10 @@ fn held_record<'g>(
     }
 }
 
-/// The first record of an entered group that holds on a list at a moment. Only those are tried that their index names for the
-/// press and the last item: no other can hold. What it catches is written where the caller has room for it, which stays as it was
-/// where none holds. Each place of an item in a store is looked for once. What was known of places before is forgotten first:
-/// the memory tells a caller nothing, and keeps its room.
+/// Returns the first record of an entered group that holds, or `None`. Tests only the records that the index returns for the
+/// key press and the last item: no other record can hold. Writes what the record catches to `caught`, which is unchanged if no
+/// record holds. Each position of an item in a store is looked up once. What was known about positions before is forgotten
+/// first, so the content of `places` does not matter to the caller. Its capacity is unchanged.
 pub fn first_held<'g>(
     moment: &Moment<'_>,
     entered: &EnteredGroup<'_, 'g>,

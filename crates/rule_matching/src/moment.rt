@@ -1,24 +1,23 @@
 ghost use Rattle.std.specs.Prelude.{◌≡◌, None, Some, IfSome, length, slice_get};
-ghost use Rattle.engine_state.specs.Meaning.{option_values};
+ghost use Rattle.option_store.specs.Meaning.{option_values};
 ghost use Rattle.rule_model.specs.Content.{elements_at, option_number};
 ghost use Rattle.rule_model.specs.Keyboard.{Numbered, Platform};
 ghost use Rattle.rule_model.specs.Match.{element_at, place_of, same_value};
 ghost use Rattle.rule_model.specs.System.{has_words, is_equal, system_ref};
 ghost use Rattle.rule_model.specs.Tab.{elements_of, tab};
 ghost use Rattle.rule_index.specs.Holdings.{AreHoldersOf};
-ghost use Rattle.rule_matching.specs.Moment.{content_at, truths_at};
+ghost use Rattle.rule_matching.specs.Moment.{AreApart, content_at, truths_at};
 
 use crate::contents::held_now;
 use crate::host_text::{element_in_text, place_in_text};
-use crate::store_value::StoreValue;
-use engine_state::{Held, Options};
 use kmn_base::{Element, Item};
+use option_store::{Held, Options};
 use rule_index::{Holding, IndexedKeyboard};
 use rule_model::system::PLATFORM;
 use std::marker::Model;
 
-/// A keyboard at a moment: the file with what is looked up in it, what its stores hold, and for each store whether each word of
-/// its elements is a word of the platform.
+/// A keyboard in one state: the file with its indexes, the content of its stores, and for each store whether each word of its
+/// elements is a word of the platform.
 #[derive(Drop)]
 pub struct Moment<'a> {
     indexed: &'a IndexedKeyboard<'a>,
@@ -28,9 +27,9 @@ pub struct Moment<'a> {
 
 impl<'a> Model for Moment<'a> {
     ghost use Rattle.std.specs.Prelude.{◌≡◌, length};
-    ghost use Rattle.engine_state.specs.Meaning.{option_values};
+    ghost use Rattle.option_store.specs.Meaning.{option_values};
     ghost use Rattle.rule_model.specs.Tab.{tab};
-    ghost use Rattle.rule_matching.specs.Moment.{MomentValue, truths_at};
+    ghost use Rattle.rule_matching.specs.Moment.{AreApart, MomentValue, truths_at};
 
     ghost Value = { MomentValue };
 
@@ -43,11 +42,12 @@ impl<'a> Model for Moment<'a> {
         × (moment.truths.now ≡ truths_at (record {
           tables = moment.indexed.now;
           current = option_values (tab moment.indexed.now).stores moment.options.now;
-        })) };
+        }))
+        × AreApart (tab moment.indexed.now).stores moment.options.now };
 }
 
 impl<'a> Moment<'a> {
-    /// The keyboard where its stores hold this, and where this is told of the platform.
+    /// Creates the state of a keyboard from the values of its options and from what is known about the platform.
     pub fn of(
         indexed: &'a IndexedKeyboard<'a>,
         options: &'a Options,
@@ -58,6 +58,7 @@ impl<'a> Moment<'a> {
           tables = indexed.now;
           current = option_values (tab indexed.now).stores options.now;
         }) }
+        requires apart { AreApart (tab indexed.now).stores options.now }
         ensures { result ≡ record {
           tables = indexed.now;
           current = option_values (tab indexed.now).stores options.now;
@@ -70,8 +71,9 @@ impl<'a> Moment<'a> {
         }
     }
 
-    /// The store whose stated elements a store has now, None where it has a text of the host: one that is no option has its own.
-    /// Contracts see what an option has, and not whether the host gave it, so they leave open which of the two is answered of it.
+    /// Returns the store whose defined elements a store has now, or `None` if it has a text of the host. A store that is not an
+    /// option has its own elements. Contracts model the content of an option and not whether the host set it, so they leave
+    /// open which of the two is returned for an option.
     #[inline(always)]
     pub(crate) fn held_store(&self, store: u32) -> Option<u32>
         ensures itself { option_number (tab self.now.tables).stores (Numbered store) ≡ None → result ≡ Some store }
@@ -83,7 +85,7 @@ impl<'a> Moment<'a> {
         }
     }
 
-    /// The stores that are stated with an item.
+    /// Returns the stores that are defined with an item.
     #[inline(never)]
     pub(crate) fn holders(&self, item: Item) -> &[Holding]
         ensures { AreHoldersOf item (λ store. elements_at (tab self.now.tables).stores (Some store)) result.now }
@@ -91,7 +93,7 @@ impl<'a> Moment<'a> {
         self.indexed.holders(item)
     }
 
-    /// The first place of an item in what a store has.
+    /// Returns the first position of an item in the content of a store.
     pub fn place_of(&self, store: u32, item: Item) -> Option<usize>
         ensures { result ≡ place_of item (content_at self.now (Numbered store)) }
     {
@@ -101,14 +103,14 @@ impl<'a> Moment<'a> {
         }
     }
 
-    /// The element at a place that there may be, in what a store has.
+    /// Returns the element at an optional position of the content of a store.
     pub fn element_at(&self, store: u32, place: Option<usize>) -> Option<Element>
         ensures { result ≡ element_at (content_at self.now (Numbered store)) place }
     {
         self.get(store, place?)
     }
 
-    /// The element at a place of what a store has.
+    /// Returns the element at a position of the content of a store.
     fn get(&self, store: u32, place: usize) -> Option<Element>
         ensures { result ≡ slice_get (content_at self.now (Numbered store)) place }
     {
@@ -118,7 +120,8 @@ impl<'a> Moment<'a> {
         }
     }
 
-    /// The number of a value store of the file; of no store where the file has none of the number, which has no elements then.
+    /// Returns the number of a value store of the file. If the file has no store with this number, returns a number without a
+    /// store, which has no elements.
     #[tactic(auto, using(crate::proofs::StoreContents::own_value, crate::proofs::StoreContents::no_value))]
     fn value_store(&self, value: u32) -> u32
         ensures { elements_at (tab self.now.tables).stores (Some result) ≡ elements_of self.now.tables.stores value }
@@ -130,20 +133,19 @@ impl<'a> Moment<'a> {
         }
     }
 
-    /// Whether a store has the elements of a value store.
+    /// Returns whether the content of a store equals the elements of a value store.
     pub fn is_same(&self, store: u32, value: u32) -> bool
         ensures { result ≡ same_value (content_at self.now (Numbered store)) (elements_of self.now.tables.stores value) }
     {
         let value = self.value_store(value);
         match held_now(self.indexed, self.options, store) {
             Held::Store(held) => self.indexed.same_elements(held, value),
-            Held::Host => StoreValue::Text(self.options.host_text(store)).is_same(
-                StoreValue::Elements(self.indexed.stated(value)),
-            ),
+            // No store is defined with a text that is held as a text of the host.
+            Held::Host => false,
         }
     }
 
-    /// Whether the platform has each word of a value store.
+    /// Returns whether the platform has each word of a value store.
     #[tactic(auto, using(crate::proofs::StoreContents::told_of, crate::proofs::StoreContents::untold))]
     fn has_platform(&self, value: u32) -> bool
         ensures { result ≡ has_words (content_at self.now Platform) (elements_of self.now.tables.stores value) }
@@ -154,8 +156,8 @@ impl<'a> Moment<'a> {
         }
     }
 
-    /// Whether the content of the system option of an id is what a value store asks for: the platform is told by words, the layer
-    /// by its elements.
+    /// Returns whether the system option with an id has the value of a value store: the platform is compared by words, the
+    /// layer by its elements.
     pub fn is_system_equal(&self, id: u32, value: u32) -> bool
         ensures { result ≡ is_equal (system_ref id) (content_at self.now (system_ref id)) (elements_of self.now.tables.stores value) }
     {

@@ -7,8 +7,8 @@ use crate::store_marks::StoreMarks;
 use kmn_base::Memory;
 use std::alloc::Global;
 
-/// What is known of the items before the caret while a record is chosen: their places in stores that were looked for, and in
-/// which stores each of them stands.
+/// What is known about the items before the caret during the choice of a record: their positions in stores that were looked up,
+/// and which stores contain each of them.
 #[derive(Drop)]
 pub struct PlaceMemory {
     pub(crate) found: KnownPlaces,
@@ -16,7 +16,8 @@ pub struct PlaceMemory {
 }
 
 impl PlaceMemory {
-    /// Room for so many stores, of which nothing is known.
+    /// Creates space for `stores` stores, about which nothing is known.
+    /// Errors: `Memory` if an allocation fails.
     pub fn new(alloc: Global, stores: usize) -> Result<PlaceMemory, Memory>
         requires { stores ≤ STORES + 2 }
         ensures unknown { IfOk result (λ memory. KnowsNothing memory) }
@@ -28,7 +29,7 @@ impl PlaceMemory {
         })
     }
 
-    /// Room for no store, without any memory.
+    /// Creates a memory without space for any store. Does not allocate.
     pub fn without_room(alloc: Global) -> PlaceMemory
         ensures unknown { KnowsNothing result }
         ensures rooms { rooms result ≡ (0, 0) }
@@ -39,7 +40,7 @@ impl PlaceMemory {
         }
     }
 
-    /// Begins another choice, of which nothing is known.
+    /// Begins the next choice, at which nothing is known.
     pub fn forget(&mut self)
         ensures unknown { KnowsNothing self.new }
         ensures rooms { rooms self.new ≡ rooms self.old }

@@ -13,7 +13,7 @@ use crate::taken::{TakenItem, taken_at};
 use kmn_base::Item;
 use kmn_base::limits::WINDOW_ITEMS;
 
-/// The item that so many items stand behind.
+/// Returns the item at a distance from the caret. The distance is the number of items after it.
 #[tactic(auto, using(crate::proofs::KnownPlaces::item_within))]
 pub fn item_before(left: &[Item], distance: usize) -> Item
     requires { distance < length left.now }
@@ -22,7 +22,7 @@ pub fn item_before(left: &[Item], distance: usize) -> Item
     left[left.len() - (distance + 1)]
 }
 
-/// The item that so many items stand behind, where there is one.
+/// Returns the item at a distance from the caret, or `None` if there is no such item.
 pub fn item_at(left: &[Item], distance: usize) -> Option<Item>
     ensures { result ≡ item_before left.now distance }
 {
@@ -33,7 +33,8 @@ pub fn item_at(left: &[Item], distance: usize) -> Option<Item>
     }
 }
 
-/// Looks for the first place of that item in what a store has, which is known then while the moment and the list stand still.
+/// Looks up the first position of the item at a distance in the content of a store, and remembers it for the rest of the
+/// choice.
 #[inline(never)]
 fn look_for(
     choice: &Choice<'_>,
@@ -54,7 +55,8 @@ fn look_for(
     place
 }
 
-/// The first place of that item in what a store has, None where there is no such item. It is looked for once.
+/// Returns the first position of the item at a distance in the content of a store, or `None` if there is no such item. Looks it
+/// up once.
 #[tactic(auto, using(crate::proofs::KnownPlaces::place_beyond))]
 fn place_before(
     choice: &Choice<'_>,
@@ -76,7 +78,7 @@ fn place_before(
     }
 }
 
-/// Whether that item is in what a store has.
+/// Returns whether the content of a store contains the item at a distance.
 #[inline(always)]
 #[tactic(auto, using(crate::proofs::Holders::in_what_is_held))]
 pub fn is_in_store(
@@ -99,7 +101,7 @@ pub fn is_in_store(
     }
 }
 
-/// The place in its store of what was taken, where an `any` took it.
+/// Returns the position in its store of a taken item, if an `any` took it.
 fn place_of_taken(choice: &Choice<'_>, taken: TakenItem, places: &mut PlaceMemory) -> Option<usize>
     requires { RemembersFor choice.now places.old }
     ensures place { result ≡ (caught_in choice.now taken).place }
@@ -109,7 +111,7 @@ fn place_of_taken(choice: &Choice<'_>, taken: TakenItem, places: &mut PlaceMemor
     place_before(choice, taken.distance, taken.store?, places)
 }
 
-/// The place in its store of what was taken at an offset, where an `any` took it.
+/// Returns the position in its store of the item taken at an offset, if an `any` took it.
 #[tactic(auto, using(crate::proofs::TakenItems::place_is_caught))]
 pub fn place_taken(
     choice: &Choice<'_>,
@@ -125,7 +127,7 @@ pub fn place_taken(
     place_of_taken(choice, taken_at(taken, offset)?, places)
 }
 
-/// Catches what was taken: each item, and of each `any` the place too.
+/// Writes to `caught` what was taken: each item, and for each `any` also the position in its store.
 pub fn catch_taken(
     choice: &Choice<'_>,
     taken: &[TakenItem],

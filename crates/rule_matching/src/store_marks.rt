@@ -15,7 +15,7 @@ pub struct Marks {
     distances: u64,
 }
 
-/// Whether a word has the bit of a distance.
+/// Returns whether a word has the bit of a distance.
 #[tactic(auto, using(crate::proofs::Marking::has_no_bit))]
 fn has_distance(distances: u64, distance: usize) -> bool
     ensures { result ≡ has_distance distances distance }
@@ -23,7 +23,7 @@ fn has_distance(distances: u64, distance: usize) -> bool
     distance < WINDOW_ITEMS && (distances >> distance) & 1 == 1
 }
 
-/// A word with the bit of a distance too.
+/// Returns a word with the bit of a distance also set.
 fn with_distance(distances: u64, distance: usize) -> u64
     requires { distance < WINDOW_ITEMS }
     ensures set { has_distance result distance ≡ true }
@@ -33,7 +33,7 @@ fn with_distance(distances: u64, distance: usize) -> u64
 }
 
 impl Marks {
-    /// No mark at a choice.
+    /// Returns empty marks for a choice.
     fn none(choice: u64) -> Marks
         ensures { result ≡ record { choice = choice; distances = 0 } }
     {
@@ -43,7 +43,7 @@ impl Marks {
         }
     }
 
-    /// The marks of another choice are gone.
+    /// Removes the marks of another choice.
     #[tactic(auto, using(crate::proofs::Marking::no_marks, crate::proofs::Marking::other_choice))]
     fn renew(&mut self, choice: u64)
         ensures choice { self.new.choice ≡ choice }
@@ -67,7 +67,7 @@ impl Marks {
     }
 }
 
-/// Marks a store, where there are marks of it.
+/// Sets the mark of a store at a distance, if there are marks for the store.
 fn mark_store(marks: &mut [Marks], choice: u64, distance: usize, store: usize)
     requires { distance < WINDOW_ITEMS }
     ensures set { store < length marks.old → is_marked_among choice marks.new store distance ≡ true }
@@ -79,7 +79,7 @@ fn mark_store(marks: &mut [Marks], choice: u64, distance: usize, store: usize)
     }
 }
 
-/// Marks each store that has an item.
+/// Sets the mark of each store that contains an item.
 fn mark_holders(marks: &mut [Marks], choice: u64, distance: usize, holders: &[Holding])
     requires { distance < WINDOW_ITEMS }
     ensures set { (s : ℕ) → s < length marks.old → is_marked_among choice marks.new s distance
@@ -92,8 +92,8 @@ fn mark_holders(marks: &mut [Marks], choice: u64, distance: usize, holders: &[Ho
     }
 }
 
-/// In which stores the items before the caret stand, by their distance from it. A choice is the time while the window stands
-/// still; nothing is known beyond it.
+/// The stores that contain the items before the caret, by the distance of the item from the caret. A choice lasts while the
+/// window is unchanged. Nothing is known after it.
 #[derive(Drop)]
 pub struct StoreMarks {
     choice: u64,
@@ -112,7 +112,8 @@ impl Model for StoreMarks {
 }
 
 impl StoreMarks {
-    /// Room for so many stores, of which nothing is known.
+    /// Creates space for `stores` stores, about which nothing is known.
+    /// Errors: `Memory` if an allocation fails.
     pub fn new(alloc: Global, stores: usize) -> Result<StoreMarks, Memory>
         requires { stores ≤ STORES + 2 }
         ensures unknown { IfOk result (λ marks. (distance : ℕ) → is_known marks distance ≡ false) }
@@ -125,7 +126,7 @@ impl StoreMarks {
         })
     }
 
-    /// Room for no store, without any memory.
+    /// Creates marks without space for any store. Does not allocate.
     pub fn without_room(alloc: Global) -> StoreMarks
         ensures unknown { (distance : ℕ) → is_known result distance ≡ false }
         ensures room { marked_room result ≡ 0 }
@@ -137,7 +138,7 @@ impl StoreMarks {
         }
     }
 
-    /// No store has a mark at the first choice.
+    /// Resets to the first choice, at which no store has a mark.
     fn begin_anew(&mut self)
         ensures unknown { (distance : ℕ) → is_known self.new distance ≡ false }
         ensures room { marked_room self.new ≡ marked_room self.old }
@@ -147,7 +148,7 @@ impl StoreMarks {
         self.marks.as_mut_slice().fill(Marks::none(0));
     }
 
-    /// Begins another choice, of which nothing is known; where there is no further number for it, the first one again.
+    /// Begins the next choice, at which nothing is known. After the last choice number, begins again with the first.
     pub fn forget(&mut self)
         ensures unknown { (distance : ℕ) → is_known self.new distance ≡ false }
         ensures room { marked_room self.new ≡ marked_room self.old }
@@ -161,21 +162,21 @@ impl StoreMarks {
         }
     }
 
-    /// Whether there are marks of a store.
+    /// Returns whether there are marks for a store.
     pub fn has_room(&self, store: u32) -> bool
         ensures { result ≡ nat_lt store (marked_room self.now) }
     {
         (store as usize) < self.marks.len()
     }
 
-    /// Whether it is known in which stores the item at a distance stands.
+    /// Returns whether it is known which stores contain the item at a distance.
     pub fn is_known(&self, distance: usize) -> bool
         ensures { result ≡ is_known self.now distance }
     {
         has_distance(self.known, distance)
     }
 
-    /// Whether a store is marked as one in which the item at a distance stands.
+    /// Returns whether a store is marked as containing the item at a distance.
     pub fn is_marked(&self, store: u32, distance: usize) -> bool
         ensures { result ≡ is_marked self.now store distance }
     {
@@ -187,7 +188,7 @@ impl StoreMarks {
         }
     }
 
-    /// Marks each store that has the item at a distance, which wasn't known so far.
+    /// Marks each store that contains the item at a distance. The stores of this item must not be known yet.
     #[inline(never)]
     pub fn mark(&mut self, distance: usize, holders: &[Holding])
         requires within { distance < WINDOW_ITEMS }

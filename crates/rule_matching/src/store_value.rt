@@ -6,7 +6,7 @@ use crate::elements::same_element;
 use kmn_base::{Element, Memory, Seq};
 use std::alloc::Global;
 
-/// What a store has, read where it lies, element by element: elements of the keyboard, or a text of the host.
+/// The content of a store, read in place, element by element: elements of the keyboard, or a text of the host.
 #[derive(Drop)]
 pub enum StoreValue<'c> {
     Elements(&'c [Element]),
@@ -44,7 +44,7 @@ impl<'c> Iterator for StoreValue<'c> {
 }
 
 impl<'c> StoreValue<'c> {
-    /// Whether this is the same as another value, element by element.
+    /// Returns whether two values are equal, element by element.
     pub fn is_same(self, mut other: StoreValue<'_>) -> bool
         ensures { result ≡ same_value (elements_in self.entry) (elements_in other.entry) }
     {
@@ -59,7 +59,8 @@ impl<'c> StoreValue<'c> {
         other.next().is_none()
     }
 
-    /// All elements.
+    /// Copies all elements.
+    /// Errors: `Memory` if an allocation fails.
     pub fn copy(self, alloc: Global) -> Result<Seq<Element>, Memory>
         ensures { IfOk result (λ copy. copy ≡ elements_in self.entry) }
     {

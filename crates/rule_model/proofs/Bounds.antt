@@ -15,7 +15,7 @@ use Rattle.kmn_base.specs.Lists.{characters, without_last, put, read_again}
 use Rattle.kmn_base.proofs.Lists.{characters-append}
 use Rattle.kmn_base.proofs.ReadingAgain.{reading_again_gives_the_text}
 use Rattle.rule_model.specs.declared.event_state.EventState.{EventState}
-use Rattle.rule_model.specs.Fits.{is_plain}
+use Rattle.virtual_keys.specs.Fits.{is_plain}
 use Rattle.rule_model.specs.KeyEvent.{begin_event, after_key}
 use Rattle.rule_model.specs.Event.{State, whole_text, text_becomes, editor_left, editor_right, by_editor, after_press, has_name, set_option, caret_event, moved_caret, edited_text, edit_event, edit_refusal, happening}
 use Rattle.rule_model.specs.StepLaws.{PressAddsWhatItPuts, EventKeepsTextInBounds, StepsKeepTextInBounds}

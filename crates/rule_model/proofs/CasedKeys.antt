@@ -6,7 +6,7 @@ use Rattle.std.proofs.lemmas.Nat.{and_or_self, and_or_apart, and_assoc}
 use Rattle.std.specs.Int.Bits.{and_zero_r}
 use Rattle.kmn_base.specs.declared.keys.RuleKey.TheVariants as key
 use Rattle.kmn_base.specs.declared.keys.KeyPress.{KeyPress}
-use Rattle.rule_model.specs.Fits.{shift, caps, no_caps, has, has_either, either_control, left_control, right_control, either_alt, left_alt, right_alt, sides_fit, key_fits}
+use Rattle.virtual_keys.specs.Fits.{shift, caps, no_caps, has, has_either, either_control, left_control, right_control, either_alt, left_alt, right_alt, sides_fit, key_fits}
 use Rattle.std.proofs.lemmas.Bool.{and_parts, not-true}
 use Rattle.std.specs.List.{list_any, list_all}
 use Rattle.rule_model.specs.declared.event_state.Catch.{Catch}

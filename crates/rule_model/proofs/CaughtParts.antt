@@ -1,8 +1,15 @@
 -- What is caught is what the context and the key caught, each of which stands.
-use Rattle.std.proofs.Common.{◌≡◌, ℕ, List, Option, Some, None, refl}
+use Rattle.std.proofs.Common.{◌≡◌, ℕ, List, [], Option, Some, None, refl}
+use Rattle.kmn_base.specs.declared.keys.KeyPress.{KeyPress}
 use Rattle.rule_model.specs.declared.event_state.Catch.{Catch}
 use Rattle.rule_model.specs.declared.event_state.Caught.{Caught}
-use Rattle.rule_model.specs.Hold.{caught_by}
+use Rattle.rule_model.specs.Keyboard.{KeyPattern}
+use Rattle.rule_model.specs.Match.{Content}
+use Rattle.rule_model.specs.Hold.{fitting_place_with, caught_by}
+
+-- the place at which the key of a rule fits, on a keyboard without cased keys
+abbrev pub fitting_place : Content → KeyPress → KeyPattern → Option (Option ℕ)
+fitting_place = fitting_place_with []
 
 pub caught_parts : (catches : Option (List Catch)) (place : Option (Option ℕ)) (caught : Caught) → caught_by catches place ≡ Some caught
     → ((r : List Catch) × (catches ≡ Some r)) × ((p : Option ℕ) × (place ≡ Some p))

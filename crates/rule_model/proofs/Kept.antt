@@ -8,8 +8,8 @@ use Rattle.kmn_base.specs.declared.items.Item.TheVariants as item
 use Rattle.kmn_base.specs.declared.items.Element.{Element}
 use Rattle.kmn_base.specs.declared.keys.KeyPress.{KeyPress}
 use Rattle.kmn_base.specs.Lists.{is_mark, without_last}
-use Rattle.rule_model.specs.Fits.{char_of_press}
-use Rattle.rule_model.specs.Dictionary.{name_chars, name_in}
+use Rattle.virtual_keys.specs.Fits.{char_of_press}
+use Rattle.virtual_keys.specs.Dictionary.{name_chars, name_in}
 use Rattle.rule_model.specs.declared.event_state.Caught.{Caught}
 use Rattle.rule_model.specs.declared.event_state.EventState.{EventState}
 use Rattle.rule_model.specs.Keyboard.{Ref, Output, PutChar, PutMark, PutIndex, PutContext, PutContextAt, PutStore, UseGroup, SetOption, SaveOption, ResetOption, MakeBeep, DoNothing, StopEvent, GroupMeaning, Keyboard}

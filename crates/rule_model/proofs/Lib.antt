@@ -19,10 +19,3 @@ pub mod SystemOptions
 pub mod WorkedTraces
 pub mod SameElements
 pub mod CaughtParts
-pub mod EntryLemmas
-pub mod GroupLemmas
-pub mod HexLemmas
-pub mod PositionLemmas
-pub mod NamePlaces
-pub mod NumberSets
-pub mod WordBytes

@@ -12,7 +12,7 @@ use Rattle.kmn_base.proofs.Lists.{put_is_sound, taking_keeps_soundness}
 use Rattle.kmn_base.proofs.ReadingAgain.{reading_again_is_sound}
 use Rattle.rule_model.specs.declared.event_state.EventState.{EventState}
 use Rattle.rule_model.specs.Keyboard.{Ref}
-use Rattle.rule_model.specs.Fits.{is_plain}
+use Rattle.virtual_keys.specs.Fits.{is_plain}
 use Rattle.rule_model.specs.KeyEvent.{begin_event, after_key}
 use Rattle.rule_model.specs.Event.{State, editor_left, by_editor, after_press, has_name, set_option, happening}
 use Rattle.rule_model.specs.StepLaws.{EnteringKeepsSound, ItemKeepsSound, OutputKeepsSound, DefaultKeepsSound, GroupKeepsSound, GroupsKeepSound, PressKeepsSound, EventKeepsSound, StepsAreSound}

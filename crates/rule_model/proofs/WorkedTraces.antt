@@ -1,9 +1,9 @@
 -- Keyboards played by computation: the cheapest test of the definitions.
 use Rattle.std.specs.Prelude.{refl}
 use Rattle.kmn_base.specs.Names.{same_name}
-use Rattle.rule_model.specs.Dictionary.{code_in, name_chars}
-use Rattle.rule_model.specs.Fits.{key_fits, char_of_press}
-use Rattle.rule_model.specs.Keys.{us_characters}
+use Rattle.virtual_keys.specs.Dictionary.{code_in, name_chars}
+use Rattle.virtual_keys.specs.Fits.{key_fits, char_of_press}
+use Rattle.virtual_keys.specs.Keys.{us_characters}
 use Rattle.rule_model.specs.Enter.{by_default}
 use Rattle.rule_model.specs.Event.{happening}
 use Rattle.rule_model.specs.KeyEvent.{after_key}

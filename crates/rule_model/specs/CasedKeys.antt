@@ -2,7 +2,7 @@
 use Rattle.std.specs.Prelude.{◌≡◌, ℕ, true, false, ◌&&◌, not, bit_and, bit_or, nat_eq, if◌then◌else◌, List, Option, Some, None}
 use Rattle.kmn_base.specs.declared.keys.RuleKey.TheVariants as key
 use Rattle.kmn_base.specs.declared.keys.KeyPress.{KeyPress}
-use Rattle.rule_model.specs.Fits.{shift, caps, no_caps, has, key_fits}
+use Rattle.virtual_keys.specs.Fits.{shift, caps, no_caps, has, key_fits}
 use Rattle.kmn_base.specs.declared.items.Item.{Item}
 use Rattle.rule_model.specs.declared.event_state.Caught.{Caught}
 use Rattle.rule_model.specs.Keyboard.{OneKey, RuleMeaning}

@@ -5,9 +5,9 @@ use Rattle.kmn_base.specs.declared.items.Item.{Item}
 use Rattle.kmn_base.specs.declared.items.Item.TheVariants as item
 use Rattle.kmn_base.specs.declared.keys.KeyPress.{KeyPress}
 use Rattle.kmn_base.specs.Lists.{characters, is_mark, without_last}
-use Rattle.rule_model.specs.Fits.{is_plain, char_of_press}
-use Rattle.rule_model.specs.declared.codes.TheConstants.{K_BKSP}
-use Rattle.rule_model.specs.Dictionary.{name_chars, name_in}
+use Rattle.virtual_keys.specs.Fits.{is_plain, char_of_press}
+use Rattle.virtual_keys.specs.declared.codes.TheConstants.{K_BKSP}
+use Rattle.virtual_keys.specs.Dictionary.{name_chars, name_in}
 use Rattle.rule_model.specs.declared.event_state.Caught.{Caught}
 use Rattle.rule_model.specs.declared.event_state.EventState.{EventState}
 use Rattle.rule_model.specs.Keyboard.{Ref, Output, GroupMeaning, Keyboard}

@@ -12,8 +12,8 @@ use Rattle.kmn_base.specs.declared.codes.Code.TheVariants.{E1, E2}
 use Rattle.kmn_base.specs.declared.limits.TheConstants.{TEXT_CHARS, TEXT_CHARS_AT_KEY}
 use Rattle.kmn_base.specs.Lists.{characters, without_last, read_again}
 use Rattle.kmn_base.specs.Names.{same_name}
-use Rattle.rule_model.specs.declared.codes.TheConstants.{K_TAB, K_ENTER, K_END, K_HOME, K_LEFT, K_RIGHT, K_DEL}
-use Rattle.rule_model.specs.Fits.{is_plain}
+use Rattle.virtual_keys.specs.declared.codes.TheConstants.{K_TAB, K_ENTER, K_END, K_HOME, K_LEFT, K_RIGHT, K_DEL}
+use Rattle.virtual_keys.specs.Fits.{is_plain}
 use Rattle.rule_model.specs.declared.event_state.EventState.{EventState}
 use Rattle.rule_model.specs.Keyboard.{Keyboard}
 use Rattle.rule_model.specs.KeyEvent.{begin_event, after_key, outcome_of, inserted}

@@ -8,7 +8,7 @@ use Rattle.kmn_base.specs.declared.keys.RuleKey.{RuleKey}
 use Rattle.kmn_base.specs.declared.keys.RuleKey.TheVariants as key
 use Rattle.kmn_base.specs.declared.keys.KeyPress.{KeyPress}
 use Rattle.std.specs.Bool.{beq}
-use Rattle.rule_model.specs.Fits.{shift, caps, no_caps, has, either_control, left_control, right_control, either_alt, left_alt, right_alt, sides_fit, key_fits}
+use Rattle.virtual_keys.specs.Fits.{shift, caps, no_caps, has, either_control, left_control, right_control, either_alt, left_alt, right_alt, sides_fit, key_fits}
 use Rattle.rule_model.specs.declared.event_state.Catch.{Catch}
 use Rattle.rule_model.specs.declared.event_state.Caught.{Caught}
 use Rattle.rule_model.specs.Keyboard.{Pattern, IfEqual, IfUnequal, AtStart, KeyPattern, OneKey, KeyIn, RuleMeaning}
@@ -97,9 +97,6 @@ holds_with cased content left press rule =
 -- the same on a keyboard without cased keys, as that of a file
 abbrev pub key_place : KeyPress → List Element → Option ℕ
 key_place = key_place_with []
-
-abbrev pub fitting_place : Content → KeyPress → KeyPattern → Option (Option ℕ)
-fitting_place = fitting_place_with []
 
 abbrev pub holds : Content → List Item → KeyPress → RuleMeaning → Option Caught
 holds = holds_with []

@@ -15,14 +15,10 @@ pub mod OwnLines
 pub mod Patterns
 pub mod Plain
 pub mod Src
+pub mod Stated
 pub mod StepLaws
 pub mod System
 pub mod Tab
 pub mod Trace
 pub mod Transcript
 pub mod WorkedTraces
-pub mod Dictionary
-pub mod Entries
-pub mod Fits
-pub mod Groups
-pub mod Keys

@@ -1,8 +1,8 @@
--- Tests in another order.
+-- The order of tests does not change their result.
 use Rattle.std.proofs.Common.{◌≡◌, Bool, true, false, refl}
 use Rattle.std.specs.Prelude.{◌&&◌}
 
--- of four tests the last may be asked first, and the third before the second
+-- of four tests the last can be made first, and the third before the second
 pub asked_first : (a b c d : Bool) → (d && (a && (c && b))) ≡ (a && (b && (c && d)))
 asked_first true true c true = refl
 asked_first true false true true = refl

@@ -1,4 +1,4 @@
--- A rule whose records all have certificates is dead.
+-- If all records of a rule have certificates, the rule is dead.
 use Rattle.std.proofs.Common.{◌≡◌, ◌≢◌, ℕ, ◌+◌, ◌<◌, List, [], ◌∷◌, length, map, Option, Some, None, refl, sym, ap, ◌∙◌, subst, arith, inl, inr, suc}
 use Rattle.std.specs.Prelude.{filter, is_some, option_map, position, slice_get, slice_index_or}
 use Rattle.std.specs.List.{list_all}
@@ -23,19 +23,19 @@ use Rattle.rule_model.specs.Src.{src, src_rule, src_group, is_plain, cased_keys}
 use Rattle.rule_model.specs.Tab.{tab, tab_rule}
 use Rattle.rule_model.proofs.PlainOptions.{position-passes, position-fails}
 use Rattle.kmx_format.specs.Writable.{IsWritable}
-use Rattle.kmx_format.specs.WellNamed.{IsWellNamed, is_known_group}
-use Rattle.kmx_format.specs.Numbers.{numbers_of}
-use Rattle.kmx_format.specs.Compiles.{Compiles, IsOrderedGroup, file_group}
-use Rattle.kmx_format.proofs.Keyboards.{src_choice, src_cased}
-use Rattle.kmx_format.proofs.Known.{has_values, KnownGroup, group_known}
-use Rattle.kmx_format.proofs.Values.{values_known}
-use Rattle.kmx_format.proofs.Linked.{Linked}
-use Rattle.kmx_format.proofs.Stores.{linked}
-use Rattle.kmx_format.proofs.Choices.{ChosenRule, best_now, best-map, src_chosen, tab_chosen, choice-kept}
+use Rattle.compile_laws.specs.WellNamed.{IsWellNamed, is_known_group}
+use Rattle.compile_laws.specs.Numbers.{numbers_of}
+use Rattle.compile_laws.specs.Compiles.{Compiles, IsOrderedGroup, file_group}
+use Rattle.compile_laws.proofs.Keyboards.{src_choice, src_cased}
+use Rattle.compile_laws.proofs.Known.{has_values, KnownGroup, group_known}
+use Rattle.compile_laws.proofs.Values.{values_known}
+use Rattle.compile_laws.proofs.Linked.{Linked}
+use Rattle.compile_laws.proofs.Stores.{linked}
+use Rattle.compile_laws.proofs.Choices.{ChosenRule, best_now, best-map, src_chosen, tab_chosen, choice-kept}
 use Rattle.rule_shadow.specs.Laws.{AreCovered, CoveredRulesAreDead}
 use Rattle.rule_shadow.proofs.Sound.{covered_never_go_first}
 
--- the record that goes first has the number of the first that holds
+-- the record that is selected has the number of the first that holds
 record Numbered (caught : RuleMeaning → Option Caught) (f : Rule → RuleMeaning) (xs : List Rule) (c : Chosen) : Type 0 where
   number : ℕ
   rule : Rule

@@ -4,8 +4,8 @@ use Rattle.kmn_base.specs.declared.items.Element.{Element}
 use Rattle.kmn_base.specs.declared.items.Element.TheVariants as element
 use Rattle.kmn_base.specs.declared.keys.RuleKey.{RuleKey}
 use Rattle.kmn_base.specs.declared.keys.RuleKey.TheVariants as key
-use Rattle.rule_model.specs.Fits.{char_of_press, key_fits}
-use Rattle.rule_model.specs.Keys.{us_characters, key_codes}
+use Rattle.virtual_keys.specs.Fits.{char_of_press, key_fits}
+use Rattle.virtual_keys.specs.Keys.{us_characters, key_codes}
 use Rattle.rule_model.specs.declared.tables.Pat.{Pat}
 use Rattle.rule_model.specs.declared.tables.Pat.TheVariants as pattern
 use Rattle.rule_model.specs.declared.tables.Out.TheVariants as output
@@ -42,19 +42,19 @@ tables_of stores rules =
 abbrev finds : List (List Element) → List Rule → ℕ → Rule → Found
 finds stores rules number r = found_for (tables_of stores rules) (group_of rules) number r
 
--- `a`, then K_A without shift, which gives `A` under caps lock
+-- `a`, then K_A without shift, which produces `A` under caps lock
 caps_lock_escapes :
     finds [] (rule_of 3 (key.Char 97) [] ∷ rule_of 4 (key.Virtual 0x4000 65) [] ∷ []) 1 (rule_of 4 (key.Virtual 0x4000 65) []) ≡ found.NotFound
 unfolding tab tab_options tab_dictionary char_of_press key_fits us_characters key_codes all_modifiers all_codes
 caps_lock_escapes = refl
 
--- with NCAPS it doesn't
+-- with NCAPS, K_A is covered
 no_caps_is_covered :
     finds [] (rule_of 3 (key.Char 97) [] ∷ rule_of 4 (key.Virtual 0x4200 65) [] ∷ []) 1 (rule_of 4 (key.Virtual 0x4200 65) []) ≡ found.ByRule 0
 unfolding tab tab_options tab_dictionary char_of_press key_fits us_characters key_codes all_modifiers all_codes
 no_caps_is_covered = refl
 
--- an `any` whose items have a record each
+-- an `any` with a record for each of its items
 abbrev vowels : List (List Element)
 vowels = (element.Char 97 ∷ element.Char 101 ∷ []) ∷ []
 

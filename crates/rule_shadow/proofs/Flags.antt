@@ -1,4 +1,4 @@
--- What the flag of a store says of it.
+-- What the flag of a store states.
 use Rattle.std.proofs.Common.{◌≡◌, ℕ, zero, suc, ◌+◌, ◌-◌, ◌<◌, ◌≤◌, Bool, true, false, not, List, [], ◌∷◌, ◌++◌, length, refl, sym, ap, ◌∙◌, arith}
 use Rattle.std.specs.Prelude.{is_some, nat_eq, nat_le, slice_get, unwrap_or, replicate}
 use Rattle.std.specs.List.{list_any}
@@ -14,14 +14,14 @@ use Rattle.indexed_tables.proofs.OptionFlags.{flag_is}
 use Rattle.rule_shadow.specs.Flags.{TellOptions}
 use Rattle.rule_shadow.specs.Places.{is_fixed}
 
--- a store is an option where it is listed
+-- a store is an option exactly where it is listed
 below_listed : (options : List ℕ) (k n o : ℕ) (stores : List Store) → n < length stores
     → is_some (option_of o (slice_get (with_options options k stores ++ system_options) n)) ≡ list_any (nat_eq (k + n)) options
 below_listed options k n o [] h = absurd (omega (arith, h))
 below_listed options k zero o (s ∷ ss) h = let e : k ≡ k + 0 = omega arith in is_some-if (list_any (nat_eq k) options) o ∙ ap (λ (m : ℕ). list_any (nat_eq m) options) e
 below_listed options k (suc n) o (s ∷ ss) h = let e : k + 1 + n ≡ k + suc n = omega arith in below_listed options (k + 1) n o ss (omega (arith, h)) ∙ ap (λ (m : ℕ). list_any (nat_eq m) options) e
 
--- behind the stores stand two options
+-- the two numbers after the stores are options, and no later number is
 behind_listed : (options : List ℕ) (k n m o : ℕ) (stores : List Store) → n ≡ length stores + m
     → not (is_some (option_of o (slice_get (with_options options k stores ++ system_options) n))) ≡ nat_le 2 m
 behind_listed options k zero zero o [] h = refl
@@ -45,6 +45,6 @@ pub fixed_behind : (tables : Tables) (store : ℕ) → length tables.stores ≤ 
 unfolding tab
 fixed_behind tables store past = sym (behind_listed (tab_options tables) 0 store (store - length tables.stores) (options_before store (tab tables).stores) tables.stores (omega (arith, past)))
 
--- flags that were set of none tell the options
+-- setting the flags of the options in a list of `false` produces option flags
 pub marked_tell : (tables : Tables) (count : ℕ) → length tables.stores ≤ count → TellOptions tables (with_flags (replicate count false) (tab_options tables))
 marked_tell tables count enough store below = flag_is (tab_options tables) count store (omega (arith, enough, below))

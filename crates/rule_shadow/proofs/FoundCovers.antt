@@ -1,4 +1,4 @@
--- What is found for a record covers it, so a certificate that says it is right.
+-- What is found for a record covers it, so a certificate that states it is valid.
 use mathlib.Core.Former.{none_left, list_count, this}
 use denote.RawPtr.{null_ptr}
 use Rattle.std.proofs.Common.{◌≡◌, ℕ, zero, suc, ◌+◌, ◌^◌, ◌≤◌, ◌<◌, Bool, true, ◌&&◌, Vec, Global, List, [], ◌∷◌, ◌++◌, length, Option, Some, None, refl, sym, ap, ◌∙◌, subst, arith, inl, inr, append_assoc}
@@ -30,7 +30,7 @@ use Rattle.rule_shadow.specs.Covers.{covers_rule, covers_if_any, covers_by, spli
 use Rattle.rule_shadow.specs.Finding.{least_by, least_then, least_onto, split_rules, split_or, first_split, by_or, found_for, found_if_any, found_in, found, AreBy, Tells, Says}
 use Rattle.rule_shadow.proofs.Sound.{all_at}
 
--- what stands at the first place, counted from some number on, passes
+-- the item at the first place, counted from some number on, passes
 record Passes {X : Type 0} (p : X → Bool) (xs : List X) (from place : ℕ) : Type 0 where
   behind : ℕ
   x : X
@@ -50,7 +50,7 @@ first_passes p from (x ∷ xs) place e = elim (cases_Bool (p x)) [
       record { behind = suc rest.behind; x = rest.x; is = omega (arith, more); at = rest.at; passes = rest.passes }
 ]
 
--- what stands among the first items stands there
+-- an item at a place of the first `count` items is at the same place of the whole list
 taken : {X : Type 0} (count place : ℕ) (xs : List X) (x : X) → slice_get (take count xs) place ≡ Some x → (place < count) × (slice_get xs place ≡ Some x)
 taken zero place xs x e = let absurd_case : None ≡ Some x = e in cc
 taken (suc count) place [] x e = let absurd_case : None ≡ Some x = e in cc
@@ -58,7 +58,7 @@ taken (suc count) zero (y ∷ xs) x e = (omega arith, e)
 taken (suc count) (suc place) (y ∷ xs) x e = let rest = taken count place xs x e in let less = rest.0 in (omega (arith, less), rest.1)
 
 module _ (tables : Tables) (group : Group) (number : ℕ) (r : Rule) where
-  -- the least record that covers one covers it
+  -- if a record is the least that covers a record, it covers the record
   pub least_covers : (narrowing : Narrowing) (q : ℕ) → least_by tables group number r narrowing ≡ Some q → covers_by tables group number r narrowing q ≡ true
   least_covers narrowing q e =
       let first = first_passes (λ q. covers_rule tables group.using_keys (places_from tables narrowing [] r.context) q r) 0 (take number group.rules) q e in
@@ -96,7 +96,7 @@ module _ (tables : Tables) (group : Group) (number : ℕ) (r : Rule) where
   count_least place (x ∷ xs) [] h = absurd h
   count_least place (x ∷ xs) (q ∷ qs) h = ap suc (count_least place xs qs h.1)
 
-  -- where a record splits it does so at some place
+  -- if a record splits, it splits at some place
   some_split : (place : ℕ) (context : List Pat) → (first_split tables group number r place context ≡ finding.NotFound → ⊥) → (k : ℕ) × (rules : List ℕ) × (split_rules tables group number r k ≡ Some rules)
   some_split place [] h = absurd (h refl)
   some_split place (p ∷ ps) h = elim (cases_Bool (is_matched p)) [
@@ -115,7 +115,7 @@ module _ (tables : Tables) (group : Group) (number : ℕ) (r : Rule) where
   with_items place None rules e = let absurd_case : None ≡ Some rules = e in cc
   with_items place (Some items) rules e = (items, refl, e)
 
--- parts that are `By` with these records
+-- a certificate whose parts are `By` with these records (`cert_of`), with its shape and its row
 abbrev units : List ℕ → List (Unit {0})
 units [] = []
 units (q ∷ qs) = tt ∷ units qs
@@ -138,7 +138,7 @@ row_tells : (qs : List ℕ) → AreBy qs (row_of qs)
 row_tells [] = tt
 row_tells (q ∷ qs) = (refl, row_tells qs)
 
--- parts that are `By` with the least records cover each item
+-- if parts are `By` with the least records of the items, they cover each item
 row_covers : (tables : Tables) (group : Group) (number : ℕ) (r : Rule) (place : ℕ) (items : List Item) (qs : List ℕ) {m : _} (parts : Row_of-Cert m)
     → AreLeast tables group number r place items qs → AreBy qs parts → covers_parts tables group number r nothing_narrowed place (Some items) parts ≡ true
 row_covers tables group number r place [] [] end_of-Cert h told = refl
@@ -156,7 +156,7 @@ split_covers : (tables : Tables) (group : Group) (number : ℕ) (r : Rule) (plac
 split_covers tables group number r place items qs few is h =
     ap (λ o. covers_parts tables group number r nothing_narrowed place o (row_of qs)) is ∙ row_covers tables group number r place items qs (row_of qs) h (row_tells qs)
 
--- a store of writable tables has few items
+-- a list has no more items than elements, so a store of writable tables has few items
 fewer_items : (elements : List Element) → length (filter_map item_of elements) ≤ length elements
 fewer_items [] = omega arith
 fewer_items (e ∷ elements) =
@@ -181,7 +181,7 @@ few_items tables None (Some (pattern.Any store)) items writable is = elim (cases
 ]
 few_items tables o p items writable is = cc
 
--- a record for which something is found has a certificate
+-- if something is found for a record, the record has a certificate
 found_covers_under : (tables : Tables) → IsWritable tables → (group : Group) (number : ℕ) (r : Rule) → (found_for tables group number r ≡ finding.NotFound → ⊥)
     → (cert : Cert) × (covers_under tables group number r nothing_narrowed cert ≡ true)
 found_covers_under tables writable group number r found = by (least_by tables group number r nothing_narrowed) refl found
@@ -205,7 +205,7 @@ found_covers tables writable n number group r at here found =
     let under = found_covers_under tables writable group number r found in
     (under.0, ap (λ o. covers_in tables o number under.0) at ∙ (ap (λ o. covers_record tables group number o under.0) here ∙ under.1))
 
--- ---- a certificate that says what is found is right
+-- ---- a certificate that states what is found is valid
 
 module _ (tables : Tables) (group : Group) (number : ℕ) (r : Rule) where
   abbrev IsRight : Cert → Type 0

@@ -1,4 +1,4 @@
--- Where a record holds for which something is found, one of the records that are found for it holds before it.
+-- If a record holds for which something is found, one of the records found for it holds before it.
 use Rattle.std.proofs.Common.{◌≡◌, ◌≢◌, ℕ, suc, ◌+◌, ◌<◌, true, false, ◌||◌, List, [], ◌∷◌, length, Option, Some, None, refl, sym, ap, ◌∙◌, subst, arith, inl, inr}
 use Rattle.std.specs.Prelude.{nat_lt, slice_get}
 use Rattle.std.specs.Option.{option_flatten}
@@ -34,14 +34,14 @@ use Rattle.rule_shadow.proofs.FoundCovers.{AreLeast, least_covers, each_least, w
 
 module _ (tables : Tables) (group : Group) (values : List (List Element)) (left : List Item) (press : KeyPress) (number : ℕ) (r : Rule) (keyed : group.using_keys ≡ true → r.key ≢ key.Any) (caught : Caught)
     (e : holds (content (tab tables).stores values) left press (tab_rule tables.stores group.using_keys r) ≡ Some caught) where
-  -- a record of a lesser number holds
+  -- an earlier record holds
   record HoldsBefore (place : ℕ) : Type 0 where
     rule : Rule
     less : place < number
     there : slice_get group.rules place ≡ Some rule
     held : is_held tables group values left press rule ≡ true
 
-  -- one of those that were found, and one of a list
+  -- one of the records that were found holds before, and (`OneBefore`) one of a list does
   record NamedBefore (what : Found) : Type 0 where
     place : ℕ
     named : Names what place
@@ -64,7 +64,7 @@ module _ (tables : Tables) (group : Group) (values : List (List Element)) (left 
   one_behind : (q : ℕ) (qs : List ℕ) → OneBefore qs → OneBefore (q ∷ qs)
   one_behind q qs one = record { index = suc one.index; place = one.place; there = one.there; before = one.before }
 
-  -- that of the item which the place has
+  -- if the item at a place is one that a record splits by, its least record holds before
   one_holds : (place : ℕ) (x : Item) (items : List Item) (qs : List ℕ) → slice_get (taken_items r left) place ≡ Some x → list_any (same_item x) items ≡ true
       → AreLeast tables group number r place items qs → OneBefore qs
   one_holds place x [] [] at among least = let absurd_case : false ≡ true = among in cc

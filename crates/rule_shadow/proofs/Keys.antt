@@ -1,4 +1,4 @@
--- A key that covers another fits each press that the other fits.
+-- If a key covers another, it fits each press that the other fits.
 use Rattle.std.proofs.Common.{◌≡◌, ◌≢◌, ℕ, zero, suc, ◌+◌, ◌≤◌, ◌<◌, Bool, true, false, not, ◌&&◌, ◌||◌, List, [], ◌∷◌, map, Option, Some, None, refl, sym, ap, ◌∙◌, subst, arith, inl, inr, if◌then◌else◌}
 use Rattle.std.specs.Prelude.{find, nat_eq, option_map}
 use Rattle.std.specs.Bool.{beq}
@@ -10,18 +10,18 @@ use Rattle.std.proofs.lemmas.List.Folds.{list_all-append, list_all-map}
 use Rattle.kmn_base.specs.declared.keys.RuleKey.{RuleKey}
 use Rattle.kmn_base.specs.declared.keys.RuleKey.TheVariants as key
 use Rattle.kmn_base.specs.declared.keys.KeyPress.{KeyPress}
-use Rattle.rule_model.specs.Fits.{has, is_letter, us_character, character_in, is_plain, char_of_press, key_fits, flags_fit}
-use Rattle.rule_model.specs.Keys.{us_characters, key_codes}
+use Rattle.virtual_keys.specs.Fits.{has, is_letter, us_character, character_in, is_plain, char_of_press, key_fits, flags_fit}
+use Rattle.virtual_keys.specs.Keys.{us_characters, key_codes}
 use Rattle.rule_shadow.specs.Keys.{sums_of, all_modifiers, all_codes, codes_to_try, tried_with, covers_key}
 
--- the sum of the numbers that are marked
+-- the sum of the numbers that have `true` in `marks`
 abbrev sum_of : List ℕ → List Bool → ℕ
 sum_of [] marks = 0
 sum_of (bit ∷ bits) [] = sum_of bits []
 sum_of (bit ∷ bits) (true ∷ marks) = bit + sum_of bits marks
 sum_of (bit ∷ bits) (false ∷ marks) = sum_of bits marks
 
--- what all sums pass, each sum passes
+-- if all sums pass a test, the sum of each subset passes it
 each_sum : (p : ℕ → Bool) (bits : List ℕ) (marks : List Bool) → list_all p (sums_of bits) ≡ true → p (sum_of bits marks) ≡ true
 each_sum p [] marks h = (and_parts (p 0) true h).0
 each_sum p (bit ∷ bits) [] h = each_sum p bits [] (and_parts _ _ (sym (list_all-append p (sums_of bits) (map (λ sum. bit + sum) (sums_of bits))) ∙ h)).0
@@ -36,7 +36,7 @@ six = 0x0001 ∷ 0x0002 ∷ 0x0004 ∷ 0x0008 ∷ 0x0010 ∷ 0x0100 ∷ []
 abbrev held : Bool → Bool → Bool → Bool → Bool → Bool → ℕ
 held a b c d e f = sum_of six (a ∷ b ∷ c ∷ d ∷ e ∷ f ∷ [])
 
--- the six bits of what is held
+-- the six bits of the held modifiers
 record Bits (a b c d e f : Bool) : Type 0 where
   is_a : has (held a b c d e f) 0x0001 ≡ a
   is_b : has (held a b c d e f) 0x0002 ≡ b
@@ -111,7 +111,7 @@ bits_held false false false false true false = record { is_a = refl; is_b = refl
 bits_held false false false false false true = record { is_a = refl; is_b = refl; is_c = refl; is_d = refl; is_e = refl; is_f = refl }
 bits_held false false false false false false = record { is_a = refl; is_b = refl; is_c = refl; is_d = refl; is_e = refl; is_f = refl }
 
--- the modifiers to try that have the six bits of these
+-- the modifiers to test that have the same six bits
 abbrev like : ℕ → ℕ
 like mods = held (has mods 0x0001) (has mods 0x0002) (has mods 0x0004) (has mods 0x0008) (has mods 0x0010) (has mods 0x0100)
 
@@ -121,13 +121,13 @@ bits_like mods = bits_held (has mods 0x0001) (has mods 0x0002) (has mods 0x0004)
 abbrev sides : ℕ → ℕ → ℕ → ℕ → Bool → Bool → Bool
 sides either left right flags a b = if has flags either then (a || b) else (beq (has flags left) a && beq (has flags right) b)
 
--- the flags look at the six bits alone
+-- whether the flags of a key fit depends only on the six bits
 flags_like : (flags mods : ℕ) → flags_fit flags (like mods) ≡ flags_fit flags mods
 flags_like flags mods = let h = bits_like mods in
     λ i. beq (has flags 0x0010) (h.is_e i) && ((not (has flags 0x0100) || h.is_f i) && (not (has flags 0x0200) || not (h.is_f i)))
     && sides 0x0020 0x0001 0x0002 flags (h.is_a i) (h.is_b i) && sides 0x0040 0x0004 0x0008 flags (h.is_c i) (h.is_d i)
 
--- so does the character of a press
+-- the character of a press depends only on its code and the six bits
 char_like : (code mods : ℕ) → char_of_press (record { code = code; mods = like mods }) ≡ char_of_press (record { code = code; mods = mods })
 unfolding char_of_press
 char_like code mods = let h = bits_like mods in
@@ -139,7 +139,7 @@ fits_like key.Any code mods = refl
 fits_like (key.Char c) code mods = ap (λ o. option_map_or (nat_eq c) o false) (char_like code mods)
 fits_like (key.Virtual flags wanted) code mods = ap (λ b. nat_eq wanted code && b) (flags_like flags mods)
 
--- what all pass a member passes
+-- if all members of a list pass a test, each member passes it
 member_passes : (p : ℕ → Bool) (c : ℕ) (xs : List ℕ) → list_all p xs ≡ true → list_any (nat_eq c) xs ≡ true → p c ≡ true
 member_passes p c [] h m = cc
 member_passes p c (x ∷ xs) h m =
@@ -149,7 +149,7 @@ member_passes p c (x ∷ xs) h m =
       | inr other ↦ member_passes p c xs parts.1 (sym (ap (λ b. b || list_any (nat_eq c) xs) other) ∙ m)
     ]
 
--- a member of a list that is within another is a member of that
+-- if all codes of a table are in a list, each code of the table is in the list
 within : {R : Type 0} (code_of : R → ℕ) (code : ℕ) (codes : List ℕ) (table : List R) → list_all (λ row. list_any (nat_eq (code_of row)) codes) table ≡ true
     → list_any (λ row. nat_eq (code_of row) code) table ≡ true → list_any (nat_eq code) codes ≡ true
 within code_of code codes [] h m = cc
@@ -185,7 +185,7 @@ rows_known = refl
 letter_known : (code : ℕ) → is_letter code ≡ true → list_any (nat_eq code) all_codes ≡ true
 letter_known code h = within (λ row. row) code all_codes (range_with_len 65 26) letters_known (in_run code 65 26 (grind (arith, nat_tests)) (grind (arith, nat_tests)))
 
--- a press that gives a character has the code of a key with a name
+-- if a press produces a character, it has the code of a key with a name
 given_known : (code : ℕ) (shifted locked : Bool) (c : ℕ) → us_character code shifted locked ≡ Some c → list_any (nat_eq code) all_codes ≡ true
 given_known code shifted locked c e = elim (cases_Bool (is_letter code)) [
   | inl is ↦ letter_known code is
@@ -204,7 +204,7 @@ given_char : (c : ℕ) (o : Option ℕ) → option_map_or (nat_eq c) o false ≡
 given_char c None e = let absurd_case : false ≡ true = e in cc
 given_char c (Some d) e = (d, refl)
 
--- the code of a press that fits is one to try
+-- if a press fits a key, its code is one of the codes to test
 code_known : (b : RuleKey) (press : KeyPress) → b ≢ key.Any → key_fits b press ≡ true → list_any (nat_eq press.code) (codes_to_try b) ≡ true
 unfolding key_fits
 code_known key.Any press other e = absurd (other refl)
@@ -213,12 +213,12 @@ code_known (key.Virtual flags code) press other e =
     let same = eqb-true code press.code (and_parts (nat_eq code press.code) (flags_fit flags press.mods) e).0 in
     grind (arith, nat_tests, same)
 
--- either not one or the other
+-- if `not a || b` and `a` are true, `b` is true
 other_true : (a b : Bool) → (not a || b) ≡ true → a ≡ true → b ≡ true
 other_true true b h e = h
 other_true false b h e = let absurd_case : false ≡ true = e in cc
 
--- a key that covers another fits where it does
+-- if a key covers another, it fits each press that the other fits
 pub covering_fits : (a b : RuleKey) → covers_key a b ≡ true → b ≢ key.Any → (press : KeyPress) → key_fits b press ≡ true → key_fits a press ≡ true
 unfolding all_modifiers
 covering_fits a b covered other press e =

@@ -1,4 +1,4 @@
--- Only records that miss one place at most cover one where that place is narrowed.
+-- If a record covers another once one place is narrowed, it misses at most that place before.
 use Rattle.std.proofs.Common.{◌≡◌, ℕ, zero, suc, ◌+◌, ◌-◌, ◌≤◌, Bool, true, false, not, ◌&&◌, ◌||◌, List, [], ◌∷◌, ◌++◌, length, drop, Option, Some, None, refl, sym, ap, ◌∙◌, subst, arith, ◌⊎◌, inl, inr, cond, if◌then◌else◌}
 use Rattle.std.specs.Prelude.{nat_eq, nat_le, take, slice_get, slice_set, option_and_then}
 use Rattle.std.specs.List.{list_all, list_any, position_from}
@@ -35,7 +35,7 @@ few_missed place miss.Nowhere e = refl
 few_missed place (miss.At other) e = refl
 few_missed place miss.Several e = no_case _ (sym e)
 
--- where all that cover miss one place at most, the first that covers is among those
+-- if all records that cover miss at most one place, the first that covers is among the near records
 module _ (missed : Rule → Miss) (place : ℕ) (covers : Option Rule → Bool) (only : (q : Rule) → covers (Some q) ≡ true → is_at_most place (missed q) ≡ true) (get : ℕ → Option Rule) where
   abbrev passes : Near → Bool
   passes n = is_at_most place n.miss && covers (get n.rule)
@@ -70,7 +70,7 @@ module _ (missed : Rule → Miss) (place : ℕ) (covers : Option Rule → Bool) 
       let here : get from ≡ Some q = (let e : from ≡ from + 0 = omega arith in ap get e ∙ at 0) in
       one_among from q rules here (first_among (from + 1) rules (λ i. let e : (from + 1) + i ≡ from + suc i = omega arith in ap get e ∙ at (suc i)))
 
--- a range hangs on no other place but that of a `context` item
+-- the range of a pattern that is not a `context` item does not depend on the ranges of other places
 stated_same : (tables : Tables) (ra rb : List Range) (p : Pat) → hands_on p ≡ false → stated_range tables ra p ≡ stated_range tables rb p
 stated_same tables ra rb (pattern.Char c) e = refl
 stated_same tables ra rb (pattern.Mark m) e = refl
@@ -88,7 +88,7 @@ range_same : (tables : Tables) (ra rb : List Range) (given : Option Item) (p : P
 range_same tables ra rb (Some x) p e = refl
 range_same tables ra rb None p e = stated_same tables ra rb p e
 
--- places, counted from a number on, are the same but for one and `context` items
+-- places, counted from a number on, are equal apart from one place and the places of `context` items
 abbrev AreAlike : ℕ → ℕ → List Place → List Place → Type 0
 AreAlike place from [] [] = Unit {0}
 AreAlike place from [] (v ∷ vs) = ⊥
@@ -182,7 +182,7 @@ module _ (tables : Tables) (place : ℕ) where
         ]
   ]
 
-  -- of places that are covered once one is narrowed, only that one was missed
+  -- if patterns cover all places once one is narrowed, they missed only that place before
   only_place : (from : ℕ) (ps : List Pat) (us vs : List Place) → AreAlike place from us vs → cover_each tables ps vs ≡ true
       → (missed_from tables from ps us ≡ []) ⊎ ((missed_from tables from ps us ≡ place ∷ []) × (from ≤ place))
   only_place from [] us vs h c = inl refl
@@ -212,7 +212,7 @@ module _ (tables : Tables) (place : ℕ) where
       ap (is_at_most place) (cond-true (not using_keys || covers_key q.key r.key) (missed_last tables ps us) miss.Several third.1)
       ∙ (ap (is_at_most place) (cond-true (nat_le (length ps) (length us)) (miss_of (missed_from tables d ps (drop d us))) miss.Several fits) ∙ alone)
 
--- all places but one are narrowed alike
+-- narrowing a place does not change the items of other places
 given_same : (xs : Narrowing) (place i : ℕ) (given : Option Item) → nat_eq i place ≡ false → first_given (drop i xs) ≡ first_given (drop i (slice_set xs place given))
 given_same [] zero i given e = refl
 given_same [] (suc place) i given e = refl
@@ -221,7 +221,7 @@ given_same (x ∷ xs) zero (suc i) given e = refl
 given_same (x ∷ xs) (suc place) zero given e = refl
 given_same (x ∷ xs) (suc place) (suc i) given e = given_same xs place i given (grind (arith, nat_tests))
 
--- the first of the near records that covers under a narrowing is the least that does
+-- the first of the near records that covers under a narrowing is the least record that covers
 pub near_tell : (tables : Tables) (group : Group) (number : ℕ) (r : Rule) (place : ℕ) (x : Item) →
     first_near (λ n. is_at_most place n.miss && covers_if_any tables group.using_keys (places_from tables (narrowed nothing_narrowed place x) [] r.context) r (slice_get (take number group.rules) n.rule)) (near_before tables group number r)
     ≡ least_by tables group number r (narrowed nothing_narrowed place x)
@@ -232,7 +232,7 @@ near_tell tables group number r place x =
     (λ q c. near_covered tables place group.using_keys (places_from tables nothing_narrowed [] r.context) (places_from tables (narrowed nothing_narrowed place x) [] r.context) q r alike c)
     (slice_get (take number group.rules)) 0 (take number group.rules) (λ i. let e : 0 + i ≡ i = omega arith in ap (slice_get (take number group.rules)) e)
 
--- where a context has no `any`, its record splits nowhere
+-- if a context has no `any`, its record does not split at any place
 not_split : (tables : Tables) (given : Option Item) (p : Pat) → is_any p ≡ false → split_items tables given (Some p) ≡ None
 not_split tables (Some x) p e = refl
 not_split tables None (pattern.Any store) e = no_case _ e

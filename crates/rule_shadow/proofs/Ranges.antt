@@ -1,4 +1,4 @@
--- The items that a context that holds has caught are within the ranges of its places.
+-- The items that a context catches if it holds are within the ranges of its places.
 use Rattle.std.proofs.Common.{◌≡◌, ℕ, zero, suc, ◌+◌, Bool, true, false, not, ◌||◌, List, [], ◌∷◌, ◌++◌, map, drop, Option, Some, None, refl, sym, ap, ◌∙◌, subst, arith, inl, inr, if◌then◌else◌}
 use Rattle.std.specs.Prelude.{filter_map, slice_get, unwrap_or, is_some, option_and_then}
 use Rattle.std.specs.List.{list_any, cons_option}
@@ -19,21 +19,21 @@ use Rattle.rule_model.specs.Match.{is_item, same_item, item_of, item_caught, pla
 use Rattle.rule_model.specs.Tab.{tab, tab_options, tab_pattern, with_options, elements_of}
 use Rattle.rule_model.specs.System.{system_options}
 use Rattle.rule_model.proofs.PlainOptions.{content_of_other}
-use Rattle.rule_model.proofs.NamePlaces.{some_place}
+use Rattle.virtual_keys.proofs.NamePlaces.{some_place}
 use Rattle.rule_model.specs.Patterns.{is_matched}
 use Rattle.rule_shadow.specs.declared.cert.Range.{Range}
 use Rattle.rule_shadow.specs.declared.cert.Range.TheVariants as range
 use Rattle.rule_shadow.specs.declared.cert.Place.{Place}
 use Rattle.rule_shadow.specs.Places.{is_fixed, items_of, Narrowing, first_given, store_range, range_at, stated_range, range_of, places_from}
 
--- an item that is the same as another is that
+-- if `same_item` is true for two items, they are equal
 pub same_is : (x y : Item) → same_item x y ≡ true → x ≡ y
 same_is (item.Char c) (item.Char d) e = ap item.Char (eqb-true c d e)
 same_is (item.Char c) (item.Mark m) e = let absurd_case : false ≡ true = e in cc
 same_is (item.Mark m) (item.Char c) e = let absurd_case : false ≡ true = e in cc
 same_is (item.Mark m) (item.Mark n) e = ap item.Mark (eqb-true m n e)
 
--- an element that is the same as an item stands for it
+-- if an element is the same as an item, it represents the item
 stands_for : (x : Item) (e : Element) → is_item x e ≡ true → item_of e ≡ Some x
 stands_for (item.Char c) (element.Char d) h = ap (λ n. Some (item.Char n)) (sym (eqb-true c d h))
 stands_for (item.Char c) (element.Mark m) h = let absurd_case : false ≡ true = h in cc
@@ -53,7 +53,7 @@ more_items x (Some y) es h = elim (cases_Bool (same_item x y)) [
   | inr other ↦ ap (λ b. b || list_any (same_item x) es) other ∙ h
 ]
 
--- an item that is the same as some element is among the items
+-- if an item is the same as some element, it is among the items of the elements
 pub among_items : (x : Item) (es : List Element) → list_any (is_item x) es ≡ true → list_any (same_item x) (filter_map item_of es) ≡ true
 among_items x [] h = h
 among_items x (e ∷ es) h = elim (cases_Bool (is_item x e)) [
@@ -63,12 +63,12 @@ among_items x (e ∷ es) h = elim (cases_Bool (is_item x e)) [
   | inr other ↦ more_items x (item_of e) (filter_map item_of es) (among_items x es (sym (ap (λ b. b || list_any (is_item x) es) other) ∙ h))
 ]
 
--- a store that is no option has its elements at every moment
+-- an option without a value is `None`, so a store that is not an option has its elements in every state
 none_some : {X : Type 0} (o : Option X) → not (is_some o) ≡ true → o ≡ None
 none_some None h = refl
 none_some (Some x) h = let absurd_case : false ≡ true = h in cc
 
--- behind the stores stand the system options, which are options
+-- if a store is not an option, its content is its elements; the numbers after the stores are the system options, which are options
 fixed_elements : (options : List ℕ) (k n o : ℕ) (stores : List Store) → option_of o (slice_get (with_options options k stores ++ system_options) n) ≡ None
     → elements_of_store (slice_get (with_options options k stores ++ system_options) n) ≡ elements_of stores n
 fixed_elements options k zero o [] h = cc
@@ -84,7 +84,7 @@ fixed_content tables store values h =
     content_of_other values (options_before store (tab tables).stores) (slice_get (tab tables).stores store) other
     ∙ fixed_elements (tab_options tables) 0 store (options_before store (tab tables).stores) tables.stores other
 
--- a pattern takes an item exactly where it is matched
+-- a pattern takes an item exactly where `is_matched` is true for it
 pub takes_matched : (stores : List Store) (p : Pat) → takes_item (tab_pattern stores p) ≡ is_matched p
 takes_matched stores (pattern.Char c) = refl
 takes_matched stores (pattern.Mark m) = refl
@@ -105,7 +105,7 @@ module _ (tables : Tables) (values : List (List Element)) where
   IsWithin (range.Store store) x = list_any (same_item x) (items_of tables store) ≡ true
   IsWithin range.Unknown x = Unit {0}
 
-  -- what was caught by an item of a context is within the range that it has
+  -- if an item of a context caught an item, the caught item is within the range
   abbrev pub IsCaughtWithin : Range → Option Item → Type 0
   IsCaughtWithin r None = Unit {0}
   IsCaughtWithin r (Some x) = IsWithin r x
@@ -122,7 +122,7 @@ module _ (tables : Tables) (values : List (List Element)) where
   one_more_caught (s ∷ rs) [] r c h k = absurd h
   one_more_caught (s ∷ rs) (d ∷ cs) r c h k = (h.0, one_more_caught rs cs r c h.1 k)
 
-  -- what was caught before
+  -- an item that was caught before is within the range at its position
   caught_at : (rs : List Range) (cs : List Catch) (n : ℕ) (x : Item) → AreCaughtWithin rs cs → option_and_then (λ (c : Catch). c.item) (slice_get cs n) ≡ Some x → IsWithin (unwrap_or (slice_get rs n) range.Unknown) x
   caught_at [] [] n x h e = let absurd_case : None ≡ Some x = e in cc
   caught_at [] (c ∷ cs) n x h e = absurd h
@@ -165,7 +165,7 @@ module _ (tables : Tables) (values : List (List Element)) where
   mark_is (item.Char d) c e = let absurd_case : false ≡ true = e in cc
   mark_is (item.Mark n) m e = ap item.Mark (eqb-true n m e)
 
-  -- an item that a pattern matches is within the range that the pattern states
+  -- if a pattern matches an item, the item is within the range that the pattern states
   stated_within : (rs : List Range) (cs : List Catch) (p : Pat) (x : Item) → AreCaughtWithin rs cs
       → matches (content (tab tables).stores values) cs (tab_pattern tables.stores p) x ≡ true → IsWithin (stated_range tables rs p) x
   stated_within rs cs (pattern.Char c) x h e = char_is x c e
@@ -180,7 +180,7 @@ module _ (tables : Tables) (values : List (List Element)) where
   stated_within rs cs (pattern.SystemUnequal s v) x h e = tt
   stated_within rs cs pattern.Nul x h e = tt
 
-  -- an item is the one to which its place is narrowed, if it is
+  -- an item is the one to which its place is narrowed, if the place is narrowed
   abbrev pub IsGiven : Option Item → Item → Type 0
   IsGiven None x = Unit {0}
   IsGiven (Some y) x = x ≡ y
@@ -204,7 +204,7 @@ module _ (tables : Tables) (values : List (List Element)) where
   rest_agrees [] x text h = tt
   rest_agrees (given ∷ narrowing) x text h = h.1
 
-  -- what an `any` and a `notany` say of an item at this moment
+  -- an item matches an `any` or a `notany` in this state; other patterns allow each item
   abbrev pub IsMet : Pat → Item → Type 0
   IsMet (pattern.Any store) x = is_some (place_of x (content (tab tables).stores values (Numbered store))) ≡ true
   IsMet (pattern.NotAny store) x = not (is_some (place_of x (content (tab tables).stores values (Numbered store)))) ≡ true
@@ -223,7 +223,7 @@ module _ (tables : Tables) (values : List (List Element)) where
   met cs (pattern.SystemUnequal s v) x e = tt
   met cs pattern.Nul x e = tt
 
-  -- the items of a text stand at places as these say
+  -- the items of a text are within the ranges of the places and match their patterns
   abbrev pub AreAt : List Place → List Item → Type 0
   AreAt [] [] = Unit {0}
   AreAt [] (x ∷ text) = ⊥
@@ -233,7 +233,7 @@ module _ (tables : Tables) (values : List (List Element)) where
   abbrev now : List Catch → Pat → Item → Bool
   now cs p x = matches (content (tab tables).stores values) cs (tab_pattern tables.stores p) x
 
-  -- what is said of a context behind what was caught
+  -- the items that a context catches are at its places, given what was caught before
   abbrev Stands : List Pat → Type 0
   Stands context =
       (narrowing : Narrowing) (rs : List Range) (cs : List Catch) (text : List Item) (r : List Catch) → AreCaughtWithin rs cs → Agrees narrowing text
@@ -261,7 +261,7 @@ module _ (tables : Tables) (values : List (List Element)) where
         | inr no_x ↦ let absurd_case : None ≡ Some r = sym (cond-false (now cs p x) (rest_caught context cs catch text) None no_x) ∙ e in cc
       ]
 
-  -- the items that a context catches stand at its places
+  -- the items that a context catches are at its places
   pub caught_stand : (context : List Pat) → Stands context
   caught_stand [] narrowing rs cs [] r h a e = tt
   caught_stand [] narrowing rs cs (x ∷ text) r h a e = let absurd_case : None ≡ Some r = e in cc

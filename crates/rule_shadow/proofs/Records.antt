@@ -1,4 +1,4 @@
--- A record that covers another holds wherever the other does.
+-- If a record covers another, it holds whenever the other holds.
 use Rattle.std.proofs.Common.{◌≡◌, ◌≢◌, ℕ, zero, suc, ◌+◌, ◌-◌, ◌≤◌, Bool, true, false, not, ◌&&◌, ◌||◌, List, [], ◌∷◌, ◌++◌, length, map, drop, Option, Some, None, refl, sym, ap, ◌∙◌, arith, inl, inr, cond, if◌then◌else◌}
 use Rattle.std.specs.Prelude.{filter, is_some, nat_eq, nat_le}
 use Rattle.std.specs.List.{list_all, list_any}
@@ -12,7 +12,7 @@ use Rattle.kmn_base.specs.declared.items.Element.TheVariants as element
 use Rattle.kmn_base.specs.declared.keys.RuleKey.{RuleKey}
 use Rattle.kmn_base.specs.declared.keys.RuleKey.TheVariants as key
 use Rattle.kmn_base.specs.declared.keys.KeyPress.{KeyPress}
-use Rattle.rule_model.specs.Fits.{key_fits}
+use Rattle.virtual_keys.specs.Fits.{key_fits}
 use Rattle.rule_model.specs.declared.event_state.Catch.{Catch}
 use Rattle.rule_model.specs.declared.event_state.Caught.{Caught}
 use Rattle.rule_model.specs.declared.tables.Pat.{Pat}
@@ -40,7 +40,7 @@ use Rattle.rule_shadow.proofs.Ranges.{same_is, fixed_content, IsWithin, Agrees, 
 no_case : (P : Type 0) → false ≡ true → P
 no_case P e = cc
 
--- what all members pass a member passes
+-- if all members of a list pass a test, each member passes it
 pub member_passes : (p : Item → Bool) (x : Item) (xs : List Item) → list_all p xs ≡ true → list_any (same_item x) xs ≡ true → p x ≡ true
 member_passes p x [] h m = no_case _ m
 member_passes p x (y ∷ xs) h m =
@@ -87,7 +87,7 @@ module _ (tables : Tables) (values : List (List Element)) where
   fixed_place : (store : ℕ) (x : Item) → is_fixed tables store ≡ true → place_of x (elements_of tables.stores store) ≡ place_of x (has (Numbered store))
   fixed_place store x fixed = ap (place_of x) (sym (fixed_content tables store values fixed))
 
-  -- a pattern that covers an item matches it
+  -- if a pattern covers an item, it matches the item
   item_matched : (p : Pat) (x : Item) → covers_item tables p x ≡ true → (cs : List Catch) → matches has cs (tab_pattern tables.stores p) x ≡ true
   item_matched (pattern.Char c) x e cs = e
   item_matched (pattern.Mark m) x e cs = e
@@ -111,7 +111,7 @@ module _ (tables : Tables) (values : List (List Element)) where
   store_matched (pattern.NotAny a) (pattern.NotAny b) x e met cs = ap (λ s. not (is_some (place_of x (has (Numbered s))))) (eqb-true a b e) ∙ met
   store_matched p q x e met cs = cc
 
-  -- a pattern that covers a place matches the item there, whatever was caught before
+  -- if a pattern covers a place, it matches the item there, whatever was caught before
   pub place_matched : (p : Pat) (place : Place) (x : Item) → covers_place tables p place ≡ true → IsWithin tables values place.range x → IsMet tables values place.pattern x
       → (cs : List Catch) → matches has cs (tab_pattern tables.stores p) x ≡ true
   place_matched p place x e within met cs = elim (cases_Bool (same_store p place.pattern)) [
@@ -119,7 +119,7 @@ module _ (tables : Tables) (values : List (List Element)) where
     | inr other ↦ range_matched p place.range x (sym (ap (λ b. b || covers_range tables p place.range) other) ∙ e) within cs
   ]
 
-  -- patterns that cover places catch the items there
+  -- if patterns cover places, they catch the items there
   each_caught : (context : List Pat) (places : List Place) (text : List Item) (cs : List Catch) → length (patterns_of context) ≡ length places → cover_each tables (patterns_of context) places ≡ true → AreAt tables values places text
       → (r : List Catch) × (catches_from has cs (map (tab_pattern tables.stores) context) text ≡ Some r)
   each_caught [] [] [] cs n e h = (cs, refl)
@@ -163,7 +163,7 @@ module _ (tables : Tables) (values : List (List Element)) where
   at-length (place ∷ places) [] h = absurd h
   at-length (place ∷ places) (x ∷ text) h = ap suc (at-length places text h.2)
 
-  -- conditions
+  -- if two conditions are the same and one is true, the other is true
   condition_same : (p q : Pat) → same_condition tables p q ≡ true → is_true has (tab_pattern tables.stores q) ≡ true → is_true has (tab_pattern tables.stores p) ≡ true
   condition_same (pattern.Equal a v) (pattern.Equal b w) e h =
       let parts = and_parts (nat_eq a b) _ e in
@@ -224,7 +224,7 @@ nul-start stores (pattern.SystemEqual s v ∷ context) = nul-start stores contex
 nul-start stores (pattern.SystemUnequal s v ∷ context) = nul-start stores context
 nul-start stores (pattern.Nul ∷ context) = refl
 
--- what a record that holds gives
+-- the properties of a record that holds
 pub record Held (tables : Tables) (values : List (List Element)) (left : List Item) (press : KeyPress) (using_keys : Bool) (r : Rule) : Type 0 where
   pub conditions : list_all (is_true (content (tab tables).stores values)) (map (tab_pattern tables.stores) r.context) ≡ true
   pub room : has_room (map (tab_pattern tables.stores) r.context) left ≡ true
@@ -261,7 +261,7 @@ held_whole tables values left press using_keys r h =
     let context = map (tab_pattern tables.stores) r.context in
     λ i. is_some (if h.conditions i && h.room i then caught_by (h.caught i) (if h.key_fits_press i then Some None else None) else None)
 
--- there is room for a context
+-- if a left list has enough items for a context, it has one for each pattern
 enough_room : (stores : List Store) (context : List Pat) (left : List Item) → has_room (map (tab_pattern stores) context) left ≡ true → length (patterns_of context) ≤ length left
 enough_room stores context left h =
     let count = length-patterns stores context in
@@ -308,11 +308,11 @@ key_covered : (using_keys : Bool) (q r : RuleKey) (press : KeyPress) → (not us
 key_covered true q r press e other h = covering_fits q r e (other refl) press h
 key_covered false q r press e other h = h
 
--- the items that a record's patterns take of a list
+-- the items of a left list that the patterns of a record match: the last ones
 abbrev pub taken_items : Rule → List Item → List Item
 taken_items r left = drop (length left - length (patterns_of r.context)) left
 
--- a record that covers another holds where it does
+-- if a record covers another, it holds whenever the other holds
 pub covering_holds : (tables : Tables) (values : List (List Element)) (left : List Item) (press : KeyPress) (using_keys : Bool) (narrowing : Narrowing) (q r : Rule) (caught : Caught)
     → (using_keys ≡ true → r.key ≢ key.Any)
     → covers_rule tables using_keys (places_from tables narrowing [] r.context) q r ≡ true

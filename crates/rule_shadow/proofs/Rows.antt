@@ -25,7 +25,7 @@ covers_row tables group number r narrowing place (x ∷ xs) m (more_of-Cert part
     ap (λ b. covers_under tables group number r (narrowed narrowing place x) part && b) (covers_row tables group number r narrowing place xs _ parts)
 
 module _ (tables : Tables) (group : Group) (number : ℕ) (r : Rule) (narrowing : Narrowing) (place : ℕ) where
-  -- where no item is left, no part may be left
+  -- if no items are left, a certificate is valid exactly where no parts are left
   parts_ended : (parts : List Cert) (next : ℕ) → next ≤ length parts → covers_list tables group number r narrowing place [] (drop next parts) ≡ nat_eq next (length parts)
   parts_ended [] zero h = refl
   parts_ended [] (suc next) h = absurd (omega (arith, h))
@@ -43,7 +43,7 @@ abbrev row_of : Cert → (n : Count) × Row_of-Cert n
 row_of (Split' place _ row) = (_, row)
 row_of _ = (_, end_of-Cert)
 
--- what a certificate that splits says, by its parts in a list
+-- a certificate that splits is valid exactly where its parts in a list cover the items
 pub covers_split : (tables : Tables) (group : Group) (number : ℕ) (r : Rule) (narrowing : Narrowing) (place : ℕ) (parts : Vec Cert Global) (items : List Item) →
     items_at tables r narrowing place ≡ Some items → covers_under tables group number r narrowing (Split place parts) ≡ covers_list tables group number r narrowing place items parts.items
 covers_split tables group number r narrowing place parts items e =
@@ -63,7 +63,7 @@ all_by n end_of-Cert (q ∷ qs) e = cc
 all_by n (more_of-Cert part parts) [] e = cc
 all_by n (more_of-Cert part parts) (q ∷ qs) e = (one_by q part cc, all_by _ parts qs cc)
 
--- a certificate that splits says what was found
+-- a certificate that splits at a place by records states that `SplitAt` was found
 pub split_says : (place : ℕ) (parts : Vec Cert Global) (rules : List ℕ) → parts.items ≡ map By rules → Says (found.SplitAt place rules) (Some (Split place parts))
 split_says place parts rules e =
     let row = row_of (Split place parts) in

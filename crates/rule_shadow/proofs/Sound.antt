@@ -24,7 +24,7 @@ use Rattle.rule_model.specs.Match.{is_item, same_item, catches_from}
 use Rattle.rule_model.specs.Hold.{holds}
 use Rattle.rule_model.specs.Tab.{tab, tab_pattern, tab_rule, elements_of}
 use Rattle.rule_model.proofs.PlainOptions.{position-passes, position-fails}
-use Rattle.rule_model.proofs.NamePlaces.{some_place}
+use Rattle.virtual_keys.proofs.NamePlaces.{some_place}
 use Rattle.kmx_format.specs.Writable.{IsWritable, IsWritableRule, IsWritableGroup, IsWritableKey}
 use Rattle.rule_shadow.specs.declared.cert.Cert.{Cert, By, Split', Row_of-Cert, end_of-Cert, more_of-Cert}
 use Rattle.rule_shadow.specs.declared.cert.Place.{Place}
@@ -43,14 +43,14 @@ all_at P xs k x h e = elim (slice_get_cases xs k).1 [
   | inr past ↦ let absurd_case : None ≡ Some x = sym past.1 ∙ e in cc
 ]
 
--- the contexts of writable tables have few items
+-- the contexts of writable tables have at most `CONTEXT_ITEMS` items
 pub context_fits : (tables : Tables) (n number : ℕ) (group : Group) (r : Rule) → IsWritable tables → slice_get tables.groups n ≡ Some group → slice_get group.rules number ≡ Some r → length r.context ≤ CONTEXT_ITEMS
 context_fits tables n number group r writable at here =
     let written = all_at (IsWritableGroup (length tables.stores) (length tables.groups)) tables.groups n group writable.groups at in
     let rule_written = all_at (IsWritableRule (length tables.stores) (length tables.groups) group.using_keys) group.rules number r written.rules here in
     rule_written.context.item_count
 
--- a record of writable tables has a key in a group with keys
+-- if a group of writable tables uses keys, each of its records has a key
 pub has_key : (using_keys : Bool) (k : RuleKey) → IsWritableKey using_keys k → using_keys ≡ true → k ≢ key.Any
 has_key true key.Any w e is = w
 has_key true (key.Char c) w e is = cc
@@ -70,13 +70,13 @@ places-patterns tables narrowing rs (p ∷ context) =
     at false g h = h
 
 module _ (tables : Tables) (group : Group) (values : List (List Element)) (left : List Item) (press : KeyPress) where
-  -- some record of a lesser number holds
+  -- some earlier record holds
   abbrev HeldBefore : ℕ → Type 0
   HeldBefore number = (by : ℕ) × (q : Rule) × (by < number) × (slice_get group.rules by ≡ Some q) × (is_held tables group values left press q ≡ true)
 
   module _ (number : ℕ) (r : Rule) (keyed : group.using_keys ≡ true → r.key ≢ key.Any) (caught : Caught)
       (e : holds (content (tab tables).stores values) left press (tab_rule tables.stores group.using_keys r) ≡ Some caught) where
-    -- so does a record that covers one which holds
+    -- if an earlier record covers a record that holds, it holds too
     pub named_holds : (narrowing : Narrowing) (by : ℕ) (o : Option Rule) → slice_get group.rules by ≡ o → by < number
         → covers_if_any tables group.using_keys (places_from tables narrowing [] r.context) r o ≡ true → Agrees tables values narrowing (taken_items r left)
         → (q : Rule) × (by < number) × (slice_get group.rules by ≡ Some q) × (is_held tables group values left press q ≡ true)
@@ -84,7 +84,7 @@ module _ (tables : Tables) (group : Group) (values : List (List Element)) (left 
     named_holds narrowing by (Some q) is less covered agrees =
         (q, less, is, covering_holds tables values left press group.using_keys narrowing q r caught keyed covered agrees e)
 
-    -- the item at a place whose pattern is an `any` is met by it
+    -- if the pattern at a place is an `any`, the item at the place matches it
     at_pattern : (places : List Place) (text : List Item) (k : ℕ) (p : Pat) → AreAt tables values places text → slice_get (map (λ (place : Place). place.pattern) places) k ≡ Some p
         → (x : Item) × (slice_get text k ≡ Some x) × IsMet tables values p x
     at_pattern [] text k p h is = let absurd_case : None ≡ Some p = is in cc
@@ -99,7 +99,7 @@ module _ (tables : Tables) (group : Group) (values : List (List Element)) (left 
     narrowed_agrees (given ∷ narrowing) (z ∷ text) zero x y h at same = (same_Some z x at ∙ same, h.1)
     narrowed_agrees (given ∷ narrowing) (z ∷ text) (suc k) x y h at same = (h.0, narrowed_agrees narrowing text k x y h.1 at same)
 
-    -- where a certificate splits, the item at its place is one of those that it splits by
+    -- if a certificate splits at a place, the item at the place is one of the items that it splits by
     pub split_item : (narrowing : Narrowing) (k : ℕ) (o : Option Item) (p : Option Pat) (items : List Item) → split_items tables o p ≡ Some items → slice_get (patterns_of r.context) k ≡ p
         → Agrees tables values narrowing (taken_items r left) → (x : Item) × (slice_get (taken_items r left) k ≡ Some x) × (list_any (same_item x) items ≡ true)
     split_item narrowing k None (Some (pattern.Any store)) items is at agrees =
@@ -118,7 +118,7 @@ module _ (tables : Tables) (group : Group) (values : List (List Element)) (left 
         ]
     split_item narrowing k o p items is at agrees = cc
 
-    -- a certificate that splits has items to split by
+    -- if a certificate that splits is valid, it has items to split by
     has_items : {m : _} (narrowing : Narrowing) (k : ℕ) (o : Option (List Item)) (parts : Row_of-Cert m) → covers_parts tables group number r narrowing k o parts ≡ true → (items : List Item) × (o ≡ Some items)
     has_items narrowing k None parts covered = let absurd_case : false ≡ true = covered in cc
     has_items narrowing k (Some items) parts covered = (items, refl)
@@ -159,7 +159,7 @@ not_first : (o : Option ℕ) → option_map (λ i. 1 + i) o ≢ Some 0
 not_first None e = cc
 not_first (Some m) e = let h = same_Some (1 + m) 0 e in absurd (omega (arith, h))
 
--- what stands at the first place passes
+-- if `position` returns a place, the item there passes
 first_is : {X : Type 0} (p : X → Bool) (xs : List X) (n : ℕ) → position p xs ≡ Some n → (x : X) × (slice_get xs n ≡ Some x) × (p x ≡ true)
 first_is p [] n e = let absurd_case : None ≡ Some n = e in cc
 first_is p (x ∷ xs) zero e = elim (cases_Bool (p x)) [
@@ -171,7 +171,7 @@ first_is p (x ∷ xs) (suc n) e = elim (cases_Bool (p x)) [
   | inr no_x ↦ first_is p xs n (moved (position p xs) n (sym (position-fails p x xs no_x) ∙ e))
 ]
 
--- nothing before it does
+-- no item before the place that `position` returns passes
 none_before : {X : Type 0} (p : X → Bool) (xs : List X) (n k : ℕ) (y : X) → position p xs ≡ Some n → k < n → slice_get xs k ≡ Some y → p y ≡ true → ⊥
 none_before p [] n k y e less at passes = let absurd_case : None ≡ Some n = e in cc
 none_before p (x ∷ xs) zero k y e less at passes = absurd (omega (arith, less))

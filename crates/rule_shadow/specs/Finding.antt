@@ -1,4 +1,4 @@
--- The certificate that is searched for, as plain numbers.
+-- The certificate that the search returns, as plain numbers.
 use Rattle.std.specs.Prelude.{◌≡◌, ℕ, ◌+◌, if◌then◌else◌, List, [], ◌∷◌, ◌++◌, take, slice_get, Option, Some, None, option_and_then}
 use Rattle.std.specs.List.{position_from}
 use Rattle.kmn_base.specs.declared.items.Item.{Item}
@@ -13,23 +13,23 @@ use Rattle.rule_shadow.specs.declared.cert.Cert.{Cert, By, Split', Row_of-Cert, 
 use Rattle.rule_shadow.specs.Places.{Narrowing, places_from}
 use Rattle.rule_shadow.specs.Covers.{covers_rule, items_at, narrowed, nothing_narrowed}
 
--- the least record before one that covers it under a narrowing
+-- the lowest number of an earlier record that covers a record under a narrowing
 abbrev pub least_by : Tables → Group → ℕ → Rule → Narrowing → Option ℕ
 least_by tables group number r narrowing =
     position_from (λ q. covers_rule tables group.using_keys (places_from tables narrowing [] r.context) q r) 0 (take number group.rules)
 
--- one more of the least records, or none where there is none
+-- what `rest` finds once the next least record is appended to `seen`; `None` if there is no such record
 abbrev pub least_then : Option ℕ → (List ℕ → Option (List ℕ)) → List ℕ → Option (List ℕ)
 least_then None rest seen = None
 least_then (Some q) rest seen = rest (seen ++ q ∷ [])
 
--- the least record for each item to which a place is narrowed, behind those seen; None where an item has none
+-- the least record for each item to which a place is narrowed, after the records in `seen`; `None` if an item has no such record
 abbrev pub least_onto : Tables → Group → ℕ → Rule → ℕ → List Item → List ℕ → Option (List ℕ)
 least_onto tables group number r place [] seen = Some seen
 least_onto tables group number r place (x ∷ xs) seen =
     least_then (least_by tables group number r (narrowed nothing_narrowed place x)) (least_onto tables group number r place xs) seen
 
--- the least records by which it splits at a place
+-- the least records by which a record splits at a place
 abbrev pub split_rules : Tables → Group → ℕ → Rule → ℕ → Option (List ℕ)
 split_rules tables group number r place =
     option_and_then (λ items. least_onto tables group number r place items []) (items_at tables r nothing_narrowed place)
@@ -38,7 +38,7 @@ abbrev pub split_or : Option (List ℕ) → ℕ → Found → Found
 split_or None place other = other
 split_or (Some rules) place other = finding.SplitAt place rules
 
--- the first place, from one on, at which it splits
+-- the first place, from one on, at which a record splits
 abbrev pub first_split : Tables → Group → ℕ → Rule → ℕ → List Pat → Found
 first_split tables group number r place [] = finding.NotFound
 first_split tables group number r place (p ∷ ps) =
@@ -50,11 +50,11 @@ abbrev pub by_or : Option ℕ → Found → Found
 by_or None other = other
 by_or (Some q) other = finding.ByRule q
 
--- the least record that covers one, else the first place at which it splits by least records
+-- the least record that covers a record, or if there is none, the first place at which it splits by least records
 abbrev pub found_for : Tables → Group → ℕ → Rule → Found
 found_for tables group number r = by_or (least_by tables group number r nothing_narrowed) (first_split tables group number r 0 r.context)
 
--- what is found for a record that there may be, and for the record of a number in a group that there may be
+-- what is found for an optional record, and (`found_in`) for the record of a number in an optional group
 abbrev pub found_if_any : Tables → Group → ℕ → Option Rule → Found
 found_if_any tables group number None = finding.NotFound
 found_if_any tables group number (Some r) = found_for tables group number r
@@ -79,7 +79,7 @@ AreBy [] (more_of-Cert part parts) = ⊥
 AreBy (q ∷ qs) end_of-Cert = ⊥
 AreBy (q ∷ qs) (more_of-Cert part parts) = IsBy q part × AreBy qs parts
 
--- a certificate says what was found
+-- a certificate states what was found
 abbrev pub Tells : Found → Cert → Type 0
 Tells finding.NotFound cert = ⊥
 Tells (finding.ByRule q) (By p) = p ≡ q

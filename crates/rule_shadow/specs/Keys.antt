@@ -4,19 +4,19 @@ use Rattle.std.specs.List.{list_all}
 use Rattle.kmn_base.specs.declared.keys.RuleKey.{RuleKey}
 use Rattle.kmn_base.specs.declared.keys.RuleKey.TheVariants as key
 use Rattle.kmn_base.specs.declared.keys.KeyPress.{KeyPress}
-use Rattle.rule_model.specs.Fits.{key_fits}
-use Rattle.rule_model.specs.Keys.{key_codes}
+use Rattle.virtual_keys.specs.Fits.{key_fits}
+use Rattle.virtual_keys.specs.Keys.{key_codes}
 
--- all sums of some of these numbers
+-- the sums of all subsets of these numbers
 abbrev pub sums_of : List ℕ → List ℕ
 sums_of [] = 0 ∷ []
 sums_of (bit ∷ bits) = sums_of bits ++ map (λ sum. bit + sum) (sums_of bits)
 
--- the modifiers that can be held, in every way: the four sides, shift and caps lock
+-- all combinations of the modifiers that can be held: control and alt of each side, shift and caps lock
 unfoldable pub all_modifiers : List ℕ
 all_modifiers = sums_of (0x0001 ∷ 0x0002 ∷ 0x0004 ∷ 0x0008 ∷ 0x0010 ∷ 0x0100 ∷ [])
 
--- those of them without control and alt
+-- the combinations without control and alt
 unfoldable pub plain_modifiers : List ℕ
 plain_modifiers = sums_of (0x0010 ∷ 0x0100 ∷ [])
 
@@ -24,7 +24,7 @@ plain_modifiers = sums_of (0x0010 ∷ 0x0100 ∷ [])
 unfoldable pub all_codes : List ℕ
 all_codes = map (λ row. row.1) key_codes
 
--- the codes that a press which fits a key can have, where it gives a character one that every keyboard has
+-- the codes to test for a key: the code of a virtual key, or all codes, since a press that produces a character has one of them
 abbrev pub codes_to_try : RuleKey → List ℕ
 codes_to_try (key.Virtual flags code) = code ∷ []
 codes_to_try wanted = all_codes
@@ -33,11 +33,11 @@ codes_to_try wanted = all_codes
 abbrev pub presses_of : List ℕ → ℕ → List KeyPress
 presses_of modifiers code = map (λ mods. record { code = code; mods = mods }) modifiers
 
--- each press of a code that fits the second key fits the first
+-- whether each press of a code that fits the second key fits the first
 abbrev pub tried_with : RuleKey → RuleKey → ℕ → Bool
 tried_with a b code = list_all (λ press. not (key_fits b press) || key_fits a press) (presses_of all_modifiers code)
 
--- each press to try that fits the second key fits the first
+-- whether each press to test that fits the second key fits the first
 abbrev pub covers_key : RuleKey → RuleKey → Bool
 covers_key a b = list_all (tried_with a b) (codes_to_try b)
 
@@ -45,7 +45,7 @@ covers_key a b = list_all (tried_with a b) (codes_to_try b)
 abbrev pub fitting_of : RuleKey → List ℕ → List ℕ → List KeyPress
 fitting_of b modifiers codes = flat_map (λ code. filter (key_fits b) (presses_of modifiers code)) codes
 
--- the presses to try that fit a key; with control or alt a press gives no character
+-- the presses to test that fit a key; a press with control or alt does not produce a character
 abbrev pub fitting_presses : RuleKey → List KeyPress
 fitting_presses key.Any = fitting_of key.Any all_modifiers all_codes
 fitting_presses (key.Char c) = fitting_of (key.Char c) plain_modifiers all_codes

@@ -13,7 +13,7 @@ use kmn_base::limits::CONTEXT_ITEMS;
 use kmn_base::{Element, Item};
 use rule_model::{Pat, item_of};
 
-/// A pattern of a context by its place.
+/// Returns the pattern at a position of a context. Positions count only patterns, from 0.
 fn pattern_at(context: &[Pat], place: u32) -> Option<Pat>
     ensures { result ≡ slice_get (patterns_of context.now) place }
 {
@@ -29,14 +29,15 @@ fn pattern_at(context: &[Pat], place: u32) -> Option<Pat>
     pattern_at(rest, place - 1)
 }
 
-/// The item to which a place is narrowed.
+/// Returns the item to which a narrowing restricts a position, if any.
 fn given_at(narrowing: &[Option<Item>], place: u32) -> Option<Item>
     ensures { result ≡ option_flatten (slice_get narrowing.now place) }
 {
     narrowing.get(place as usize).copied().flatten()
 }
 
-/// The store by whose items a certificate may split at a place.
+/// Returns the store whose items a certificate may split by at a position: the store of an `any`, if the store is not an option
+/// and the position is not narrowed.
 pub fn split_store(subject: &Subject, narrowing: &[Option<Item>], place: u32) -> Option<u32>
     ensures { option_map (items_of subject.now.tables.now) result ≡ items_at subject.now.tables.now subject.now.rule.now narrowing.now place }
 {
@@ -55,14 +56,14 @@ pub fn split_store(subject: &Subject, narrowing: &[Option<Item>], place: u32) ->
     }
 }
 
-/// No place is narrowed.
+/// Returns the narrowing that restricts no position.
 pub fn nothing_narrowed() -> [Option<Item>; CONTEXT_ITEMS]
     ensures { result ≡ nothing_narrowed }
 {
     [None; CONTEXT_ITEMS]
 }
 
-/// A narrowing with one place more.
+/// Returns a narrowing that also restricts a position to an item. A position past the longest context has no effect.
 pub fn narrowed(
     narrowing: &[Option<Item>; CONTEXT_ITEMS],
     place: u32,
@@ -78,7 +79,7 @@ pub fn narrowed(
     more
 }
 
-/// Whether the record of a number, which is less, covers a record under a narrowing.
+/// Returns whether record `by` is earlier than the subject and covers it under a narrowing.
 fn covers_by(subject: &Subject, narrowing: &[Option<Item>], by: u32) -> bool
     requires { length subject.now.rule.now.context ≤ CONTEXT_ITEMS }
     ensures { result ≡ covers_by subject.now.tables.now subject.now.group.now subject.now.number subject.now.rule.now narrowing.now by }
@@ -101,7 +102,8 @@ fn covers_by(subject: &Subject, narrowing: &[Option<Item>], by: u32) -> bool
     }
 }
 
-/// Whether there is a part for each item, and each part is so with the place narrowed to its item.
+/// Returns whether there is exactly one part for each item of a store, in order, and each part is valid with the position
+/// narrowed to its item. Virtual keys in the store are not items.
 #[cycle(certs)]
 fn covers_parts(
     subject: &Subject,
@@ -129,7 +131,7 @@ fn covers_parts(
     next == parts.len()
 }
 
-/// Whether what a certificate says of a record is so, under a narrowing.
+/// Returns whether a certificate is valid for the subject under a narrowing.
 #[cycle(certs)]
 #[tactic(auto, using(crate::proofs::Rows::covers_row))]
 pub fn covers_under(

@@ -10,7 +10,7 @@ use crate::key_cover::covers_key;
 use kmn_base::{Element, Item};
 use rule_model::{Pat, Rule, is_item, item_of};
 
-/// Whether a pattern matches an item whatever the moment.
+/// Returns whether a pattern matches an item in every state.
 fn covers_item(tables: &FlaggedTables, pattern: Pat, item: Item) -> bool
     ensures { result ≡ covers_item tables.now pattern item }
 {
@@ -23,7 +23,7 @@ fn covers_item(tables: &FlaggedTables, pattern: Pat, item: Item) -> bool
     }
 }
 
-/// Whether a pattern matches each item that stands for some element.
+/// Returns whether a pattern matches each item among the elements of a store.
 fn covers_items(tables: &FlaggedTables, pattern: Pat, elements: &[Element]) -> bool
     ensures { result ≡ list_all (covers_item tables.now pattern) (filter_map item_of elements.now) }
 {
@@ -37,7 +37,7 @@ fn covers_items(tables: &FlaggedTables, pattern: Pat, elements: &[Element]) -> b
     true
 }
 
-/// Whether a pattern matches each item of a range.
+/// Returns whether a pattern matches each item of a range.
 fn covers_range(tables: &FlaggedTables, pattern: Pat, range: Range) -> bool
     ensures { result ≡ covers_range tables.now pattern range }
 {
@@ -48,7 +48,7 @@ fn covers_range(tables: &FlaggedTables, pattern: Pat, range: Range) -> bool
     }
 }
 
-/// Whether two patterns are both `any` or both `notany` of one store.
+/// Returns whether two patterns are both `any` or both `notany` of one store.
 fn same_store(a: Pat, b: Pat) -> bool
     ensures { result ≡ same_store a b }
 {
@@ -59,14 +59,14 @@ fn same_store(a: Pat, b: Pat) -> bool
     }
 }
 
-/// Whether a pattern covers a place.
+/// Returns whether a pattern covers a position: it is the same `any` or `notany`, or it matches each item of the range.
 pub fn covers_place(tables: &FlaggedTables, pattern: Pat, place: Place) -> bool
     ensures { result ≡ covers_place tables.now pattern place }
 {
     same_store(pattern, place.pattern) || covers_range(tables, pattern, place.range)
 }
 
-/// Whether the patterns of a context cover places one by one.
+/// Returns whether each pattern of a context covers the position with its number.
 fn cover_each(tables: &FlaggedTables, context: &[Pat], places: &[Place]) -> bool
     ensures { result ≡ cover_each tables.now (patterns_of context.now) places.now }
 {
@@ -82,7 +82,7 @@ fn cover_each(tables: &FlaggedTables, context: &[Pat], places: &[Place]) -> bool
     covers_place(tables, *pattern, *place) && cover_each(tables, rest, behind)
 }
 
-/// How many patterns a context has.
+/// Returns the number of patterns of a context.
 pub fn pattern_count(context: &[Pat]) -> usize
     ensures { result ≡ length (patterns_of context.now) }
 {
@@ -92,7 +92,7 @@ pub fn pattern_count(context: &[Pat]) -> usize
         .count()
 }
 
-/// Whether the patterns of a context cover the last places.
+/// Returns whether the patterns of a context cover the last positions, one by one.
 pub fn cover_last(tables: &FlaggedTables, context: &[Pat], places: &[Place]) -> bool
     ensures { result ≡ cover_last tables.now (patterns_of context.now) places.now }
 {
@@ -103,7 +103,7 @@ pub fn cover_last(tables: &FlaggedTables, context: &[Pat], places: &[Place]) -> 
     cover_each(tables, context, &places[places.len() - count..])
 }
 
-/// Whether a condition is the same as another.
+/// Returns whether two conditions are the same: one option or system id, one comparison, and equal values.
 fn same_condition(tables: &FlaggedTables, a: Pat, b: Pat) -> bool
     ensures { result ≡ same_condition tables.now a b }
 {
@@ -118,7 +118,7 @@ fn same_condition(tables: &FlaggedTables, a: Pat, b: Pat) -> bool
     }
 }
 
-/// Whether two values are the same, element by element.
+/// Returns whether two values are equal, element by element.
 #[tactic(auto, using(rule_model::proofs::SameElements::equal_values))]
 fn same_value(value: &[Element], other: &[Element]) -> bool
     ensures { result ≡ same_value value.now other.now }
@@ -126,7 +126,7 @@ fn same_value(value: &[Element], other: &[Element]) -> bool
     value == other
 }
 
-/// Whether a context has a condition.
+/// Returns whether a context has a condition.
 fn has_condition(tables: &FlaggedTables, condition: Pat, context: &[Pat]) -> bool
     ensures { result ≡ list_any (same_condition tables.now condition) context.now }
 {
@@ -138,7 +138,7 @@ fn has_condition(tables: &FlaggedTables, condition: Pat, context: &[Pat]) -> boo
     false
 }
 
-/// Whether an item of a context, where it is a condition, is one of another context's.
+/// Returns whether an item is not a condition, or a context has the same condition.
 fn is_condition_of(tables: &FlaggedTables, context: &[Pat], item: Pat) -> bool
     ensures { result ≡ is_condition_of tables.now context.now item }
 {
@@ -149,7 +149,7 @@ fn is_condition_of(tables: &FlaggedTables, context: &[Pat], item: Pat) -> bool
     }
 }
 
-/// Whether each condition of a context is one of another context's.
+/// Returns whether a context has each condition of another context, `items`.
 pub fn conditions_too(tables: &FlaggedTables, context: &[Pat], items: &[Pat]) -> bool
     ensures { result ≡ list_all (is_condition_of tables.now context.now) items.now }
 {
@@ -161,7 +161,7 @@ pub fn conditions_too(tables: &FlaggedTables, context: &[Pat], items: &[Pat]) ->
     true
 }
 
-/// Whether a context has a `nul`.
+/// Returns whether a context has a `nul`.
 fn has_nul(context: &[Pat]) -> bool
     ensures { result ≡ list_any is_nul context.now }
 {
@@ -173,14 +173,14 @@ fn has_nul(context: &[Pat]) -> bool
     false
 }
 
-/// Whether a context that has a `nul` is kept to by one with a `nul` and as many patterns.
+/// Returns whether context `a` has no `nul`, or context `b` has one too and as many patterns as `a`.
 pub fn keeps_nul(a: &[Pat], b: &[Pat]) -> bool
     ensures { result ≡ keeps_nul a.now b.now }
 {
     !has_nul(a) || (has_nul(b) && pattern_count(a) == pattern_count(b))
 }
 
-/// Whether a record holds wherever another one holds, whose places have these ranges.
+/// Returns whether record `q` covers record `r`, whose positions have these ranges: `q` holds whenever `r` holds.
 pub fn covers_rule(
     tables: &FlaggedTables,
     using_keys: bool,

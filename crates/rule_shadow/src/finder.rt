@@ -15,7 +15,7 @@ use rule_model::Tables;
 use std::alloc::Global;
 use std::marker::Model;
 
-/// Whether what a certificate says of a record is so.
+/// Returns whether a certificate is valid for a record. If no record has these numbers, returns `false`.
 #[tactic(auto, using(crate::proofs::Sound::context_fits))]
 fn covers_in(tables: &FlaggedTables, group: u32, rule: u32, cert: &Cert) -> bool
     requires { IsWritable tables.now }
@@ -37,7 +37,7 @@ fn covers_in(tables: &FlaggedTables, group: u32, rule: u32, cert: &Cert) -> bool
     covers_under(&subject, &nothing_narrowed(), cert)
 }
 
-/// What is found for a record.
+/// Returns what covers a record. If no record has these numbers, returns `NotFound`.
 #[tactic(auto, using(crate::proofs::Sound::context_fits))]
 fn found_in(alloc: Global, tables: &FlaggedTables, group: u32, rule: u32) -> Result<Found, Memory>
     requires { IsWritable tables.now }
@@ -59,7 +59,7 @@ fn found_in(alloc: Global, tables: &FlaggedTables, group: u32, rule: u32) -> Res
     found_for(alloc, &subject)
 }
 
-/// Tables with what a search looks up again and again. Contracts see the tables.
+/// Tables with the indexes that each search uses: option flags and item sets. Contracts see the tables.
 #[derive(Drop)]
 pub struct Finder<'a> {
     tables: &'a Tables,
@@ -84,7 +84,9 @@ impl<'a> Model for Finder<'a> {
 }
 
 impl<'a> Finder<'a> {
-    /// Looks up what searches in tables need.
+    /// Creates a finder: computes the option flags and the item sets of the tables.
+    ///
+    /// Errors: `Memory` if an allocation fails.
     pub fn new(alloc: Global, tables: &'a Tables) -> Result<Finder<'a>, Memory>
         requires { IsWritable tables.now }
         ensures { IfOk result (λ finder. finder ≡ tables.now) }
@@ -98,7 +100,7 @@ impl<'a> Finder<'a> {
         })
     }
 
-    /// The tables with what was looked up.
+    /// Returns the tables with the flags and the sets.
     fn flagged(&self) -> FlaggedTables<'_>
         ensures flagged { result ≡ self.now }
         ensures writable { IsWritable self.now }
@@ -106,7 +108,9 @@ impl<'a> Finder<'a> {
         FlaggedTables::new(self.tables, self.flags.as_slice(), &self.sets)
     }
 
-    /// What is found for the record of a number in the group of a number, both counted from 0; nothing where there is none.
+    /// Returns what covers record `rule` of group `group`, both counted from 0. If there is no such record, returns `NotFound`.
+    ///
+    /// Errors: `Memory` if an allocation fails.
     pub fn found(&self, alloc: Global, group: u32, rule: u32) -> Result<Found, Memory>
         ensures { IfOk result (λ f. f ≡ found self.now group rule) }
     {
@@ -114,7 +118,9 @@ impl<'a> Finder<'a> {
         found_in(alloc, &tables, group, rule)
     }
 
-    /// A certificate that says what is found, None where nothing is. `covers` accepts it.
+    /// Returns the result of `found` as a certificate, which `covers` accepts, or `None` if nothing is found.
+    ///
+    /// Errors: `Memory` if an allocation fails.
     pub fn find(&self, alloc: Global, group: u32, rule: u32) -> Result<Option<Cert>, Memory>
         ensures says { IfOk result (Says (found self.now group rule)) }
         ensures right { IfOk result (λ found. IfSome found (λ cert. covers self.now group rule cert ≡ true)) }
@@ -123,7 +129,7 @@ impl<'a> Finder<'a> {
         certificate(alloc, found)
     }
 
-    /// Whether what a certificate says of a record is so. A number that is too large is false.
+    /// Returns whether a certificate is valid for a record. If no record has these numbers, returns `false`.
     pub fn covers(&self, group: u32, rule: u32, cert: &Cert) -> bool
         ensures { result ≡ covers self.now group rule cert.now }
     {
@@ -132,8 +138,10 @@ impl<'a> Finder<'a> {
     }
 }
 
-/// A certificate that says what is found for the record of a number in the group of a number, None where nothing is. `covers`
-/// of the same tables and numbers accepts it.
+/// Returns a certificate for record `rule` of group `group`, or `None` if nothing is found. `covers` accepts it for the same
+/// tables and numbers.
+///
+/// Errors: `Memory` if an allocation fails.
 pub fn find(alloc: Global, tables: &Tables, group: u32, rule: u32) -> Result<Option<Cert>, Memory>
     requires { IsWritable tables.now }
     ensures says { IfOk result (Says (found tables.now group rule)) }
@@ -143,8 +151,8 @@ pub fn find(alloc: Global, tables: &Tables, group: u32, rule: u32) -> Result<Opt
     finder.find(alloc, group, rule)
 }
 
-/// Whether what a certificate says of the record of a number in the group of a number is so. It trusts nothing of what
-/// made the certificate, and takes no memory. A number that is too large is false.
+/// Returns whether a certificate is valid for record `rule` of group `group`. Does not rely on the code that made the
+/// certificate, and does not allocate. If no record has these numbers, returns `false`.
 #[tactic(auto, using(crate::proofs::Flags::marked_tell))]
 pub fn covers(tables: &Tables, group: u32, rule: u32, cert: &Cert) -> bool
     requires { IsWritable tables.now }

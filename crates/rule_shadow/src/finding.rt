@@ -1,4 +1,5 @@
-//! What covers a record: the least record before it, or the first place at which least records cover it item by item.
+//! Finds what covers a record: the first earlier record that covers it, or the first position at which earlier records cover it
+//! item by item.
 
 ghost use Rattle.std.specs.Prelude.{◌≡◌, ◌≤◌, ◌<◌, ◌^◌, ◌+◌, ◌&&◌, [], length, take, slice_get, IfOk, filter_map, map};
 ghost use Rattle.std.specs.List.{list_any, position_from};
@@ -20,21 +21,23 @@ use crate::place_list::places;
 use crate::subject::Subject;
 use kmn_base::limits::CONTEXT_ITEMS;
 use kmn_base::{Element, Item, Memory, Seq};
-use rule_model::{Pat, Pressed, Rule, item_of};
+use rule_model::{Pat, Rule, item_of};
 use std::alloc::Global;
+use virtual_keys::Pressed;
 
-/// What is found for a record: a record that covers it, a place with a record for each item, or nothing.
+/// What covers a record: one record, or a position with a record for each item, or nothing.
 #[derive(Drop)]
 pub enum Found {
     NotFound,
-    /// The least number of a record that covers it.
+    /// The lowest number of a record that covers it.
     ByRule(u32),
-    /// A place, counted from 0, and for each item of its store the least number of a record that covers it there.
+    /// A position, counted from 0, and for each item of its store the lowest number of a record that covers it with the
+    /// position narrowed to the item.
     SplitAt(u32, Seq<u32>),
 }
 
-/// What the search for a split goes by: the record, the presses to try that fit its key, and the records before it that miss
-/// one of its places at most.
+/// The input of the search for a split: the record, the presses to test that fit its key, and the earlier records that miss at
+/// most one of its positions.
 #[derive(Clone, Copy)]
 struct Search<'a> {
     subject: &'a Subject<'a>,
@@ -42,7 +45,8 @@ struct Search<'a> {
     near: &'a [Near],
 }
 
-/// Whether a record covers one whose places have these ranges. What most often fails is asked first: the first press.
+/// Returns whether record `q` covers the subject, whose positions have these ranges. The keys are compared first, since most
+/// records fail at the first press.
 #[tactic(auto, using(crate::proofs::Counts::asked_first, crate::proofs::Tried::fitting_tell))]
 fn covers_record(subject: &Subject, presses: &[Pressed], places: &[Place], q: &Rule) -> bool
     requires { presses.now ≡ fitting_presses subject.now.rule.now.key }
@@ -56,7 +60,7 @@ fn covers_record(subject: &Subject, presses: &[Pressed], places: &[Place], q: &R
         && conditions_too(subject.tables, of_r, of_q)
 }
 
-/// The first of some records that covers one.
+/// Returns the number of the first of some records that covers the subject.
 fn first_covering(
     subject: &Subject,
     presses: &[Pressed],
@@ -75,7 +79,7 @@ fn first_covering(
     None
 }
 
-/// The least record before one that covers it under a narrowing.
+/// Returns the lowest number of an earlier record that covers the subject under a narrowing.
 fn least_by(
     subject: &Subject,
     presses: &[Pressed],
@@ -89,7 +93,7 @@ fn least_by(
     first_covering(subject, presses, places.as_slice(), subject.rules_before())
 }
 
-/// Whether a record that misses nothing but a place covers one whose places have these ranges.
+/// Returns whether a near record misses at most this position and covers the subject, whose positions have these ranges.
 fn near_covers(search: &Search, place: u32, places: &[Place], near: Near) -> bool
     requires { search.now.presses.now ≡ fitting_presses search.now.subject.now.rule.now.key }
     ensures { result ≡ (is_at_most place near.miss && covers_if_any search.now.subject.now.tables.now search.now.subject.now.group.now.using_keys places.now search.now.subject.now.rule.now (slice_get (take search.now.subject.now.number search.now.subject.now.group.now.rules) near.rule)) }
@@ -103,7 +107,7 @@ fn near_covers(search: &Search, place: u32, places: &[Place], near: Near) -> boo
     }
 }
 
-/// The first of the records that miss nothing but a place which covers one whose places have these ranges.
+/// Returns the first near record that misses at most this position and covers the subject, whose positions have these ranges.
 fn first_near(search: &Search, place: u32, places: &[Place]) -> Option<u32>
     requires { search.now.presses.now ≡ fitting_presses search.now.subject.now.rule.now.key }
     ensures { result ≡ first_near (λ n. is_at_most place n.miss && covers_if_any search.now.subject.now.tables.now search.now.subject.now.group.now.using_keys places.now search.now.subject.now.rule.now (slice_get (take search.now.subject.now.number search.now.subject.now.group.now.rules) n.rule)) search.now.near.now }
@@ -116,7 +120,7 @@ fn first_near(search: &Search, place: u32, places: &[Place]) -> Option<u32>
     None
 }
 
-/// The records before one that miss one of its places at most.
+/// Returns the earlier records that miss at most one position of the subject.
 fn near_before(alloc: Global, subject: &Subject, presses: &[Pressed]) -> Result<Vec<Near>, Memory>
     requires few { length subject.now.rule.now.context ≤ CONTEXT_ITEMS }
     requires fitting { presses.now ≡ fitting_presses subject.now.rule.now.key }
@@ -133,7 +137,7 @@ fn near_before(alloc: Global, subject: &Subject, presses: &[Pressed]) -> Result<
     )
 }
 
-/// The least record before one that covers it where a place is narrowed to an item.
+/// Returns the lowest number of an earlier record that covers the subject with a position narrowed to an item.
 fn least_narrowed(search: &Search, place: u32, item: Item) -> Option<u32>
     requires few { length search.now.subject.now.rule.now.context ≤ CONTEXT_ITEMS }
     requires fitting { search.now.presses.now ≡ fitting_presses search.now.subject.now.rule.now.key }
@@ -146,7 +150,8 @@ fn least_narrowed(search: &Search, place: u32, item: Item) -> Option<u32>
     first_near(search, place, places.as_slice())
 }
 
-/// The least record for each item to which a place is narrowed, where each item has one.
+/// Returns, for each item among these elements, the lowest record that covers the subject with the position narrowed to it, or
+/// `None` if some item has no such record.
 fn least_each(
     alloc: Global,
     search: &Search,
@@ -170,7 +175,7 @@ fn least_each(
     Ok(Some(Seq::from_vec(rules)))
 }
 
-/// The least records by which a record splits at a place.
+/// Returns the lowest records by which the subject splits at a position, if it does.
 fn split_rules(alloc: Global, search: &Search, place: u32) -> Result<Option<Seq<u32>>, Memory>
     requires few { length search.now.subject.now.rule.now.context ≤ CONTEXT_ITEMS }
     requires fitting { search.now.presses.now ≡ fitting_presses search.now.subject.now.rule.now.key }
@@ -186,7 +191,7 @@ fn split_rules(alloc: Global, search: &Search, place: u32) -> Result<Option<Seq<
     }
 }
 
-/// The first place, from one on, at which a record splits.
+/// Returns the first position, from one on, at which the subject splits.
 fn first_split(alloc: Global, search: &Search, place: u32, context: &[Pat]) -> Result<Found, Memory>
     requires few { length search.now.subject.now.rule.now.context ≤ CONTEXT_ITEMS }
     requires fitting { search.now.presses.now ≡ fitting_presses search.now.subject.now.rule.now.key }
@@ -206,7 +211,7 @@ fn first_split(alloc: Global, search: &Search, place: u32, context: &[Pat]) -> R
     }
 }
 
-/// Whether a context has an `any`, at whose place a record may split.
+/// Returns whether a context has an `any`. A record can split only at the position of an `any`.
 fn has_any(context: &[Pat]) -> bool
     ensures { result ≡ list_any is_any context.now }
 {
@@ -218,7 +223,7 @@ fn has_any(context: &[Pat]) -> bool
     false
 }
 
-/// The first place at which a record splits.
+/// Returns the first position at which the subject splits.
 #[tactic(auto, using(crate::proofs::NearRules::never_split))]
 fn split_for(alloc: Global, subject: &Subject, presses: &[Pressed]) -> Result<Found, Memory>
     requires few { length subject.now.rule.now.context ≤ CONTEXT_ITEMS }
@@ -238,7 +243,7 @@ fn split_for(alloc: Global, subject: &Subject, presses: &[Pressed]) -> Result<Fo
     first_split(alloc, &search, 0, context)
 }
 
-/// What is found for a record.
+/// Returns what covers the subject.
 pub fn found_for(alloc: Global, subject: &Subject) -> Result<Found, Memory>
     requires { length subject.now.rule.now.context ≤ CONTEXT_ITEMS }
     ensures { IfOk result (λ found. found ≡ found_for subject.now.tables.now subject.now.group.now subject.now.number subject.now.rule.now) }
@@ -251,7 +256,7 @@ pub fn found_for(alloc: Global, subject: &Subject) -> Result<Found, Memory>
     }
 }
 
-/// A part for each record.
+/// Returns one part of a certificate for each record.
 fn parts_of(alloc: Global, rules: &[u32]) -> Result<Vec<Cert>, Memory>
     ensures { IfOk result (λ parts. parts.items ≡ map By rules.now) }
 {
@@ -262,7 +267,7 @@ fn parts_of(alloc: Global, rules: &[u32]) -> Result<Vec<Cert>, Memory>
     Ok(parts)
 }
 
-/// The certificate that says what was found.
+/// Returns the certificate that states what was found.
 pub fn certificate(alloc: Global, found: Found) -> Result<Option<Cert>, Memory>
     ensures { IfOk result (Says found) }
 {

@@ -1,4 +1,4 @@
-//! Tables with a flag for each store that is an option, and where memory may be taken with the items of each store in a set.
+//! Tables with a flag for each store that is an option and, if allocating is allowed, a set of the items of each store.
 
 ghost use Rattle.std.specs.Prelude.{◌≡◌, option_copied, slice_get, is_some, IfSome};
 ghost use Rattle.rule_model.specs.Match.{place_of};
@@ -12,8 +12,8 @@ use kmn_base::{Element, Item};
 use rule_model::{Group, Tables};
 use std::marker::Model;
 
-/// Tables, with flags that tell which of their stores are options, and with the stores' items in sets, but where no memory may
-/// be taken. Contracts see the tables.
+/// Tables with flags that mark which stores are options, and with sets of the items of the stores, which are `None` if
+/// allocating is not allowed. Contracts see the tables.
 #[derive(Drop)]
 pub struct FlaggedTables<'a> {
     tables: &'a Tables,
@@ -37,7 +37,7 @@ impl<'a> Model for FlaggedTables<'a> {
 }
 
 impl<'a> FlaggedTables<'a> {
-    /// Tables with their flags and the sets of their stores.
+    /// Creates tables with their flags and the sets of their stores.
     pub(crate) fn new(
         tables: &'a Tables,
         flags: &'a [bool],
@@ -54,7 +54,7 @@ impl<'a> FlaggedTables<'a> {
         }
     }
 
-    /// Tables with their flags alone.
+    /// Creates tables with only their flags.
     pub(crate) fn without_sets(tables: &'a Tables, flags: &'a [bool]) -> FlaggedTables<'a>
         requires { TellOptions tables.now flags.now }
         ensures { result ≡ tables.now }
@@ -66,14 +66,14 @@ impl<'a> FlaggedTables<'a> {
         }
     }
 
-    /// The elements of a store, none where there is no such store.
+    /// Returns the elements of a store, or an empty slice if there is no such store.
     pub(crate) fn elements(&self, store: u32) -> &[Element]
         ensures { result.now ≡ elements_of self.now.stores store }
     {
         self.tables.elements(store)
     }
 
-    /// Whether a store has an item: by its set, or element by element where there are no sets.
+    /// Returns whether a store has an item. Reads the set of the store, or compares element by element if there are no sets.
     pub(crate) fn has_item(&self, store: u32, item: Item) -> bool
         ensures { result ≡ is_some (place_of item (elements_of self.now.stores store)) }
     {
@@ -83,7 +83,7 @@ impl<'a> FlaggedTables<'a> {
         }
     }
 
-    /// Whether a store is no option. Behind the stores of tables stand the two system options.
+    /// Returns whether a store is not an option. The numbers after the stores of the tables are the two system options.
     #[tactic(auto, using(crate::proofs::Flags::fixed_behind))]
     pub(crate) fn is_fixed(&self, store: u32) -> bool
         ensures { result ≡ is_fixed self.now store }
@@ -97,7 +97,7 @@ impl<'a> FlaggedTables<'a> {
         }
     }
 
-    /// The group of a number.
+    /// Returns the group with this number.
     pub(crate) fn group(&self, group: u32) -> Option<&'a Group>
         ensures { option_copied result ≡ slice_get self.now.groups group }
     {

@@ -1,14 +1,14 @@
-//! Whether a key fits each press that another one fits.
+//! Decides whether a key fits each key press that another key fits.
 
 ghost use Rattle.std.specs.Prelude.{◌≡◌, ◌++◌, not, ◌||◌, filter, flat_map, IfOk, OnOk};
 ghost use Rattle.std.specs.List.{list_all};
-ghost use Rattle.rule_model.specs.Fits.{key_fits};
+ghost use Rattle.virtual_keys.specs.Fits.{key_fits};
 ghost use Rattle.rule_shadow.specs.Keys.{all_codes, all_modifiers, plain_modifiers, presses_of, fitting_presses, covers_key};
 
 use kmn_base::keys::{CAPS, SHIFT};
 use kmn_base::{KeyPress, Memory, RuleKey};
-use rule_model::Pressed;
 use std::alloc::Global;
+use virtual_keys::Pressed;
 
 /// The codes of the keys that have a name.
 static CODES: [u16; 90] = [
@@ -19,25 +19,25 @@ static CODES: [u16; 90] = [
     221, 222, 226,
 ];
 
-/// The modifiers that can be held, in every way.
+/// All combinations of the modifiers that can be held.
 static HELD_MODIFIERS: [u16; 64] = [
     0, 256, 16, 272, 8, 264, 24, 280, 4, 260, 20, 276, 12, 268, 28, 284, 2, 258, 18, 274, 10, 266,
     26, 282, 6, 262, 22, 278, 14, 270, 30, 286, 1, 257, 17, 273, 9, 265, 25, 281, 5, 261, 21, 277,
     13, 269, 29, 285, 3, 259, 19, 275, 11, 267, 27, 283, 7, 263, 23, 279, 15, 271, 31, 287,
 ];
 
-/// Those of them without control and alt, with which alone a key gives a character.
+/// The combinations without control and alt. Only with these does a key produce a character.
 static PLAIN_MODIFIERS: [u16; 4] = [0, CAPS, SHIFT, SHIFT + CAPS];
 
-/// The codes of the keys that have a name.
-#[tactic(auto, unfolding(crate::specs::Keys::all_codes, rule_model::specs::Keys::key_codes))]
+/// Returns the codes of the keys that have a name.
+#[tactic(auto, unfolding(crate::specs::Keys::all_codes, virtual_keys::specs::Keys::key_codes))]
 fn all_codes() -> &'static [u16]
     ensures { result.now ≡ all_codes }
 {
     &CODES
 }
 
-/// The modifiers that can be held.
+/// Returns all combinations of the modifiers that can be held.
 #[tactic(auto, unfolding(crate::specs::Keys::all_modifiers))]
 fn all_modifiers() -> &'static [u16]
     ensures { result.now ≡ all_modifiers }
@@ -45,7 +45,7 @@ fn all_modifiers() -> &'static [u16]
     &HELD_MODIFIERS
 }
 
-/// The modifiers without control and alt.
+/// Returns the combinations without control and alt.
 #[tactic(auto, unfolding(crate::specs::Keys::plain_modifiers))]
 fn plain_modifiers() -> &'static [u16]
     ensures { result.now ≡ plain_modifiers }
@@ -53,7 +53,7 @@ fn plain_modifiers() -> &'static [u16]
     &PLAIN_MODIFIERS
 }
 
-/// Whether a press that fits the second key fits the first.
+/// Returns whether a press does not fit the second key or fits the first.
 fn fits_too(a: RuleKey, b: RuleKey, press: KeyPress) -> bool
     ensures { result ≡ (not (key_fits b press) || key_fits a press) }
 {
@@ -61,7 +61,7 @@ fn fits_too(a: RuleKey, b: RuleKey, press: KeyPress) -> bool
     !pressed.fits(b) || pressed.fits(a)
 }
 
-/// Whether each press of a code with some modifiers that fits the second key fits the first.
+/// Returns whether each press of a code with some modifiers that fits the second key fits the first.
 fn fit_with(a: RuleKey, b: RuleKey, code: u16, modifiers: &[u16]) -> bool
     ensures { result ≡ list_all (λ press. not (key_fits b press) || key_fits a press) (presses_of modifiers.now code) }
 {
@@ -73,7 +73,7 @@ fn fit_with(a: RuleKey, b: RuleKey, code: u16, modifiers: &[u16]) -> bool
     true
 }
 
-/// Whether each press of some codes with some modifiers that fits the second key fits the first.
+/// Returns whether each press of some codes with some modifiers that fits the second key fits the first.
 fn fit_for(a: RuleKey, b: RuleKey, codes: &[u16], modifiers: &[u16]) -> bool
     ensures { result ≡ list_all (λ code. list_all (λ press. not (key_fits b press) || key_fits a press) (presses_of modifiers.now code)) codes.now }
 {
@@ -85,7 +85,7 @@ fn fit_for(a: RuleKey, b: RuleKey, codes: &[u16], modifiers: &[u16]) -> bool
     true
 }
 
-/// Whether a key fits each press that another one fits.
+/// Returns whether key `a` fits each press that key `b` fits.
 pub fn covers_key(a: RuleKey, b: RuleKey) -> bool
     ensures { result ≡ covers_key a b }
 {
@@ -114,7 +114,7 @@ fn add_fitting(
     Ok(())
 }
 
-/// The presses of some codes with some modifiers that fit a key.
+/// Returns the presses of some codes with some modifiers that fit a key.
 fn fitting(
     alloc: Global,
     key: RuleKey,
@@ -130,7 +130,7 @@ fn fitting(
     Ok(presses)
 }
 
-/// The presses to try that fit a key: another key fits each press that this one fits where it fits these.
+/// Returns the presses to test that fit a key. If another key fits these, it fits every press that this key fits.
 pub fn fitting_presses(alloc: Global, key: RuleKey) -> Result<Vec<Pressed>, Memory>
     ensures { IfOk result (λ presses. presses.items ≡ fitting_presses key) }
 {
@@ -141,7 +141,7 @@ pub fn fitting_presses(alloc: Global, key: RuleKey) -> Result<Vec<Pressed>, Memo
     }
 }
 
-/// Whether a key fits each of some presses.
+/// Returns whether a key fits each of some presses.
 pub fn fits_each(key: RuleKey, presses: &[Pressed]) -> bool
     ensures { result ≡ list_all (key_fits key) presses.now }
 {

@@ -1,11 +1,21 @@
-//! Records of a keyboard that never go first, since wherever one holds another does that stands before it, with certificates.
+//! Finds records of a keyboard that are never selected because an earlier record holds whenever they do, with certificates.
 //!
-//! It stands on `kmn_base`, `rule_model`, whose `Pressed` fits keys, `indexed_tables`, whose `option_flags` and `mark_options` mark
-//! options and whose `StoreSets` find items, `kmx_format`, whose `IsWritable` says what tables a file can have, and `arrayvec`. The layer above makes a `Finder` of tables, whose `found` and `find` answer the least record that covers one,
-//! or the first place that records cover item by item (`specs/Finding`), and asks `covers`, which trusts nothing of the
-//! finder and takes no memory, whether a certificate is right (`specs/Covers`): it is of each that `find` answers. Two laws say
-//! what a right one is worth: the record goes first at no moment and for no press, and a rule all of whose records have one is
-//! never chosen. A third says that wherever a record holds, one of those that were found for it stands before it and holds too.
+//! A record *covers* a later record of its group if a comparison of the two (`covers_rule`) shows that it holds whenever the
+//! later one holds. A certificate names a covering record, or a position of the context with a certificate for each item that
+//! the position can have.
+//!
+//! Use: create a `Finder` for the tables of a keyboard. `found` returns the first record that covers a record, or the first
+//! position at which records cover it item by item (`specs/Finding`). `find` returns the same as a certificate. `covers` checks
+//! a certificate (`specs/Covers`): it does not rely on the finder and does not allocate, and it accepts every certificate that
+//! `find` returns.
+//!
+//! Laws: a record with a valid certificate is never selected, in any state and for any key press. A rule of a well-named
+//! program never fires if all its records have valid certificates. Whenever a record holds for which `found` returns records,
+//! one of these is earlier and holds too.
+//!
+//! Depends on `kmn_base`; `virtual_keys` (`Pressed` matches keys); `rule_model`; `indexed_tables` (`option_flags` and
+//! `mark_options` mark options, `StoreSets` finds items); `kmx_format` (`IsWritable` states which tables a file can have);
+//! `arrayvec`.
 #![tactic(auto)]
 
 mod cert;

@@ -1,4 +1,4 @@
-//! Records that cover one but for one place: only these can cover it once that place is narrowed.
+//! Earlier records that cover a record at all positions but one. Only these can cover it once that position is narrowed.
 
 ghost use Rattle.std.specs.Prelude.{◌≡◌, ◌+◌, ◌<◌, ◌^◌, ◌++◌, length, option_to_list, IfOk};
 ghost use Rattle.rule_shadow.specs.Keys.{fitting_presses};
@@ -11,10 +11,11 @@ use crate::flagged::FlaggedTables;
 use crate::key_cover::fits_each;
 use crate::subject::Subject;
 use kmn_base::Memory;
-use rule_model::{Pat, Pressed, Rule};
+use rule_model::{Pat, Rule};
 use std::alloc::Global;
+use virtual_keys::Pressed;
 
-/// The places of a record, but for `context` items, that another one doesn't cover.
+/// The positions of a record that another record does not cover, without the positions of `context` items.
 #[derive(Clone, Copy)]
 pub enum Miss {
     Nowhere,
@@ -22,21 +23,21 @@ pub enum Miss {
     Several,
 }
 
-/// A record by its number, and the place that it misses, if any.
+/// The number of a record, and the position that it misses, if any.
 #[derive(Clone, Copy, Drop)]
 pub struct Near {
     pub rule: u32,
     pub miss: Miss,
 }
 
-/// Whether a pattern has the range of another place.
+/// Returns whether a pattern has the range of another position: whether it is a `context` item.
 fn hands_on(pattern: Pat) -> bool
     ensures { result ≡ hands_on pattern }
 {
     matches!(&pattern, Pat::ContextAt(_))
 }
 
-/// What is missed where no place is left.
+/// Converts an optional missed position to a `Miss`.
 fn miss_of(missed: Option<usize>) -> Miss
     ensures { result ≡ miss_of (option_to_list missed) }
 {
@@ -46,7 +47,8 @@ fn miss_of(missed: Option<usize>) -> Miss
     }
 }
 
-/// The places, counted from a number on, that the patterns of a context don't cover, behind one that may have been missed.
+/// Returns which positions are missed: `missed`, if any, and the positions, counted from `from`, that the patterns of a context
+/// don't cover.
 fn missed_from(
     tables: &FlaggedTables,
     missed: Option<usize>,
@@ -75,7 +77,7 @@ fn missed_from(
     missed_from(tables, Some(from), from + 1, rest, behind)
 }
 
-/// Which of the last places the patterns of a context don't cover.
+/// Returns which of the last positions the patterns of a context don't cover.
 fn missed_last(tables: &FlaggedTables, context: &[Pat], places: &[Place]) -> Miss
     ensures { result ≡ missed_last tables.now (patterns_of context.now) places.now }
 {
@@ -87,7 +89,7 @@ fn missed_last(tables: &FlaggedTables, context: &[Pat], places: &[Place]) -> Mis
     missed_from(tables, None, from, context, &places[from..])
 }
 
-/// Which places of a record another one doesn't cover.
+/// Returns which positions of the subject record `q` does not cover, or `Several` if its key does not cover the subject's key.
 #[tactic(auto, using(crate::proofs::Tried::fitting_tell))]
 fn miss_by(subject: &Subject, presses: &[Pressed], places: &[Place], q: &Rule) -> Miss
     requires { presses.now ≡ fitting_presses subject.now.rule.now.key }
@@ -100,14 +102,14 @@ fn miss_by(subject: &Subject, presses: &[Pressed], places: &[Place], q: &Rule) -
     }
 }
 
-/// Whether several places are missed.
+/// Returns whether several positions are missed.
 fn is_several(miss: Miss) -> bool
     ensures { result ≡ is_several miss }
 {
     matches!(&miss, Miss::Several)
 }
 
-/// Whether nothing but a place is missed.
+/// Returns whether no position but this one is missed.
 pub fn is_at_most(place: u32, miss: Miss) -> bool
     ensures { result ≡ is_at_most place miss }
 {
@@ -118,7 +120,7 @@ pub fn is_at_most(place: u32, miss: Miss) -> bool
     }
 }
 
-/// The records that miss one place at most.
+/// Returns the records that miss at most one position.
 pub fn near_rules(
     alloc: Global,
     subject: &Subject,

@@ -11,7 +11,7 @@ use kmn_base::limits::CONTEXT_ITEMS;
 use kmn_base::slices::behind;
 use rule_model::Pat;
 
-/// The range of a store's items, where it is no option.
+/// Returns the range of the items of a store, which is unknown if the store is an option.
 fn store_range(tables: &FlaggedTables, store: u32) -> Range
     ensures { result ≡ store_range tables.now store }
 {
@@ -22,7 +22,7 @@ fn store_range(tables: &FlaggedTables, store: u32) -> Range
     }
 }
 
-/// The range of an item before, by its offset.
+/// Returns the range of an earlier context item. Offsets count from 1.
 fn range_at(seen: &[Range], offset: u32) -> Range
     ensures { result ≡ range_at seen.now offset }
 {
@@ -32,7 +32,7 @@ fn range_at(seen: &[Range], offset: u32) -> Range
     }
 }
 
-/// The range that a pattern states, behind those of the items before it.
+/// Returns the range that a pattern states, given the ranges of the items before it.
 fn stated_range(tables: &FlaggedTables, seen: &[Range], pattern: Pat) -> Range
     ensures { result ≡ stated_range tables.now seen.now pattern }
 {
@@ -45,7 +45,7 @@ fn stated_range(tables: &FlaggedTables, seen: &[Range], pattern: Pat) -> Range
     }
 }
 
-/// The range of a pattern at a place that may be narrowed.
+/// Returns the range of a pattern: the item to which its position is narrowed, if any, or the range that the pattern states.
 fn range_of(tables: &FlaggedTables, seen: &[Range], given: Option<Item>, pattern: Pat) -> Range
     ensures { result ≡ range_of tables.now seen.now given pattern }
 {
@@ -55,7 +55,7 @@ fn range_of(tables: &FlaggedTables, seen: &[Range], given: Option<Item>, pattern
     }
 }
 
-/// The item to which the first place is narrowed, if any.
+/// Returns the item to which the first position is narrowed, if any.
 fn first_given(narrowing: &[Option<Item>]) -> Option<Item>
     ensures { result ≡ first_given narrowing.now }
 {
@@ -65,7 +65,7 @@ fn first_given(narrowing: &[Option<Item>]) -> Option<Item>
     }
 }
 
-/// Adds the places of a context behind the ranges of the items before it.
+/// Appends the positions of a context, given the ranges of the items before it.
 fn add_places(
     tables: &FlaggedTables,
     narrowing: &[Option<Item>],
@@ -94,7 +94,7 @@ fn add_places(
     add_places(tables, behind(narrowing, 1), rest, seen, places);
 }
 
-/// The places of a context, some of which are narrowed.
+/// Returns the positions of a context. Some of them may be narrowed.
 pub fn places(
     tables: &FlaggedTables,
     narrowing: &[Option<Item>],

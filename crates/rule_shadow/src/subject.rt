@@ -4,7 +4,7 @@ use crate::flagged::FlaggedTables;
 use kmn_base::slices::before;
 use rule_model::{Group, Rule};
 
-/// The record that is asked about: its number in its group, and the tables that it belongs to.
+/// The record that is examined: its number in its group, and the tables that it belongs to.
 #[derive(Clone, Copy)]
 pub struct Subject<'a> {
     pub tables: &'a FlaggedTables<'a>,
@@ -14,7 +14,7 @@ pub struct Subject<'a> {
 }
 
 impl<'a> Subject<'a> {
-    /// The records of its group that stand before it.
+    /// Returns the earlier records of its group.
     pub(crate) fn rules_before(&self) -> &'a [Rule]
         ensures rules { result.now ≡ take self.now.number self.now.group.now.rules }
         ensures few { length result.now < 2 ^ 32 }

@@ -1,4 +1,4 @@
-//! Commands that are run over a folder and a sink in memory, and the texts that rows write with stand-ins.
+//! Runs commands over a folder and a sink in memory, and expands the placeholders in the texts of rows.
 
 use keyman_run::{Status, run};
 use kmn_base::{Seq, Text};
@@ -6,7 +6,7 @@ use kmn_outside::{Folder, MemoryFolder, MemorySink};
 use std::alloc::{AllocError, Global};
 use std::test::Fail;
 
-/// The words, which are parted by single spaces.
+/// Returns the command-line arguments in a text, which are separated by single spaces.
 pub fn words(alloc: Global, text: &str) -> Result<Vec<Text>, Fail> {
     let mut words = Vec::new(alloc);
     for word in text.split(' ') {
@@ -15,7 +15,7 @@ pub fn words(alloc: Global, text: &str) -> Result<Vec<Text>, Fail> {
     Ok(words)
 }
 
-/// Runs the words of a line, of several commands one after the other, and tells how the last one ends.
+/// Runs the commands of a line one after the other, and returns the status of the last one.
 pub fn ended(
     alloc: Global,
     line: &str,
@@ -30,7 +30,7 @@ pub fn ended(
     Ok(status)
 }
 
-/// Writes a text with its stand-ins replaced.
+/// Writes a text with its placeholders replaced.
 fn write_text(out: &mut String, text: &str) -> Result<(), AllocError> {
     for c in text.chars() {
         match c {
@@ -51,7 +51,7 @@ fn write_copies(out: &mut String, text: &str, count: u32) -> Result<(), AllocErr
     Ok(())
 }
 
-/// Writes a piece of a text: a text, and perhaps copies of another.
+/// Writes a piece of a text: a text, then the copies of another text, if the piece has any.
 pub fn write_piece(out: &mut String, piece: &str) -> Result<(), Fail> {
     match piece.split_once('⟨') {
         Some((text, copies)) => {
@@ -67,7 +67,7 @@ pub fn write_piece(out: &mut String, piece: &str) -> Result<(), Fail> {
     }
 }
 
-/// A text with its stand-ins and copies written out.
+/// Returns a text with its placeholders and copies expanded.
 pub fn written_out(alloc: Global, text: &str) -> Result<String, Fail> {
     let mut out = String::new(alloc);
     for piece in text.split('⟩') {
@@ -76,7 +76,7 @@ pub fn written_out(alloc: Global, text: &str) -> Result<String, Fail> {
     Ok(out)
 }
 
-/// A folder without files, whose call of this number behind so many others fails, and none for 0.
+/// Returns a folder without files. Call number `failing` after the first `behind` calls fails; for 0 no call fails.
 pub fn empty_folder(alloc: Global, failing: u32, behind: u32) -> Result<MemoryFolder, AllocError> {
     let call = match failing {
         0 => 0,
@@ -86,17 +86,17 @@ pub fn empty_folder(alloc: Global, failing: u32, behind: u32) -> Result<MemoryFo
     Ok(MemoryFolder::new(alloc, Seq::new(alloc), Seq::from_vec(fails)))
 }
 
-/// A sink whose call of this number fails, and none for 0.
+/// Returns a sink. Its call of this number fails; for 0 no call fails.
 pub fn sink(alloc: Global, failing: u32) -> Result<MemorySink, AllocError> {
     let fails = Vec::from_slice(alloc, &[failing])?;
     Ok(MemorySink::new(alloc, Seq::from_vec(fails)))
 }
 
-/// How many files `write_files` writes.
+/// The number of files that `write_files` writes.
 const FILES: u32 = 7;
 
-/// Writes a compiled file `a.kmx`, a script `a.keys`, and the source as `a.kmn` beside the pictures `p.ico` and `sample.ico` of
-/// four bytes, and as `d/a.kmn` beside a `p.ico` of eight.
+/// Writes a compiled keyboard `a.kmx`, a script `a.keys`, and the source twice: as `a.kmn` with the bitmaps `p.ico` and `sample.ico`
+/// of four bytes, and as `d/a.kmn` with a bitmap `d/p.ico` of eight bytes.
 fn write_files(
     alloc: Global,
     folder: &mut MemoryFolder,
@@ -114,7 +114,7 @@ fn write_files(
     Ok(())
 }
 
-/// A folder with these files. Its call of this number behind them fails, and none for 0.
+/// Returns a folder with these files. Its call number `failing` after they are written fails; for 0 no call fails.
 pub fn folder(
     alloc: Global,
     source: &str,

@@ -1,5 +1,5 @@
 //! Runs of the commands over a folder and a sink in memory: the tables of `rows`, `trace_rows`, `shadow_rows` and `host_rows`,
-//! and what is too long for a table.
+//! and runs that are too long for a table.
 
 mod host_rows;
 mod rows;
@@ -19,7 +19,7 @@ use std::str;
 use std::test::Fail;
 use trace_rows::TRACE_RUNS;
 
-/// A run as its row has it.
+/// A run, as its row states it.
 #[derive(Clone, Copy)]
 struct Run<'a> {
     words: &'a str,
@@ -29,8 +29,8 @@ struct Run<'a> {
     printed: &'a str,
 }
 
-/// The number at a place of a row's line of numbers: the exit status, the size of the file `out`, and the calls of folder and
-/// sink that fail. One that isn't there is 0.
+/// Returns the number at an index of a row's line of numbers: the exit status, the size of the file `out`, and the calls of folder
+/// and sink that fail. A missing number is 0.
 fn number_at(line: &str, place: usize) -> u32 {
     match line.split(' ').nth(place) {
         Some(number) => number.parse::<u32>().unwrap_or(u32::MAX),
@@ -38,12 +38,12 @@ fn number_at(line: &str, place: usize) -> u32 {
     }
 }
 
-/// The source that a row has or names.
+/// Returns the source that a row contains or names.
 fn source_of(text: &str) -> &str {
     if text == "SAMPLE" { SAMPLE } else { text }
 }
 
-/// The file that a source is compiled to.
+/// Returns the file that a source compiles to.
 fn compiled(alloc: Global, source: &str) -> Result<Seq<u8>, Fail> {
     let mut folder = folder(alloc, source, b"", "", 0)?;
     let mut sink = sink(alloc, 0)?;
@@ -51,7 +51,7 @@ fn compiled(alloc: Global, source: &str) -> Result<Seq<u8>, Fail> {
     Ok(Seq::from_slice(alloc, folder.file(b"out").unwrap_or(&[]))?)
 }
 
-/// The bytes that pieces make of a file.
+/// Returns the bytes that pieces describe: parts of a file and 16-bit units.
 fn pieced(alloc: Global, file: &[u8], pieces: &str) -> Result<Seq<u8>, Fail> {
     let mut bytes = Vec::new(alloc);
     for piece in pieces.split(' ') {
@@ -67,7 +67,7 @@ fn pieced(alloc: Global, file: &[u8], pieces: &str) -> Result<Seq<u8>, Fail> {
     Ok(Seq::from_vec(bytes))
 }
 
-/// The folder in which a run begins.
+/// Returns the folder in which a run begins.
 fn folder_of(alloc: Global, row: Run, failing: u32) -> Result<MemoryFolder, Fail> {
     match row.source.split_once(" ⇒ ") {
         Some((source, pieces)) => {
@@ -80,7 +80,7 @@ fn folder_of(alloc: Global, row: Run, failing: u32) -> Result<MemoryFolder, Fail
     }
 }
 
-/// Whether a line is among those of a text.
+/// Returns whether a text has a line.
 fn has_line(text: &str, line: &str) -> bool {
     for other in text.split('\n') {
         if other == line {
@@ -90,7 +90,7 @@ fn has_line(text: &str, line: &str) -> bool {
     false
 }
 
-/// Whether each of these lines is among those of a text.
+/// Returns whether a text has each of these lines.
 fn has_lines(text: &[u8], lines: &str) -> bool {
     let text = str::from_utf8(text).unwrap_or("");
     for line in lines.lines() {
@@ -101,7 +101,7 @@ fn has_lines(text: &[u8], lines: &str) -> bool {
     true
 }
 
-/// Whether a text is the one that a row wants or, where that begins with `?`, has each of its lines.
+/// Returns whether a text is the one that a row expects or, if the expected text begins with `?`, has each of its lines.
 fn is_printed(alloc: Global, text: &[u8], wanted: &str) -> Result<bool, Fail> {
     let wanted = written_out(alloc, wanted)?;
     Ok(match wanted.as_str().strip_prefix('?') {
@@ -110,7 +110,7 @@ fn is_printed(alloc: Global, text: &[u8], wanted: &str) -> Result<bool, Fail> {
     })
 }
 
-/// How many bytes of the file `out` a folder has.
+/// Returns the size of the file `out` in bytes, or 0 if the folder does not have it.
 fn size_of_out(folder: &MemoryFolder) -> usize {
     match folder.file(b"out") {
         Some(bytes) => bytes.len(),
@@ -118,7 +118,7 @@ fn size_of_out(folder: &MemoryFolder) -> usize {
     }
 }
 
-/// Whether a run ends and prints as its row says.
+/// Returns whether a run ends and prints as its row states.
 fn is_right(alloc: Global, row: Run) -> Result<bool, Fail> {
     let mut folder = folder_of(alloc, row, number_at(row.ends, 2))?;
     let mut sink = sink(alloc, number_at(row.ends, 3))?;
@@ -128,7 +128,7 @@ fn is_right(alloc: Global, row: Run) -> Result<bool, Fail> {
     Ok(is_printed(alloc, sink.written(), row.printed)? && is_ended)
 }
 
-/// Fails at the first run of a table that isn't right.
+/// Checks the runs of a table, and fails at the first one that isn't right.
 fn check_runs(rt: &(impl Abort + Alloc<A = Global>), table: &str) -> Result<(), Fail> {
     let table = table.replace(rt.alloc(), "\\\n", "")?;
     let mut lines = table.lines();
@@ -163,7 +163,7 @@ fn runs_on_files(rt: HostRuntime) -> Result<(), Fail> {
     check_runs(&rt, FILE_RUNS)
 }
 
-/// Whether the first source is compiled to these bytes.
+/// Returns whether the first source compiles to these bytes.
 fn is_compiled_to(alloc: Global, file: &[u8]) -> Result<bool, Fail> {
     Ok(compiled(alloc, "@+ 'a' > 'b'¶")?.as_slice() == file)
 }
@@ -174,7 +174,7 @@ fn first_file(rt: HostRuntime) -> Result<(), Fail> {
     Ok(())
 }
 
-/// Whether the file of the first source is decompiled to this text.
+/// Returns whether the compiled keyboard of the first source decompiles to this text.
 fn is_decompiled_to(alloc: Global, text: &[u8]) -> Result<bool, Fail> {
     let file = compiled(alloc, "@+ 'a' > 'b'¶")?;
     let mut folder = folder(alloc, "", file.as_slice(), "", 0)?;
@@ -189,8 +189,8 @@ fn first_text(rt: HostRuntime) -> Result<(), Fail> {
     Ok(())
 }
 
-/// Whether edits that each put 4,096 characters at the start of the text, so many times, and the last line behind them, are
-/// refused with this printed.
+/// Returns whether a script is refused and this is printed. The script has `count` edits that each insert 4,096 characters at the
+/// start of the text, and then the line `last`.
 fn is_refused_behind(alloc: Global, count: u32, last: &str, printed: &str) -> Result<bool, Fail> {
     let mut script = String::new(alloc);
     for _ in 0..count {
@@ -210,7 +210,8 @@ fn is_refused_behind(alloc: Global, count: u32, last: &str, printed: &str) -> Re
     )
 }
 
-/// A text that grows to its limit: the key that finds too long a text is refused, and the edit that would make one.
+/// Checks a text that grows to its limit: a key press is refused if the text is too long for it, and an edit that would make the text
+/// too long is refused.
 #[test]
 fn long_texts(rt: HostRuntime) -> Result<(), Fail> {
     let printed = "?243 del=0 ins=- pass=0 beep=0 ent=0 ctx=-¶refused E2 event 244¶";

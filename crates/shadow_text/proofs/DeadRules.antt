@@ -1,4 +1,4 @@
--- A rule that is told as dead has something found for each of its records, so it is dead.
+-- If something is found for each record of a rule, the rule is dead.
 use Rattle.std.proofs.Common.{◌≡◌, ◌≢◌, ℕ, zero, suc, ◌+◌, ◌<◌, Bool, true, false, if◌then◌else◌, List, [], ◌∷◌, ◌++◌, length, inl, inr, refl, sym, ap, ◌∙◌, subst, arith, Option, Some, None}
 use Rattle.std.specs.Prelude.{is_some, nat_eq, slice_get}
 use Rattle.std.specs.List.{list_all}
@@ -13,9 +13,9 @@ use Rattle.rule_model.specs.declared.tables.Rule.{Rule}
 use Rattle.rule_model.specs.declared.tables.Group.{Group}
 use Rattle.rule_model.specs.declared.tables.Tables.{Tables}
 use Rattle.kmx_format.specs.Writable.{IsWritable}
-use Rattle.kmx_format.specs.WellNamed.{IsWellNamed}
-use Rattle.kmx_format.specs.Numbers.{numbers_of}
-use Rattle.kmx_format.specs.Compiles.{Compiles, file_group}
+use Rattle.compile_laws.specs.WellNamed.{IsWellNamed}
+use Rattle.compile_laws.specs.Numbers.{numbers_of}
+use Rattle.compile_laws.specs.Compiles.{Compiles, file_group}
 use Rattle.rule_shadow.specs.declared.finding.Found.{Found}
 use Rattle.rule_shadow.specs.declared.finding.Found.TheVariants as finding
 use Rattle.rule_shadow.specs.Finding.{found, found_for, found_in, found_if_any}
@@ -26,13 +26,13 @@ use Rattle.shadow_text.specs.declared.verdicts.Verdict.{Verdict}
 use Rattle.shadow_text.specs.Verdicts.{found_lines, verdict_of, verdicts_from, group_verdicts, groups_verdicts, verdicts}
 use Rattle.shadow_text.specs.DeadLines.{is_found, of_line, is_dead, dead_among, dead_lines, rule_lines, IsDeadLine, DeadLinesAreDead}
 
--- something is found where lines are told
+-- if `found_lines` returns lines, something is found
 is_there : (rules : List Rule) (what : Found) → is_some (found_lines rules what) ≡ true → what ≢ finding.NotFound
 is_there rules finding.NotFound told e = cc
 is_there rules (finding.ByRule q) told e = cc
 is_there rules (finding.SplitAt place qs) told e = cc
 
--- all verdicts of a line are found, of which one is the first
+-- if all records of a line have something found, the first of them has
 first_found : (line : ℕ) (verdict : Verdict) (all : List Verdict) → verdict.line ≡ line → is_dead (verdict ∷ all) line ≡ true → is_found verdict ≡ true
 first_found line verdict all same dead = by (nat_eq verdict.line line) (eq-eqb verdict.line line same) dead
   where
@@ -53,7 +53,7 @@ parts_found line some more dead =
     (sym (ap (list_all is_found) (filter-append (λ (verdict : Verdict). nat_eq verdict.line line) some more) ∙ list_all-append is_found (of_line some line) (of_line more line)) ∙ dead)
 
 module _ (tables : Tables) (line : ℕ) where
-  -- the verdicts of each group
+  -- if a line is dead in a list of groups, it is dead in each group
   in_group : (groups : List Group) (from n : ℕ) (group : Group) → slice_get groups n ≡ Some group → is_dead (groups_verdicts tables from groups) line ≡ true
       → is_dead (group_verdicts tables (from + n) group.rules) line ≡ true
   in_group [] from n group at dead = absurd (none-some group at)
@@ -67,7 +67,7 @@ module _ (tables : Tables) (line : ℕ) where
       subst (λ k. is_dead (group_verdicts tables k group.rules) line ≡ true) next
       (in_group gs (from + 1) n group at (parts_found line (group_verdicts tables from g.rules) (groups_verdicts tables (from + 1) gs) dead).1)
 
-  -- the verdict of each record of the line
+  -- if a line is dead in a group, something is found for each record of the line
   found_at : (n : ℕ) (all : List Rule) (from : ℕ) (rules : List Rule) (k : ℕ) (r : Rule) → slice_get rules k ≡ Some r → r.line ≡ line
       → is_dead (verdicts_from tables n all from rules) line ≡ true → is_found (verdict_of tables n all (from + k) r) ≡ true
   found_at n all from [] k r at same dead = absurd (none-some r at)
@@ -86,7 +86,7 @@ all_dead : (tables : Tables) (line : ℕ) → is_dead (verdicts tables) line ≡
 unfolding verdicts
 all_dead tables line dead = dead
 
--- something is found for each record of a dead line
+-- if a line is dead, something is found for each of its records
 found_for_each : (tables : Tables) (line n : ℕ) (group : Group) → slice_get tables.groups n ≡ Some group → is_dead (verdicts tables) line ≡ true
     → (number : ℕ) (r : Rule) → slice_get group.rules number ≡ Some r → r.line ≡ line → found tables n number ≢ finding.NotFound
 found_for_each tables line n group at dead number r at_number same =
@@ -103,7 +103,7 @@ are_covered tables writable line n group at dead number r at_number same =
     let some = found_for_each tables line n group at dead number r at_number same in
     found_covers tables writable n number group r at at_number (λ e. some (is ∙ e))
 
--- a group of a program has one in its tables
+-- if a program has a group of a number, its tables have one of this number
 compiled_group : (p : Program) (tables : Tables) → Compiles p tables → (n : ℕ) (group : GroupDef) → slice_get p.groups n ≡ Some group → (h : Group) × (slice_get tables.groups n ≡ Some h)
 compiled_group p tables c n group stated = by (slice_get tables.groups n) refl
   where

@@ -1,4 +1,4 @@
--- A group of tables that a file can have has few records.
+-- A group of tables that a file can have has at most `RECORDS` records.
 use Rattle.std.proofs.Common.{ℕ, ◌<◌, ◌≤◌, length, get_or, arith}
 use Rattle.std.proofs.lemmas.List.Folds.{length-flat_map-take}
 use Rattle.kmn_base.specs.declared.limits.TheConstants.{RECORDS}

@@ -1,4 +1,4 @@
--- The rules that are told as dead, by their lines, and what `shadow` prints of a keyboard.
+-- The rules found to be dead, by their lines, and what `shadow` prints of a keyboard.
 use Rattle.std.specs.Prelude.{◌≡◌, ℕ, Bool, is_some, nat_eq, List, [], ◌∷◌, ◌++◌, length, map, filter, flat_map, slice_get, codes, All, Some, unwrap_or}
 use Rattle.std.specs.List.{concat, list_all}
 use Rattle.std.specs.Fmt.{decimal}
@@ -8,8 +8,8 @@ use Rattle.rule_model.specs.declared.program.GroupDef.{GroupDef}
 use Rattle.rule_model.specs.declared.tables.Tables.{Tables}
 use Rattle.rule_model.specs.Lines.{joined}
 use Rattle.kmx_format.specs.Writable.{IsWritable}
-use Rattle.kmx_format.specs.WellNamed.{IsWellNamed}
-use Rattle.kmx_format.specs.Compiles.{Compiles}
+use Rattle.compile_laws.specs.WellNamed.{IsWellNamed}
+use Rattle.compile_laws.specs.Compiles.{Compiles}
 use Rattle.rule_shadow.specs.Laws.{IsDead}
 use Rattle.shadow_text.specs.declared.verdicts.Verdict.{Verdict}
 use Rattle.shadow_text.specs.Verdicts.{verdicts}
@@ -20,37 +20,36 @@ line_of verdict = verdict.line
 abbrev pub is_found : Verdict → Bool
 is_found verdict = is_some verdict.by
 
--- the lines that records have: one for each rule
+-- the lines of the records: one for each rule
 abbrev pub rule_lines : List Verdict → List ℕ
 rule_lines all = rising (map line_of all)
 
--- the verdicts of a line: those of the records of one rule
+-- the results of a line: those of the records of one rule
 abbrev pub of_line : List Verdict → ℕ → List Verdict
 of_line all line = filter (λ verdict. nat_eq verdict.line line) all
 
--- something was found for each record of a line
+-- whether something was found for each record of a line
 abbrev pub is_dead : List Verdict → ℕ → Bool
 is_dead all line = list_all is_found (of_line all line)
 
--- the lines of those that were found for the records of a line
+-- the lines of the records found for the records of a line
 abbrev pub lines_before : List Verdict → ℕ → List ℕ
 lines_before all line = rising (flat_map (λ verdict. unwrap_or verdict.by []) (of_line all line))
 
--- the lines of which each record has something found
+-- the lines that have something found for each of their records
 abbrev pub dead_among : List Verdict → List ℕ
 dead_among all = filter (is_dead all) (rule_lines all)
 
--- the lines of the rules for each of whose records something is found, rising
+-- the lines of the rules that have something found for each of their records, in increasing order
 unfoldable pub dead_lines : Tables → List ℕ
 dead_lines tables = dead_among (verdicts tables)
 
--- a dead rule, and the lines that were found for its records: wherever it would hold, a rule of one of them holds too
--- and comes before it
+-- a dead rule, and the lines found for its records: whenever it would hold, a rule of one of these lines is earlier and holds too
 abbrev pub dead_line : List Verdict → ℕ → List ℕ
 dead_line all line =
     concat (codes "dead " ∷ decimal line ∷ codes " by " ∷ joined (map decimal (lines_before all line)) ∷ codes "\n" ∷ [])
 
--- how many rules there are, and how many are dead
+-- the number of rules, and the number of dead rules
 abbrev pub end_line : ℕ → ℕ → List ℕ
 end_line rules dead = concat (codes "end rules=" ∷ decimal rules ∷ codes " dead=" ∷ decimal dead ∷ codes "\n" ∷ [])
 
@@ -61,11 +60,11 @@ text_of all = flat_map (dead_line all) (dead_among all) ++ end_line (length (rul
 unfoldable pub dead_text : Tables → List ℕ
 dead_text tables = text_of (verdicts tables)
 
--- the rule in a line of a program is chosen at no moment and for no press, whichever group it is in
+-- the rule in a line of a program is selected in no state and for no press, whichever group it is in
 abbrev pub IsDeadLine : Program → ℕ → Type 0
 IsDeadLine program line = (n : ℕ) (group : GroupDef) → slice_get program.groups n ≡ Some group → IsDead program group line
 
--- each rule that is told as dead by compiled tables is dead in their program
+-- if compiled tables have a line in `dead_lines`, the rule of the line is dead in their program
 abbrev pub DeadLinesAreDead : Type 0
 DeadLinesAreDead =
     (program : Program) (tables : Tables) → IsWellNamed program → Compiles program tables → IsWritable tables → All (IsDeadLine program) (dead_lines tables)

@@ -1,10 +1,14 @@
-//! Which rules of a keyboard can never fire, as text: the line of each such rule with lines of others, one of which goes before
-//! it wherever it would hold, and how many rules there are.
+//! Lists rules of a keyboard that can never fire, as text.
 //!
-//! It stands on `rule_shadow`, which finds for a record others of which one stands before it and holds wherever it holds. The layer
-//! above calls `dead_text`, which answers the text of any tables that a file can have (`specs/DeadLines`), and cites the law that each
-//! line of `dead_lines` is that of a rule which is chosen at no moment and for no press. It asks for no more than `SHADOW_RECORDS`
-//! records, since each is compared with all before it.
+//! For each such rule, the text has its line and the lines of other rules, and at the end it has the number of rules and of
+//! dead rules. Whenever the dead rule would hold, a rule of one of these lines takes precedence over it.
+//!
+//! Use: call `dead_text`, which returns the text for any tables that a file can have (`specs/DeadLines`). Callers pass at most
+//! `limits::SHADOW_RECORDS` records, since each record is compared with all earlier ones.
+//!
+//! Law: each line of `dead_lines` has a rule that never fires, in any state and for any key press.
+//!
+//! Depends on `rule_shadow`, which finds earlier records for a record. Whenever the record holds, one of these holds too.
 #![tactic(auto)]
 
 mod law;
@@ -12,4 +16,4 @@ mod printing;
 mod verdicts;
 
 pub use law::dead_lines_are_dead;
-pub use printing::{SHADOW_RECORDS, dead_text};
+pub use printing::dead_text;

@@ -1,4 +1,4 @@
-//! What is printed of the rules that are told as dead, each line with its LF.
+//! The printed lines for dead rules, each with its line feed.
 
 ghost use Rattle.std.specs.Prelude.{◌≡◌, ◌++◌, [], filter, flat_map, unwrap_or, IfOk, OnOk};
 ghost use Rattle.std.specs.String.{string_bytes};
@@ -10,10 +10,8 @@ use kmn_base::{Memory, Seq, Text, rising_lines};
 use rule_model::{Tables, put_numbers};
 use std::alloc::{AllocError, Global};
 
-/// How many key records `shadow` takes at most: our own choice, since each is compared with all before it.
-pub const SHADOW_RECORDS: usize = 2_000;
-
-/// What `shadow` prints of the tables of a compiled file: a line for each rule that is told as dead, and the counts.
+/// Returns the text that `shadow` prints for the tables of a compiled keyboard: a line for each rule found to be dead, and the
+/// counts.
 #[tactic(auto, unfolding(crate::specs::DeadLines::dead_text))]
 pub fn dead_text(alloc: Global, tables: &Tables) -> Result<Text, Memory>
     requires { IsWritable tables.now }
@@ -28,7 +26,7 @@ pub fn dead_text(alloc: Global, tables: &Tables) -> Result<Text, Memory>
     Ok(Text::from_string(text))
 }
 
-/// The lines that records have, each once, rising.
+/// Returns the lines of the records, each once, in increasing order.
 fn rule_lines(alloc: Global, all: &[Verdict]) -> Result<Seq<u32>, Memory>
     ensures { IfOk result (λ lines. lines ≡ rule_lines all.now) }
 {
@@ -39,7 +37,7 @@ fn rule_lines(alloc: Global, all: &[Verdict]) -> Result<Seq<u32>, Memory>
     rising_lines(alloc, lines.as_slice())
 }
 
-/// Whether something was found for each record of a line.
+/// Returns whether something was found for each record of a line.
 fn is_dead(all: &[Verdict], line: u32) -> bool
     ensures { result ≡ is_dead all.now line }
 {
@@ -51,7 +49,7 @@ fn is_dead(all: &[Verdict], line: u32) -> bool
     true
 }
 
-/// The lines for whose records something was found.
+/// Returns the lines that have something found for each of their records.
 fn dead_among(alloc: Global, all: &[Verdict], lines: &[u32]) -> Result<Vec<u32>, Memory>
     ensures { IfOk result (λ dead. dead.items ≡ filter (is_dead all.now) lines.now) }
 {
@@ -64,7 +62,7 @@ fn dead_among(alloc: Global, all: &[Verdict], lines: &[u32]) -> Result<Vec<u32>,
     Ok(dead)
 }
 
-/// The lines of those that were found for the records of a line, each once, rising.
+/// Returns the lines of the records found for the records of a line, each once, in increasing order.
 fn lines_before(alloc: Global, all: &[Verdict], line: u32) -> Result<Seq<u32>, Memory>
     ensures { IfOk result (λ lines. lines ≡ lines_before all.now line) }
 {
@@ -77,7 +75,7 @@ fn lines_before(alloc: Global, all: &[Verdict], line: u32) -> Result<Seq<u32>, M
     rising_lines(alloc, lines.as_slice())
 }
 
-/// Puts the lines of those that were found for a record behind lines.
+/// Appends the lines of the records found for a record.
 fn put_lines(lines: &mut Vec<u32>, verdict: &Verdict) -> Result<(), AllocError>
     ensures { OnOk result (lines.new.items ≡ lines.old.items ++ unwrap_or verdict.now.by []) }
 {
@@ -87,7 +85,7 @@ fn put_lines(lines: &mut Vec<u32>, verdict: &Verdict) -> Result<(), AllocError>
     }
 }
 
-/// A line for each dead rule.
+/// Appends a line for each dead rule.
 fn put_dead(alloc: Global, text: &mut String, all: &[Verdict], dead: &[u32]) -> Result<(), Memory>
     ensures { IfOk result (λ _. string_bytes text.new ≡ string_bytes text.old ++ flat_map (dead_line all.now) dead.now) }
 {
@@ -97,7 +95,7 @@ fn put_dead(alloc: Global, text: &mut String, all: &[Verdict], dead: &[u32]) -> 
     Ok(())
 }
 
-/// The line of a dead rule.
+/// Appends the line of a dead rule.
 fn put_dead_line(alloc: Global, text: &mut String, all: &[Verdict], line: u32) -> Result<(), Memory>
     ensures { IfOk result (λ _. string_bytes text.new ≡ string_bytes text.old ++ dead_line all.now line) }
 {
@@ -108,7 +106,7 @@ fn put_dead_line(alloc: Global, text: &mut String, all: &[Verdict], line: u32) -
     Ok(())
 }
 
-/// The last line: how many rules there are, and how many are dead.
+/// Appends the last line: the number of rules, and the number of dead rules.
 fn put_end(text: &mut String, rules: usize, dead: usize) -> Result<(), AllocError>
     ensures { IfOk result (λ _. string_bytes text.new ≡ string_bytes text.old ++ end_line rules dead) }
 {

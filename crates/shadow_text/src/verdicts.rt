@@ -11,21 +11,21 @@ use rule_model::{Rule, Tables};
 use rule_shadow::{Finder, Found};
 use std::alloc::Global;
 
-/// The line of a record, and where something was found for it the lines of the records that were found, rising.
+/// The line of a record and, if something was found for it, the lines of the found records in increasing order.
 #[derive(Drop)]
 pub(crate) struct Verdict {
     pub line: u32,
     pub by: Option<Seq<u32>>,
 }
 
-/// The line of the record of a number.
+/// Returns the line of the record of a number.
 fn line_at(rules: &[Rule], number: u32) -> Option<u32>
     ensures { result ≡ line_at rules.now number }
 {
     rules.get(number as usize).map(|rule| rule.line)
 }
 
-/// The lines of the records of some numbers.
+/// Returns the lines of the records of some numbers.
 fn lines_at(alloc: Global, rules: &[Rule], numbers: &[u32]) -> Result<Vec<u32>, Memory>
     ensures { IfOk result (λ lines. lines.items ≡ filter_map (line_at rules.now) numbers.now) }
 {
@@ -38,7 +38,7 @@ fn lines_at(alloc: Global, rules: &[Rule], numbers: &[u32]) -> Result<Vec<u32>, 
     Ok(lines)
 }
 
-/// The lines of the records of some numbers, each once, rising.
+/// Returns the lines of the records of some numbers, each once, in increasing order.
 fn lines_of(alloc: Global, rules: &[Rule], numbers: &[u32]) -> Result<Seq<u32>, Memory>
     ensures { IfOk result (λ lines. lines ≡ rising (filter_map (line_at rules.now) numbers.now)) }
 {
@@ -46,7 +46,7 @@ fn lines_of(alloc: Global, rules: &[Rule], numbers: &[u32]) -> Result<Seq<u32>, 
     rising_lines(alloc, lines.as_slice())
 }
 
-/// The lines of the records that were found, where something was.
+/// Returns the lines of the found records, or `None` if nothing was found.
 fn found_lines(alloc: Global, rules: &[Rule], found: Found) -> Result<Option<Seq<u32>>, Memory>
     ensures { IfOk result (λ lines. lines ≡ found_lines rules.now found) }
 {
@@ -63,7 +63,7 @@ fn found_lines(alloc: Global, rules: &[Rule], found: Found) -> Result<Option<Seq
     }
 }
 
-/// A group by its number and its records, and what finds which of them cover one.
+/// A group with its number and its records, and the finder of the records that cover one.
 #[derive(Clone, Copy)]
 struct GroupSearch<'a> {
     finder: &'a Finder<'a>,
@@ -71,7 +71,7 @@ struct GroupSearch<'a> {
     rules: &'a [Rule],
 }
 
-/// What is found for a record, which has this number in the group.
+/// Returns what is found for a record, which has this number in the group.
 fn verdict_of(
     alloc: Global,
     search: &GroupSearch,
@@ -88,7 +88,7 @@ fn verdict_of(
     })
 }
 
-/// Puts what is found for the records of a group behind other verdicts.
+/// Appends what is found for each record of a group.
 fn put_group(alloc: Global, search: &GroupSearch, verdicts: &mut Vec<Verdict>) -> Result<(), Memory>
     requires { length search.now.rules.now ≤ RECORDS }
     ensures { OnOk result (verdicts.new.items ≡ verdicts.old.items ++ group_verdicts search.now.finder.now search.now.group search.now.rules.now) }
@@ -100,7 +100,7 @@ fn put_group(alloc: Global, search: &GroupSearch, verdicts: &mut Vec<Verdict>) -
     Ok(())
 }
 
-/// What is found for each record, group by group.
+/// Returns what is found for each record, group by group.
 #[tactic(auto, using(crate::proofs::Groups::few_in_group), unfolding(crate::specs::Verdicts::verdicts))]
 pub(crate) fn verdicts(alloc: Global, tables: &Tables) -> Result<Vec<Verdict>, Memory>
     requires { IsWritable tables.now }

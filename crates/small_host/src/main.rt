@@ -1,8 +1,8 @@
-//! An application in small: it opens a compiled keyboard that anybody may have made, types with it in the two fields of a form,
-//! and prints the caps of an on-screen keyboard and the texts.
+//! A minimal application: it opens an untrusted compiled keyboard, types in the two fields of a form, and prints the key caps of
+//! an on-screen keyboard and the texts of the fields.
 //!
-//! It is the example of `docs/ENGINE.md`. It stands on `kmx_verifier`, which opens the file, and on the `Host` of `play_session`,
-//! which keeps the text of each field, does one event after the other, and tells what a key would do.
+//! This is the example of `docs/ENGINE.md`. It depends on `kmx_verifier`, which opens the file, and on the `Host` of `text_host`,
+//! which keeps the text of each field, performs one event after the other, and returns what a key would do.
 #![tactic(auto)]
 
 ghost use Rattle.std.specs.Prelude.{◌≡◌, ◌++◌, OnOk, encode_utf8_all};
@@ -12,14 +12,14 @@ use kmn_base::limits::FILE_BYTES;
 use kmn_base::{Event, KeyPress, Memory};
 use kmn_outside::{DiskFolder, Folder, ReadError};
 use kmx_verifier::{VerifyError, verify};
-use play_session::{Host, HostError};
-use rule_model::key_named;
 use std::alloc::{Alloc, Global};
 use std::io;
 use std::rt::Files;
+use text_host::{Host, HostError};
 use thiserror::Error;
+use virtual_keys::key_named;
 
-/// Why nothing was typed.
+/// Why typing failed.
 #[derive(Debug, Drop, Error)]
 enum TypingError {
     #[error("{0}")]
@@ -42,7 +42,7 @@ fn put_text(out: &mut String, text: &[char]) -> Result<(), Memory>
     Ok(())
 }
 
-/// Types keys in a field of a form. A key that the keyboard passes on is the application's own.
+/// Types keys in a field of a form. Keys that the keyboard passes on are left to the application.
 fn type_in(alloc: Global, form: &mut Host, field: u32, keys: &[&str]) -> Result<(), TypingError> {
     for key in keys {
         if let Some(code) = key_named(key.as_bytes()) {
@@ -52,13 +52,13 @@ fn type_in(alloc: Global, form: &mut Host, field: u32, keys: &[&str]) -> Result<
     Ok(())
 }
 
-/// Appends a cap behind a blank.
+/// Appends a space and a key cap.
 fn put_cap(out: &mut String, cap: &[char]) -> Result<(), Memory> {
     put_text(out, &[' '])?;
     put_text(out, cap)
 }
 
-/// Appends a line with the caps of an on-screen keyboard while a field has the focus: what each key would put there now.
+/// Appends a line with the key caps of an on-screen keyboard while a field has the focus: what each key would insert there now.
 fn put_caps(
     alloc: Global,
     out: &mut String,
@@ -76,15 +76,15 @@ fn put_caps(
     Ok(put_text(out, &['\n'])?)
 }
 
-/// Appends a line with what stands before the caret of a field.
+/// Appends a line with the text before the caret of a field.
 fn put_field(out: &mut String, form: &Host, field: u32) -> Result<(), TypingError> {
     let session = form.field(field).ok_or(HostError::NoField)?;
     put_text(out, session.editor().left())?;
     Ok(put_text(out, &['\n'])?)
 }
 
-/// Types in the two fields of a form, an accent in the first one and then a vowel in each, and appends the caps in both before the
-/// vowels and the texts of both in the end.
+/// Types in the two fields of a form: an accent in the first field, and then a vowel in each. Appends the key caps for both
+/// fields before the vowels, and the texts of both fields at the end.
 fn fill(alloc: Global, form: &mut Host, out: &mut String) -> Result<(), TypingError> {
     let name = form.add(alloc)?;
     let town = form.add(alloc)?;
@@ -97,7 +97,7 @@ fn fill(alloc: Global, form: &mut Host, out: &mut String) -> Result<(), TypingEr
     put_field(out, form, town)
 }
 
-/// What a form tells on the keyboard of a file.
+/// Fills a form with the keyboard of a file and returns the lines that it appends.
 fn typed(alloc: Global, file: &[u8]) -> Result<String, TypingError> {
     let mut out = String::new(alloc);
     let keyboard = verify(alloc, file)?;
@@ -105,7 +105,7 @@ fn typed(alloc: Global, file: &[u8]) -> Result<String, TypingError> {
     Ok(out)
 }
 
-/// Types on the keyboard in the current folder.
+/// Fills a form with the keyboard in the current folder.
 fn typed_here(rt: &(impl Files + Alloc<A = Global>)) -> Result<String, TypingError> {
     let file = DiskFolder::new(rt).read(rt.alloc(), b"accents.kmx", FILE_BYTES)?;
     typed(rt.alloc(), file.as_slice())

@@ -1,5 +1,5 @@
-//! What several tests take: what parts a row of a table from its answer, the texts that tables write by signs, the refusals that
-//! they name, and the signs of items.
+//! What several tests use: a row of a table split into its text and its expected result, the texts that tables write with symbols,
+//! the refusals that tables name, and the symbols of items.
 
 ghost use Rattle.std.specs.Prelude.{None, MatchResult};
 ghost use Rattle.std.specs.Str.Pattern.{FindsText, SplitsAroundMatch};
@@ -8,10 +8,10 @@ ghost use Rattle.source_tests.specs.declared.fixtures.TheConstants.{ANSWER_SIGN}
 use kmn_base::{Item, Memory, Refusal};
 use std::alloc::{AllocError, Global};
 
-/// What stands between a row's text and its answer.
+/// The separator between a row's text and its expected result.
 const ANSWER_SIGN: &str = " ⇒ ";
 
-/// The text of a table's row and its answer, which stands behind the first ` ⇒ `.
+/// Returns the text of a table's row and its expected result, which follows the first ` ⇒ `.
 pub fn parted(row: &str) -> Result<(&str, &str), &'static str>
     ensures { MatchResult result
         (λ parts. SplitsAroundMatch (FindsText ANSWER_SIGN.now) row.now parts.0.now parts.1.now)
@@ -20,8 +20,8 @@ pub fn parted(row: &str) -> Result<(&str, &str), &'static str>
     row.split_once(ANSWER_SIGN).ok_or("a row without an answer")
 }
 
-/// The character that one of a table stands for: `¶` is a line feed, `␍` a carriage return, `␉` a tab, `␀` U+0000, `␡` U+FFFF,
-/// `⌖` U+FEFF and `·` U+00A0; any other is itself.
+/// Returns the character that a character of a table represents: `¶` is a line feed, `␍` a carriage return, `␉` a tab, `␀` U+0000,
+/// `␡` U+FFFF, `⌖` U+FEFF and `·` U+00A0. Any other character represents itself.
 pub fn character(c: char) -> char {
     match c {
         '¶' => '\n',
@@ -35,7 +35,7 @@ pub fn character(c: char) -> char {
     }
 }
 
-/// The text that a text of a table stands for.
+/// Returns the text that a text of a table represents.
 pub fn source_of(alloc: Global, text: &str) -> Result<String, AllocError> {
     let mut source = String::new(alloc);
     for c in text.chars() {
@@ -44,7 +44,7 @@ pub fn source_of(alloc: Global, text: &str) -> Result<String, AllocError> {
     Ok(source)
 }
 
-/// Whether the answer of a row has the code and the line of a refusal.
+/// Returns whether the expected result of a row has the code and the line of a refusal.
 pub fn is_refusal(refusal: Refusal, wanted: &str) -> bool {
     match wanted.split_once(' ') {
         Some((code, line)) => {
@@ -54,7 +54,7 @@ pub fn is_refusal(refusal: Refusal, wanted: &str) -> bool {
     }
 }
 
-/// The sign of an item in a table: a character stands for itself.
+/// Returns the symbol of an item in a table: a character is its own symbol, and `*` is the symbol of each mark.
 pub fn sign(item: Item) -> char {
     match item {
         Item::Char(c) => c,
@@ -62,7 +62,7 @@ pub fn sign(item: Item) -> char {
     }
 }
 
-/// Appends the signs of items.
+/// Appends the symbols of items.
 pub fn put_items(text: &mut String, items: &[Item]) -> Result<(), Memory> {
     for item in items {
         text.push(sign(*item))?;

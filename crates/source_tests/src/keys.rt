@@ -1,14 +1,14 @@
-//! Keys by name and press, and the names of own keys.
+//! Keys by name and key press, and the names of custom keys.
 
 use kmn_base::{KeyPress, RuleKey};
-use rule_model::{
-    KeyDictionary, Pressed, char_of, is_plain, key_named, modifier_named, name_of, named_chars,
-};
 use std::alloc::Global;
 use std::test::Fail;
+use virtual_keys::{
+    KeyDictionary, char_of, fits, is_plain, key_named, modifier_named, name_of, named_chars,
+};
 
-/// A key's name and code, the modifiers of a press of it, the character that the press gives, and whether a rule with
-/// these shift flags fits it.
+/// A key's name and code, the modifiers of a press of it, the character that the press produces, the shift flags of a rule, and
+/// whether the rule matches the press.
 const PRESSES: &[(&str, u16, u16, Option<char>, u32, bool)] = &[
     ("K_A", 65, 0, Some('a'), 0x4000, true),
     ("K_A", 65, 16, Some('A'), 0x4000, false),
@@ -22,7 +22,7 @@ const PRESSES: &[(&str, u16, u16, Option<char>, u32, bool)] = &[
     ("K_A", 65, 12, None, 0x4008, false),
 ];
 
-/// Whether the tables say of a key what a row does.
+/// Returns whether the tables of keys agree with a row.
 fn is_right(row: (&str, u16, u16, Option<char>, u32, bool)) -> bool {
     let (name, code, mods, given, flags, fit) = row;
     let press = KeyPress { code, mods };
@@ -30,10 +30,10 @@ fn is_right(row: (&str, u16, u16, Option<char>, u32, bool)) -> bool {
         && name_of(code) == Some(name.as_bytes())
         && char_of(press) == given
         && is_plain(press) == (mods % 16 == 0)
-        && Pressed::of(press).fits(RuleKey::Virtual { flags, code }) == fit
+        && fits(RuleKey::Virtual { flags, code }, press) == fit
 }
 
-/// Whether own names get the codes that they should.
+/// Returns whether the names of custom keys get the expected codes.
 fn are_numbered(alloc: Global) -> Result<bool, Fail> {
     let mut names = KeyDictionary::new(alloc);
     let codes = [

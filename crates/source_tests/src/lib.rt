@@ -1,11 +1,11 @@
-//! The tests of what a source is: `keys` of `rule_model`, `lines` and `tokens` of `kmn_lines`; `statements` of `kmn_parser` has
-//! sources with what they state or how they are refused, which stand in `rows`, and `names` of `kmn_names` programs with the first
-//! refusal of their names, or with their numbers.
+//! Tests the crates that read sources: `keys` tests `virtual_keys`, `lines` tests `kmn_lines`, and `tokens` tests `kmn_tokens`.
+//! `statements` tests `kmn_parser` on the sources in `rows`, each with its statements or its refusal. `names` tests `store_table` on
+//! programs, each with the first refusal of its names, and on one program with the numbers of its names.
 //!
-//! They stand here because a crate with tests is proved twice, once with them and once without: so each of those crates is
-//! proved once, and the tests are proved over them. `telling` tells what a program states as the rows do. `fixtures` has what
-//! several of them take: the tests of all crates take of it what parts a row of text from its answer, `compile_tests` and
-//! `play_tests` what reads the refusals of theirs, and `engine_tests` and `play_tests` the signs of items.
+//! The tests are in a separate crate because a crate with tests is proved twice, once with its tests and once without. So each of
+//! the tested crates is proved once, and the tests are proved after it. `telling` writes what a program states in the notation of
+//! the rows. `fixtures` contains what several tests use: all crates of tests except `run_tests` use it to split a row into a text and
+//! its expected result, `compile_tests` and `play_tests` to compare refusals, and `engine_tests` and `play_tests` to write items.
 #![tactic(auto)]
 
 pub mod fixtures;

@@ -1,4 +1,4 @@
-//! Sources and, behind ` ⇒ `, their lines: the first number, the byte places, and each part with its number.
+//! Sources and, after ` ⇒ `, their lines: the number of the first physical line, the byte offsets, and each part with its line number.
 
 ghost use Rattle.std.specs.Prelude.{◌≤◌, length};
 ghost use Rattle.kmn_base.specs.declared.limits.TheConstants.{TEXT_BYTES};
@@ -64,7 +64,7 @@ fn show_part(alloc: Global, out: &mut Vec<u8>, source: &str, part: Part) -> Resu
     out.extend_from_slice(behind(text, part.from as usize))
 }
 
-/// A line and its parts.
+/// Appends a line and its parts.
 fn show_line(
     alloc: Global,
     out: &mut Vec<u8>,
@@ -82,7 +82,7 @@ fn show_line(
     out.extend_from_slice(b"]")
 }
 
-/// The lines and parts of a source.
+/// Returns the lines and parts of a source.
 fn shown(alloc: Global, source: &str) -> Result<Vec<u8>, AllocError>
     requires { length source.now ≤ TEXT_BYTES }
 {
@@ -93,7 +93,7 @@ fn shown(alloc: Global, source: &str) -> Result<Vec<u8>, AllocError>
     Ok(out)
 }
 
-/// Whether a row's source has its lines and parts.
+/// Returns whether a row's source has its lines and parts.
 fn is_cut(alloc: Global, row: &str) -> Result<bool, Fail> {
     let (text, wanted) = parted(row)?;
     let source = source_of(alloc, text)?;

@@ -1,12 +1,12 @@
-//! Sources, each with its first refusal for names, and the numbers that the names of one get.
+//! Sources, each with the first refusal of its names, and one source with the numbers of its names.
 
 use crate::fixtures::{is_refusal, parted, source_of};
 use kmn_base::CompileError;
-use kmn_names::{ProgramNames, number};
 use kmn_parser::parse;
 use rule_model::Program;
 use std::alloc::Global;
 use std::test::Fail;
+use store_table::{Names, number};
 
 const REFUSALS: &str = "\
 group(m)¶begin Unicode > use(m)¶begin ANSI > use(m)¶begin Unicode > use(m) ⇒ C02 4
@@ -32,12 +32,12 @@ group(m)¶'x' > use(z)¶store(a)¶store(a) ⇒ C06 2
 store(a)¶store(a)¶group(m)¶'x' > use(z) ⇒ C03 2
 begin Unicode > use(M)¶store(a) 'x'¶store(b) outs(A)¶group(m)¶any(B) > outs(a) use(m) ⇒ none";
 
-/// What appears in a store and in a rule is numbered by its line.
+/// Marks and custom keys of stores and rules are numbered in the order of their lines.
 const NUMBERED: &str = "\
 store(&name)¶store(&language)¶store(a) dk(q) [U_0061]¶group(m) using keys¶\
 dk(p) + [u_0062] > dk(Q)¶store(b) dk(r) [u_0061]¶group(n)";
 
-/// A name of the program, and its number as a store, a group, a mark and an own key.
+/// A name of the program, and its number as a store, a group, a mark and a custom key.
 type NumberRow = (
     &'static str,
     Option<u32>,
@@ -59,12 +59,12 @@ const NUMBERS: &[NumberRow] = &[
     ("U_0062", None, None, None, Some(257)),
 ];
 
-/// The program of a row's source.
+/// Returns the program of a row's source.
 fn program(alloc: Global, source: &str) -> Result<Program, Fail> {
     Ok(parse(alloc, source_of(alloc, source)?.as_bytes())?)
 }
 
-/// Whether a program has the first refusal of its row.
+/// Returns whether a program has the first refusal of its row.
 fn is_refused(alloc: Global, row: &str) -> Result<bool, Fail> {
     let (source, wanted) = parted(row)?;
     Ok(match number(alloc, &program(alloc, source)?) {
@@ -74,8 +74,8 @@ fn is_refused(alloc: Global, row: &str) -> Result<bool, Fail> {
     })
 }
 
-/// Whether a name has its numbers.
-fn has_numbers(names: &ProgramNames, row: NumberRow) -> bool {
+/// Returns whether a name has its numbers.
+fn has_numbers(names: &Names, row: NumberRow) -> bool {
     let (name, store, group, mark, key) = row;
     let name = name.as_bytes();
     names.store(name) == store
@@ -84,8 +84,8 @@ fn has_numbers(names: &ProgramNames, row: NumberRow) -> bool {
         && names.keys().code_of(name) == key
 }
 
-/// Whether each name has its numbers.
-fn have_numbers(names: &ProgramNames) -> bool {
+/// Returns whether each name has its numbers.
+fn have_numbers(names: &Names) -> bool {
     for row in NUMBERS {
         if !has_numbers(names, *row) {
             return false;
@@ -94,7 +94,7 @@ fn have_numbers(names: &ProgramNames) -> bool {
     true
 }
 
-/// Whether each name of a program is numbered.
+/// Returns whether each name of a program is numbered.
 fn are_numbered(alloc: Global) -> Result<bool, Fail> {
     let program = program(alloc, NUMBERED)?;
     Ok(have_numbers(&number(alloc, &program)?))

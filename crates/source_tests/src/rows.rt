@@ -1,7 +1,7 @@
-//! Sources, each with the first refusal that it gets or with what it states. In a row, what stands before the first `:`
-//! opens the source, as `opening` says. Then comes the source's text, whose signs `character` reads, and behind ` ⇒ ` the
-//! answer. What a source states is told without its opening, statement by statement with its line; characters are
-//! hexadecimal, and a system option stands by its id behind `&`.
+//! Sources, each with its first refusal or with what it states. The text before the first `:` of a row selects the first lines of
+//! the source (see `opening`). Then comes the source's text, whose symbols `character` replaces, and, after ` ⇒ `, the expected
+//! result. What a source states is written without its opening lines, each statement with its line. Characters are hexadecimal
+//! numbers, and a system option is `&` followed by its id.
 
 pub const TOKENS: &str = r##"A:␀ ⇒ L02 1
 A:ab␀c ⇒ L02 1
@@ -448,7 +448,7 @@ group(after)
 '--' > U+2013
 "##;
 
-/// What the sample states but for its stores.
+/// What the sample states, without its stores.
 pub const SAMPLE_RULES: &str = "9 Unicode main; \
     14 group main keys; \
     15 + 27 > dk(acute); \
@@ -469,7 +469,8 @@ pub const SAMPLE_RULES: &str = "9 Unicode main; \
     30 group after; \
     31 2D 2D > 2013";
 
-/// A name of so many of one character between two texts, and how many stores are stated or the refusal.
+/// The text before the copies of a character, the character, the number of copies, the text after them, and the expected number of
+/// stores or the refusal.
 pub type LimitRow = (&'static str, char, u32, &'static str, &'static str);
 
 pub const LIMITS: &[LimitRow] = &[

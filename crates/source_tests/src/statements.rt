@@ -1,4 +1,4 @@
-//! Sources that the parser reads, each with what it answers.
+//! Sources that the parser reads, each with the expected result.
 
 use crate::fixtures::{parted, source_of};
 use crate::rows::{ITEMS, LIMITS, LINES, LimitRow, SAMPLE, SAMPLE_RULES, STATEMENTS, TOKENS};
@@ -12,11 +12,11 @@ use std::test::Fail;
 /// The two lines of a keyboard with the group `main`, which uses keys.
 const KEYBOARD: &str = "begin Unicode > use(main)\ngroup(main) using keys\n";
 
-/// The line of a group that uses none.
+/// The line of a group that does not use keys.
 const WITHOUT_KEYS: &str = "group(g)\n";
 
-/// What a row's word opens its source with, and how many lines that has: `K` the group `main`, `G` a group without keys, and
-/// any other nothing.
+/// Returns the lines with which a row's source begins, and their number: for `K` the group `main`, for `G` a group that does not use
+/// keys, and for any other word no lines.
 fn opening(word: &str) -> (&'static str, u32) {
     match word {
         "K" => (KEYBOARD, 2),
@@ -25,7 +25,7 @@ fn opening(word: &str) -> (&'static str, u32) {
     }
 }
 
-/// What the parser answers of a source, behind its opening.
+/// Returns what the parser reads from a source after its opening lines, or the error.
 fn answer(alloc: Global, opened: u32, source: &[u8]) -> Result<String, Fail> {
     let mut out = String::new(alloc);
     match parse(alloc, source) {
@@ -38,7 +38,7 @@ fn answer(alloc: Global, opened: u32, source: &[u8]) -> Result<String, Fail> {
     Ok(out)
 }
 
-/// The source of a row, and how many lines its opening has.
+/// Returns the source of a row, and the number of its opening lines.
 fn opened_source(alloc: Global, row: &str) -> Result<(String, u32), Fail> {
     let (word, text) = row.split_once(':').ok_or("a row without an opening")?;
     let (lines, opened) = opening(word);
@@ -47,7 +47,7 @@ fn opened_source(alloc: Global, row: &str) -> Result<(String, u32), Fail> {
     Ok((source, opened))
 }
 
-/// Whether the parser answers as a row of a table says.
+/// Returns whether the parser's result for a row's source is the row's result.
 fn is_answered(alloc: Global, row: &str) -> Result<bool, Fail> {
     let (text, wanted) = parted(row)?;
     let (source, opened) = opened_source(alloc, text)?;
@@ -55,7 +55,7 @@ fn is_answered(alloc: Global, row: &str) -> Result<bool, Fail> {
     Ok(given.as_str().strip_prefix("; ").unwrap_or("nothing") == wanted)
 }
 
-/// Whether the sample has its stores and rules.
+/// Returns whether the sample has its stores and rules.
 fn has_parsed_sample(alloc: Global) -> Result<bool, Fail> {
     let program = parse(alloc, SAMPLE.as_bytes())?;
     let mut rules = String::new(alloc);
@@ -63,7 +63,7 @@ fn has_parsed_sample(alloc: Global) -> Result<bool, Fail> {
     Ok(program.stores.len() == 11 && rules.as_str().strip_prefix("; ") == Some(SAMPLE_RULES))
 }
 
-/// The source that has a row's name.
+/// Returns the source with a row's name.
 fn source_with(alloc: Global, row: LimitRow) -> Result<String, AllocError> {
     let (before, c, count, after, _) = row;
     let mut source = String::from_str(alloc, WITHOUT_KEYS)?;
@@ -75,7 +75,7 @@ fn source_with(alloc: Global, row: LimitRow) -> Result<String, AllocError> {
     Ok(source)
 }
 
-/// How many stores a source states, or its refusal.
+/// Writes how many stores a source states, or its refusal.
 fn write_count(alloc: Global, out: &mut String, source: &[u8]) -> Result<(), AllocError> {
     match parse(alloc, source) {
         Ok(program) => write!(out, "{}", program.stores.len()),
@@ -83,7 +83,7 @@ fn write_count(alloc: Global, out: &mut String, source: &[u8]) -> Result<(), All
     }
 }
 
-/// Whether the parser answers as a row says of a source that has the row's name.
+/// Returns whether the parser's result for the source with a row's name is the row's result.
 fn is_limited(alloc: Global, row: LimitRow) -> Result<bool, Fail> {
     let source = source_with(alloc, row)?;
     let mut out = String::new(alloc);
@@ -91,7 +91,7 @@ fn is_limited(alloc: Global, row: LimitRow) -> Result<bool, Fail> {
     Ok(out.as_str() == row.4)
 }
 
-/// Whether bytes are refused in their first line by this code.
+/// Returns whether the parser refuses bytes in line 1 with this code.
 fn is_refused(alloc: Global, source: &[u8], code: Code) -> bool {
     match parse(alloc, source) {
         Err(CompileError::Refused(refusal)) => refusal == Refusal { line: 1, code },
@@ -110,7 +110,7 @@ fn worked_rows(rt: HostRuntime) -> Result<(), Fail> {
     Ok(())
 }
 
-/// Whether a source of one byte more than the limit is refused.
+/// Returns whether the parser refuses a source that is one byte longer than the limit.
 fn is_long_refused(alloc: Global) -> Result<bool, AllocError> {
     let long = vec![in alloc; 0xFFu8; 4_194_305]?;
     Ok(is_refused(alloc, &long, Code::L05))

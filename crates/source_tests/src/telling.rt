@@ -1,4 +1,4 @@
-//! What a program states, as the rows tell it.
+//! Writes what a program states, in the notation of the rows.
 
 use kmn_base::{CompileError, Seq};
 use rule_model::{BeginDef, GroupDef, KeyName, Program, RuleDef, RuleKind, SrcItem, StoreDef};
@@ -18,7 +18,7 @@ fn write_hex(out: &mut String, number: u32) -> Result<(), AllocError> {
     write!(out, "{number:X}")
 }
 
-/// Writes what begins a statement: its line and a blank.
+/// Writes the beginning of a statement: `; `, its line and a space.
 fn write_line(out: &mut String, line: u32) -> Result<(), AllocError> {
     out.push_str("; ")?;
     write_number(out, line)?;
@@ -47,7 +47,7 @@ fn write_key(out: &mut String, key: &KeyName) -> Result<(), AllocError> {
     out.push(']')
 }
 
-/// Writes what ends an item with a value.
+/// Writes the end of an item with a value: the operator, the value and `)`.
 fn write_end(out: &mut String, sign: &str, value: &Seq<char>) -> Result<(), AllocError> {
     out.push_str(sign)?;
     write_chars(out, value)?;
@@ -66,7 +66,7 @@ fn write_value(
     write_end(out, sign, value)
 }
 
-/// Writes an item on a system option, by its id.
+/// Writes an item on a system option, with the id of the option.
 fn write_system(
     out: &mut String,
     word: &str,
@@ -132,7 +132,7 @@ fn write_named(out: &mut String, item: &SrcItem) -> Result<(), AllocError> {
     }
 }
 
-/// The word of an item without a name.
+/// Returns the keyword of an item without a name, or `-` for an item that the compiler does not support.
 fn word_of(item: &SrcItem) -> &'static str {
     match item {
         SrcItem::Context => "context",
@@ -179,7 +179,7 @@ fn write_rule(out: &mut String, rule: &RuleDef) -> Result<(), AllocError> {
     write_items(out, &rule.output)
 }
 
-/// Writes a group with its rules, but its own line only behind the opening.
+/// Writes a group with its rules. Writes its own line only if it comes after the `opened` lines.
 fn write_group(out: &mut String, opened: u32, group: &GroupDef) -> Result<(), AllocError> {
     if opened < group.line {
         write_line(out, group.line)?;
@@ -199,7 +199,7 @@ fn write_begin(out: &mut String, begin: &BeginDef) -> Result<(), AllocError> {
     out.push_str(name(&begin.group))
 }
 
-/// Writes the begin statements behind so many lines.
+/// Writes the begin statements after the first `opened` lines.
 fn write_begins(out: &mut String, opened: u32, program: &Program) -> Result<(), AllocError> {
     for begin in program.begins.as_slice() {
         if opened < begin.line {
@@ -209,7 +209,7 @@ fn write_begins(out: &mut String, opened: u32, program: &Program) -> Result<(), 
     Ok(())
 }
 
-/// Writes the begin statements and groups behind so many lines.
+/// Writes the begin statements and groups after the first `opened` lines.
 pub fn write_groups(out: &mut String, opened: u32, program: &Program) -> Result<(), AllocError> {
     write_begins(out, opened, program)?;
     for group in program.groups.as_slice() {
@@ -218,7 +218,7 @@ pub fn write_groups(out: &mut String, opened: u32, program: &Program) -> Result<
     Ok(())
 }
 
-/// Writes what a program states behind so many lines.
+/// Writes what a program states after the first `opened` lines.
 pub fn write_program(out: &mut String, opened: u32, program: &Program) -> Result<(), AllocError> {
     for store in program.stores.as_slice() {
         write_store(out, store)?;

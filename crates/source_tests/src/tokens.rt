@@ -1,4 +1,5 @@
-//! Sources and, behind ` ⇒ `, their tokens, line by line: kind, number of the physical line, text; or the refusal of the line.
+//! Sources and, after ` ⇒ `, the tokens of each line, with their kind, the number of their physical line and their text; or the
+//! refusal of the line.
 
 ghost use Rattle.std.specs.Prelude.{◌≤◌, length};
 ghost use Rattle.kmn_base.specs.declared.limits.TheConstants.{TEXT_BYTES};
@@ -7,7 +8,8 @@ ghost use Rattle.kmn_lines.specs.Places.{IsPlaced};
 use crate::fixtures::{parted, source_of};
 use kmn_base::Seq;
 use kmn_base::slices::{before, behind};
-use kmn_lines::{Logical, Token, TokenKind, lines, tokens};
+use kmn_lines::{Logical, Token, TokenKind, lines};
+use kmn_tokens::tokens;
 use std::alloc::{AllocError, Global};
 use std::test::Fail;
 
@@ -93,7 +95,7 @@ fn show_tokens(
     out.extend_from_slice(b"]")
 }
 
-/// The tokens of a line, or its refusal.
+/// Appends the tokens of a line, or its refusal.
 fn show_line(
     alloc: Global,
     out: &mut Vec<u8>,
@@ -112,7 +114,7 @@ fn show_line(
     }
 }
 
-/// The tokens or refusals of the lines of a source.
+/// Returns the tokens or the refusal of each line of a source.
 fn shown(alloc: Global, source: &str) -> Result<Vec<u8>, AllocError>
     requires { length source.now ≤ TEXT_BYTES }
 {
@@ -123,7 +125,7 @@ fn shown(alloc: Global, source: &str) -> Result<Vec<u8>, AllocError>
     Ok(out)
 }
 
-/// Whether a row's source has its tokens or refusals.
+/// Returns whether a row's source has the row's tokens and refusals.
 fn is_right(alloc: Global, row: &str) -> Result<bool, Fail> {
     let (text, wanted) = parted(row)?;
     let source = source_of(alloc, text)?;

@@ -1,4 +1,4 @@
--- What is found in tables of names and layers is what is found in their lists.
+-- A look-up in the tables of names and layers has the same result as a search of their lists.
 use Rattle.std.proofs.Common.{◌≡◌, ℕ, ◌+◌, ◌<◌, Bool, true, false, not, List, [], ◌∷◌, ◌++◌, length, map, take, drop, get_or, Option, Some, None, refl, sym, ap, ◌∙◌, arith, if◌then◌else◌}
 use Rattle.std.specs.Prelude.{◌||◌, ◌&&◌, nat_eq, nat_lt, option_to_list, bytes_eq}
 use Rattle.std.specs.Option.{option_map_or, option_or}
@@ -18,11 +18,11 @@ use Rattle.kmn_base.specs.declared.keys.RuleKey.{RuleKey}
 use Rattle.kmn_base.specs.declared.keys.RuleKey.TheVariants.{Any, Char, Virtual}
 use Rattle.kmn_base.specs.Names.{same_name}
 use Rattle.kmn_base.proofs.Elements.{any_flat_map}
-use Rattle.rule_model.specs.Dictionary.{name_in}
+use Rattle.virtual_keys.specs.Dictionary.{name_in}
 use Rattle.rule_model.specs.declared.tables.Rule.{Rule}
 use Rattle.rule_model.specs.declared.tables.Group.{Group}
-use Rattle.kmn_names.specs.Names.{is_named}
-use Rattle.kmn_names.specs.Numbering.{with_marks}
+use Rattle.store_table.specs.Names.{is_named}
+use Rattle.store_table.specs.Numbering.{with_marks}
 use Rattle.touch_layout.proofs.RecordedNames.{named_once, or_true}
 use Rattle.touch_layout.specs.declared.layers.TouchLayer.{TouchLayer}
 use Rattle.touch_layout.specs.Faults.{fault, whole_layout}
@@ -36,7 +36,7 @@ any_same : {X : Type 0} (p q : X → Bool) → ((x : X) → p x ≡ q x) → (xs
 any_same p q same [] = refl
 any_same p q same (x ∷ xs) = λ j. same x j || any_same p q same xs j
 
--- a name of one of the records
+-- an id is in the list of an optional name if and only if the name is present and is the same
 name_found : (id : List ℕ) (name : Option (List ℕ)) → list_any (same_name id) (option_to_list name) ≡ option_map_or (same_name id) name false
 name_found id None = refl
 name_found id (Some name) = or-false (same_name id name)
@@ -56,7 +56,7 @@ recorded dictionary groups id =
     any_flat_map (same_name id) (λ (group : Group). rule_names dictionary group.rules) groups
     ∙ any_same (λ (group : Group). list_any (same_name id) (rule_names dictionary group.rules)) (has_record_of dictionary id) (λ group. rules_found dictionary id group.rules) groups
 
--- keys break the same rules
+-- if keys find the same layers in two lists, they break the same rules with both
 same_code : (has : List ℕ → Bool) (ids layers : List Layer) → FindsSame ids layers → (key : Key) → key_code has ids key ≡ key_code has layers key
 same_code has ids layers finds key =
     ap (λ found. if has_strange_id key then Some T3 else (if nat_lt 0 (length key.next_layer) && not found then Some T4 else (if does_nothing has key then Some T5 else None))) (finds key)
@@ -73,7 +73,7 @@ same_keys_fault dictionary groups names ids layers keys named finds =
     ∙ (λ j. keys_fault (λ id. (named_once (recorded_names dictionary groups) id ∙ recorded dictionary groups id) j) ids keys)
     ∙ same_faults (has_record dictionary groups) ids layers finds keys
 
--- equal layers are found by the same keys
+-- if two layers are equal, the same keys lead to them
 found_equal : (key : Key) (a b : Layer) → is_equal_layer a b ≡ true → is_next_layer key a ≡ is_next_layer key b
 found_equal key a b h =
     let both = and_parts (nat_eq a.place.platform b.place.platform) (bytes_eq a.id b.id) h in
@@ -96,7 +96,7 @@ found_among key layer [] next among = absurd (cc)
 found_among key layer (other ∷ layers) next among =
     found_here key layer other layers (is_equal_layer layer other) refl next among (found_among key layer layers next)
 
--- a layer more, which is put where it isn't among those before it
+-- if a layer is added to layers unless it is among them, a key finds its layer among the old layers or finds the added one
 put_finds : (key : Key) (layer : Layer) (layers : List Layer) (among : Bool) → list_any (is_equal_layer layer) layers ≡ among
     → list_any (is_next_layer key) (if among then layers else layers ++ layer ∷ []) ≡ (list_any (is_next_layer key) layers || is_next_layer key layer)
 put_finds key layer layers false is =
@@ -135,7 +135,7 @@ module _ {X : Type 0} (layer_in : X → Layer) (eq : X → X → Bool) (same : (
 same_either_way : (a b : ℕ) → nat_eq a b ≡ nat_eq b a
 same_either_way a b = grind (arith, nat_tests)
 
--- a key finds its layer in a table where it finds it among the layers
+-- a key finds its layer in a table if and only if it finds it among the layers
 next_either_way : (p q : ℕ) (a b : List ℕ) → (nat_eq p q && bytes_eq a b) ≡ (nat_eq q p && bytes_eq b a)
 next_either_way p q a b = λ j. same_either_way p q j && nat_list_eq_equiv.symm a b j
 
@@ -151,16 +151,16 @@ unfolding same_name
 repeated layer other =
     λ j. same_either_way layer.place.platform other.place.platform j && nat_list_eq_equiv.symm (str_to_ascii_lowercase layer.id) (str_to_ascii_lowercase other.id) j
 
--- a layer is among those before it, in lower case, where one of them has the same id
+-- a layer in lower case is equal to an earlier one if and only if an earlier layer of its platform has the same id
 pub repeated_among : (layer : Layer) (before : List Layer) → list_any (is_equal_layer (folded layer)) (map folded before) ≡ list_any (is_same_layer layer) before
 repeated_among layer before =
     any_mapped (is_equal_layer (folded layer)) folded before ∙ any_same (λ other. is_equal_layer (folded layer) (folded other)) (is_same_layer layer) (repeated layer) before
 
--- what a look-up past the last layer gives
+-- the result of a look-up past the last layer
 abbrev pub no_layer : TouchLayer
 no_layer = record { place = whole_layout; id = record { ref_ptr = (0, 0); now = [] } }
 
--- the layer at a place, as lemmas on lists name it
+-- the layer at a position does not depend on the default of the look-up
 pub held : (xs : List TouchLayer) (i : ℕ) → i < length xs → get_or xs i no_layer ≡ get_or xs i (get_or xs i no_layer)
 held xs i h = get_or_default xs i no_layer (get_or xs i no_layer) h
 
@@ -191,7 +191,7 @@ among_before : (xs : List TouchLayer) (i : ℕ) (x : TouchLayer) (ids : List Lay
     → list_any (is_equal_layer (folded (layer_view x))) ids ≡ list_any (is_same_layer (layer_view x)) (layers_view (take i xs))
 among_before xs i x ids are = ap (list_any (is_equal_layer (folded (layer_view x)))) are ∙ repeated_among (layer_view x) (layers_view (take i xs))
 
--- the fault at a layer whose id stood before, and how it goes on behind another
+-- if an earlier layer has the id of a layer, the fault is at this layer; if none has it, the fault is in the layers after it
 pub fault_here : (xs : List TouchLayer) (i : ℕ) (x : TouchLayer) (ids : List Layer) (new : Bool) → ids ≡ map folded (layers_view (take i xs))
     → new ≡ not (list_any (is_equal_layer (folded (layer_view x))) ids) → new ≡ false → i < length xs → x ≡ get_or xs i x
     → layers_fault (layers_view (take i xs)) (layers_view (drop i xs)) ≡ Some (fault T6 x.place)
@@ -209,14 +209,14 @@ fault_behind xs i x ids new are is news h e = sym (
     (sym (among_before xs i x ids are) ∙ not_false (list_any (is_equal_layer (folded (layer_view x))) ids) (sym news ∙ is))
     ∙ ap (λ before. layers_fault before (layers_view (drop (i + 1) xs))) (sym (view_next xs i x h e)))
 
--- the ids of the layers up to one
+-- if the id of a layer is added to the ids of the layers before it, the result is the ids of the layers up to it
 pub ids_next : (xs : List TouchLayer) (i : ℕ) (x : TouchLayer) (ids now : List Layer) → ids ≡ map folded (layers_view (take i xs))
     → now ≡ ids ++ folded (layer_view x) ∷ [] → i < length xs → x ≡ get_or xs i x → now ≡ map folded (layers_view (take (i + 1) xs))
 ids_next xs i x ids now are put h e =
     put ∙ ap (λ ls. ls ++ folded (layer_view x) ∷ []) are
     ∙ sym (ap (map folded) (view_next xs i x h e) ∙ map-append folded (layers_view (take i xs)) (layer_view x ∷ []))
 
--- the layers that keys find, up to one
+-- if keys find the layers before a layer and this layer, they find the layers up to it
 pub finds_more : (xs : List TouchLayer) (i : ℕ) (x : TouchLayer) (now : List Layer) → FindsSame now (layers_view (take i xs) ++ layer_view x ∷ [])
     → i < length xs → x ≡ get_or xs i x → FindsSame now (layers_view (take (i + 1) xs))
 finds_more xs i x now finds h e key = finds key ∙ ap (list_any (is_next_layer key)) (sym (view_next xs i x h e))

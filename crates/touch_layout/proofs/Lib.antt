@@ -3,3 +3,6 @@ pub mod RecordedNames
 mod Members
 mod Sentinels
 mod Values
+mod TokenCounts
+mod ValueSizes
+mod KeyCounts

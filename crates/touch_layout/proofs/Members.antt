@@ -1,4 +1,4 @@
--- Looking a member up gives the same keys as going over the members.
+-- Looking a member up results in the same keys as iterating over the members.
 use Rattle.std.proofs.Common.{◌≡◌, ℕ, zero, suc, ◌≤◌, ◌<◌, max, List, [], ◌∷◌, codes, Option, Some, None, option_and_then, is_some, if◌then◌else◌, Ordering, Less, Equal, Greater, refl, sym, subst, arith, nat_cmp, length, get_or, slice_index_or, fold, ap, ◌∙◌}
 use Rattle.std.specs.Prelude.{⊤}
 use Rattle.std.proofs.Math.Nat.{le-max_left, le-max_right}
@@ -11,7 +11,7 @@ use Rattle.serde_json.specs.Find.{get, get_member, as_object, as_array}
 use Rattle.touch_layout.specs.declared.faults.LayoutPlace.{LayoutPlace}
 use Rattle.touch_layout.specs.Keys.{Key, own_onto, key_onto, list_onto, items_onto, directions_onto, list_member, flick_member, key_member, list_at, flick_at, key_at, names_onto, directions}
 
--- a walk over members that looks for a name, and f of what a look-up gives
+-- if iterating over the other members results in f of their look-up, so does iterating over a member and the others
 at_name : {R : Type 0} (o : Ordering) (f : Option Data → R) (d : Data) (rest : R) (more : Option Data) → rest ≡ f more
     → match_ordering o rest (f (Some d)) rest ≡ f (match_ordering o more (Some d) more)
 at_name Less f d rest more same = same
@@ -30,12 +30,12 @@ pub direction_found : (place : LayoutPlace) (name : List ℕ) (found : List Key)
 direction_found place name found no_members = refl
 direction_found place name found (member k d ms) = at_name (slice_cmp nat_cmp name k) (key_at place found) d _ (get_member name ms) (direction_found place name found ms)
 
--- a chain of steps, each equal to another one
+-- if two chains of steps are equal step by step, their results are equal
 chained : {A B : Type 0} (f g : A → Option B) (a b : Option A) → a ≡ b → ((x : A) → f x ≡ g x) → option_and_then f a ≡ option_and_then g b
 chained f g None b same each = subst (λ r. None ≡ option_and_then g r) same refl
 chained f g (Some x) b same each = subst (λ r. f x ≡ option_and_then g r) same (each x)
 
--- what an object gives, by look-ups
+-- the keys of an object, by look-ups of its members
 abbrev pub by_look_up : LayoutPlace → List Key → Data → Option (List Key)
 by_look_up place found d =
     option_and_then (λ found. option_and_then (λ found. option_and_then (λ found. list_at place found (get (codes "multitap") d))
@@ -86,7 +86,7 @@ is_none : {A : Type 0} → Option A → Type 0
 is_none None = ⊤
 is_none (Some x) = ⊥
 
--- how deep what a look-up gives nests
+-- the nesting depth of the result of a look-up
 abbrev pub depth_at : Option Data → ℕ
 depth_at None = 0
 depth_at (Some d) = depth d
@@ -136,7 +136,7 @@ array_depth (string s) ds is = absurd (none≢some is)
 array_depth (object ms) ds is = absurd (none≢some is)
 array_depth (array es) ds is = within_items ds (Some es) _ (omega arith) is
 
--- an item of a list that a value is nests less deep
+-- if a value is a list, each of its items nests less deeply than the value
 pub listed_depth : (list : Data) (items vs : List Value) (i : ℕ) (x : Value) → Some (items_view items) ≡ as_array list → vs ≡ items
     → i < length vs → x ≡ slice_index_or vs i x → depth (view x) < depth list
 listed_depth list items vs i x is same inside held =

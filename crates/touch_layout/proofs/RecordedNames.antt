@@ -1,4 +1,4 @@
--- Names put into a table once each are found where they are among the names.
+-- An id is found in a table that contains each name once if and only if it is among the names.
 use Rattle.std.proofs.Common.{◌≡◌, ℕ, ◌+◌, ◌<◌, Bool, true, false, List, [], ◌∷◌, ◌++◌, length, drop, get_or, refl, sym, ap, ◌∙◌, if◌then◌else◌}
 use Rattle.std.specs.Prelude.{◌||◌}
 use Rattle.std.specs.List.{list_any}
@@ -8,13 +8,13 @@ use Rattle.std.proofs.lemmas.List.Folds.{list_any-append}
 use Rattle.std.proofs.lemmas.Slice.Eq.{bytes_eq-Decides}
 use Rattle.std.proofs.Math.Bool.{or-false}
 use Rattle.kmn_base.specs.Names.{same_name}
-use Rattle.rule_model.specs.Dictionary.{with_name}
+use Rattle.virtual_keys.specs.Dictionary.{with_name}
 use Rattle.rule_model.specs.declared.tables.Rule.{Rule}
 use Rattle.rule_model.specs.declared.tables.Group.{Group}
-use Rattle.kmn_names.specs.Names.{is_named}
-use Rattle.kmn_names.specs.Numbering.{with_marks}
-use Rattle.kmn_names.proofs.ByAppearance.{marks_append}
-use Rattle.rule_model.proofs.NamePlaces.{some_place}
+use Rattle.store_table.specs.Names.{is_named}
+use Rattle.store_table.specs.Numbering.{with_marks}
+use Rattle.store_table.proofs.ByAppearance.{marks_append}
+use Rattle.virtual_keys.proofs.NamePlaces.{some_place}
 use Rattle.touch_layout.specs.Ids.{recorded_name, rule_names, recorded_names}
 
 pub next_rule : (dictionary names : List (List ℕ)) (rules : List Rule) (i : ℕ) (rule : Rule) → i < length rules → rule ≡ get_or rules i rule
@@ -37,7 +37,7 @@ or_later : (a b c : Bool) → ((a || b) || c) ≡ (a || (b || c))
 or_later true b c = refl
 or_later false b c = refl
 
--- what is the same as a name is the same as what that is the same as
+-- if an id is the same as a name, and the name is the same as a known name, the id is the same as the known name
 alike : (id name known : List ℕ) → same_name id name ≡ true → same_name name known ≡ true → same_name id known ≡ true
 unfolding same_name
 alike id name known one other =

@@ -1,4 +1,4 @@
--- A text that doesn't begin with the sentinel has it where what stands behind its first byte has it.
+-- If a text does not begin with the sentinel, it contains the sentinel if and only if the text after its first byte does.
 use Rattle.std.proofs.Common.{◌≡◌, ℕ, ◌+◌, ◌<◌, Bool, false, ◌||◌, List, ◌∷◌, length, drop, get_or, refl, sym, subst}
 use Rattle.std.proofs.lemmas.List.{drop_more}
 use Rattle.touch_layout.specs.Ids.{begins_with_sentinel, has_sentinel}

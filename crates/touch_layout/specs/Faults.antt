@@ -1,10 +1,10 @@
--- Places of a layout, and rules that are broken there.
+-- Places in a layout, and rules that are broken there.
 use Rattle.std.specs.Prelude.{ℕ}
 use Rattle.kmn_base.specs.declared.codes.Code.{Code}
 use Rattle.touch_layout.specs.declared.faults.LayoutPlace.{LayoutPlace}
 use Rattle.touch_layout.specs.declared.faults.LayoutFault.{LayoutFault}
 
--- the place of a platform, layer, row and key, each from 1, or 0 where none of this kind is meant
+-- the place of a platform, layer, row and key, each counted from 1, or 0 if the place has no number of this kind
 abbrev pub at_place : ℕ → ℕ → ℕ → ℕ → LayoutPlace
 at_place platform layer row key = record { platform = platform; layer = layer; row = row; key = key }
 

@@ -1,4 +1,4 @@
--- The keys of a touch layout: each key with its subkeys behind it, in the order of their places.
+-- The keys of a touch layout: each key is followed by its subkeys, in the order of their places.
 use Rattle.std.specs.Prelude.{ℕ, List, [], ◌∷◌, ◌++◌, codes, Option, Some, None, Bool, false, ◌||◌, nat_eq, option_and_then, option_map, fold, map, bytes_eq}
 use Rattle.std.specs.Ordering.{nat_cmp, match_ordering}
 use Rattle.std.specs.Cmp.Lexicographic.{slice_cmp}
@@ -8,15 +8,14 @@ use Rattle.serde_json.specs.Find.{get, as_str, as_u64}
 use Rattle.touch_layout.specs.declared.faults.LayoutPlace.{LayoutPlace}
 use Rattle.touch_layout.specs.declared.keys.TouchKey.{TouchKey}
 
--- what a key states: its id and the layer that it leads to, each empty where there is none, and whether its `sp` says
--- that it is blank or a spacer
+-- a key: its place, its id and the layer that it leads to, each empty if absent, and whether its `sp` makes it blank or a spacer
 pub record Key : Type 0 where
   pub place : LayoutPlace
   pub id : List ℕ
   pub next_layer : List ℕ
   pub is_spacer : Bool
 
--- the text of a member, empty where there is none; None where the member is no text
+-- the text of an optional member, empty if it is absent; None if the member is not a text
 abbrev pub optional_text : Option Data → Option (List ℕ)
 optional_text None = Some []
 optional_text (Some d) = as_str d
@@ -25,7 +24,7 @@ optional_text (Some d) = as_str d
 abbrev pub is_spacer_number : ℕ → Bool
 is_spacer_number n = nat_eq n 9 || nat_eq n 10
 
--- whether an `sp` is the whole number or the text 9 or 10; None where it is neither a number nor a text
+-- whether an `sp` is 9 or 10, as a whole number or a text; None if it is neither a number nor a text
 abbrev pub spacer_of : Data → Option Bool
 spacer_of null = None
 spacer_of (boolean b) = None
@@ -34,29 +33,29 @@ spacer_of (string s) = Some (bytes_eq s (codes "9") || bytes_eq s (codes "10"))
 spacer_of (array ds) = None
 spacer_of (object ms) = None
 
--- the same of a member that may be left out
+-- whether an optional `sp` is 9 or 10; None if it is neither a number nor a text
 abbrev pub optional_spacer : Option Data → Option Bool
 optional_spacer None = Some false
 optional_spacer (Some d) = spacer_of d
 
--- what an object states of its own key; None where a member has another shape
+-- the key of an object without its subkeys; None if a member has another shape
 abbrev pub own_key : LayoutPlace → Data → Option Key
 own_key place d =
     option_and_then
     (λ id. option_and_then (λ next. option_map (λ spacer. record { place = place; id = id; next_layer = next; is_spacer = spacer })
     (optional_spacer (get (codes "sp") d))) (optional_text (get (codes "nextlayer") d))) (optional_text (get (codes "id") d))
 
--- the key of an object behind the keys found before it
+-- the keys found so far, followed by the key of an object
 abbrev pub own_onto : LayoutPlace → List Key → Data → Option (List Key)
 own_onto place found d = option_map (λ key. found ++ key ∷ []) (own_key place d)
 
--- the members of `flick` that are keys, in the order in which they count
+-- the members of `flick` that are keys, in the order in which they are read
 unfoldable pub directions : List (List ℕ)
 directions = codes "n" ∷ codes "ne" ∷ codes "e" ∷ codes "se" ∷ codes "s" ∷ codes "sw" ∷ codes "w" ∷ codes "nw" ∷ []
 
 abbrev mutual
-  -- behind the keys found before: a key, then its subkeys, `sk` first, then `flick`, then `multitap`; None where one of
-  -- them has another shape
+  -- the keys found so far, followed by a key and its subkeys: `sk`, then `flick`, then `multitap`; None if one of them has
+  -- another shape
   pub key_onto : LayoutPlace → List Key → Data → Option (List Key)
   key_onto place found null = None
   key_onto place found (boolean b) = None
@@ -67,7 +66,7 @@ abbrev mutual
       option_and_then (λ found. option_and_then (λ found. option_and_then (λ found. list_member place (codes "multitap") found ms)
       (flick_member place found ms)) (list_member place (codes "sk") found ms)) (own_onto place found (object ms))
 
-  -- the keys of a list
+  -- the keys found so far, followed by the keys of a list
   pub list_onto : LayoutPlace → List Key → Data → Option (List Key)
   list_onto place found null = None
   list_onto place found (boolean b) = None
@@ -80,7 +79,7 @@ abbrev mutual
   items_onto place found no_items = Some found
   items_onto place found (item d ds) = option_and_then (λ found. items_onto place found ds) (key_onto place found d)
 
-  -- the keys of a flick, direction by direction
+  -- the keys found so far, followed by the keys of a flick, direction by direction
   pub directions_onto : LayoutPlace → List Key → Data → Option (List Key)
   directions_onto place found null = None
   directions_onto place found (boolean b) = None
@@ -90,7 +89,7 @@ abbrev mutual
   directions_onto place found (object ms) =
       fold (λ sofar name. option_and_then (λ found. key_member place name found ms) sofar) (Some found) directions
 
-  -- the keys of the list that is the member of a name, of the flick, and of the key that is; none where there is none
+  -- the keys found so far, followed by the keys of an optional member: a list, the flick, or a single key
   pub list_member : LayoutPlace → List ℕ → List Key → Members → Option (List Key)
   list_member place name found no_members = Some found
   list_member place name found (member k d ms) =
@@ -106,7 +105,7 @@ abbrev mutual
   key_member place name found (member k d ms) =
       match_ordering (slice_cmp nat_cmp name k) (key_member place name found ms) (key_onto place found d) (key_member place name found ms)
 
--- the same of what a look-up of the member gives
+-- the keys found so far, followed by the keys of what a look-up returns: a list, the flick, or a single key
 abbrev pub list_at : LayoutPlace → List Key → Option Data → Option (List Key)
 list_at place found None = Some found
 list_at place found (Some d) = list_onto place found d
@@ -119,12 +118,12 @@ abbrev pub key_at : LayoutPlace → List Key → Option Data → Option (List Ke
 key_at place found None = Some found
 key_at place found (Some d) = key_onto place found d
 
--- the keys that are members of some names, one after the other
+-- the keys found so far, followed by the keys in the members with these names
 abbrev pub names_onto : LayoutPlace → Data → List (List ℕ) → List Key → Option (List Key)
 names_onto place d [] found = Some found
 names_onto place d (name ∷ names) found = option_and_then (λ found. names_onto place d names found) (key_at place found (get name d))
 
--- the keys that code has found
+-- the key that a `TouchKey` denotes
 abbrev pub key_view : TouchKey → Key
 key_view key = record { place = key.place; id = key.id.now; next_layer = key.next_layer.now; is_spacer = key.is_spacer }
 

@@ -1,4 +1,4 @@
--- Layers as tables of ids have them, with what look-ups compare: the platform and the id.
+-- Layers as in the tables of ids: only the platform and the id, which look-ups compare.
 use Rattle.std.specs.Prelude.{◌≡◌, ℕ, Bool, ◌&&◌, nat_eq, List, bytes_eq}
 use Rattle.std.specs.Str.{str_to_ascii_lowercase}
 use Rattle.std.specs.List.{list_any}
@@ -18,6 +18,6 @@ folded layer = layer_of layer.place.platform (str_to_ascii_lowercase layer.id)
 abbrev pub is_equal_layer : Layer → Layer → Bool
 is_equal_layer layer other = nat_eq layer.place.platform other.place.platform && bytes_eq layer.id other.id
 
--- a key finds the layer that it leads to among some layers where it finds it among others
+-- each key finds the layer that it leads to in both lists of layers or in neither
 abbrev pub FindsSame : List Layer → List Layer → Type 0
 FindsSame some others = (key : Key) → list_any (is_next_layer key) some ≡ list_any (is_next_layer key) others

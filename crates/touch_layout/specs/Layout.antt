@@ -31,7 +31,7 @@ is_next_layer key layer = nat_eq layer.place.platform key.place.platform && byte
 abbrev pub leads_nowhere : List Layer → Key → Bool
 leads_nowhere layers key = nat_lt 0 (length key.next_layer) && not (list_any (is_next_layer key) layers)
 
--- T5: a T_ key without a record, though it leads to no layer and is no spacer
+-- T5: a T_ key without a record leads to no layer and is not a spacer
 abbrev pub does_nothing : (List ℕ → Bool) → Key → Bool
 does_nothing has_record key =
     is_touch_name key.id && nat_eq (length key.next_layer) 0 && not key.is_spacer && not (has_record key.id)
@@ -57,11 +57,11 @@ keys_fault has_record layers (key ∷ keys) =
 abbrev pub is_same_layer : Layer → Layer → Bool
 is_same_layer layer other = nat_eq other.place.platform layer.place.platform && same_name other.id layer.id
 
--- T6: the id of a layer stood before in its platform
+-- T6: an earlier layer of the platform has the same id
 abbrev pub layer_fault : List Layer → Layer → Option LayoutFault
 layer_fault before layer = if list_any (is_same_layer layer) before then Some (fault T6 layer.place) else None
 
--- the first layer behind others whose id stood before
+-- the fault of the first layer whose id an earlier layer of its platform has
 abbrev pub layers_fault : List Layer → List Layer → Option LayoutFault
 layers_fault before [] = None
 layers_fault before (layer ∷ layers) = option_or (layer_fault before layer) (layers_fault (before ++ layer ∷ []) layers)
@@ -70,23 +70,23 @@ layers_fault before (layer ∷ layers) = option_or (layer_fault before layer) (l
 abbrev pub value_of : List ℕ → Option Data
 value_of text = if is_utf8 text then read text else None
 
--- T2: the layout of a value, or the first place of another shape
+-- T2: the layout of a value, or the first place with another shape
 abbrev pub shaped_layout : Result Layout LayoutPlace → Result Layout LayoutFault
 shaped_layout (Ok layout) = Ok layout
 shaped_layout (Err place) = Err (fault T2 place)
 
--- T1: the layout of a value that was read
+-- T1: the layout of a value, if one was read
 abbrev pub read_layout : Option Data → Result Layout LayoutFault
 read_layout None = Err (fault T1 whole_layout)
 read_layout (Some root) = shaped_layout (layout_of root)
 
--- T7: the layout of bytes, which are not too many
+-- T7: the layout of bytes, if they are not too many
 abbrev pub layout_in : List ℕ → Result Layout LayoutFault
 layout_in bytes =
     if nat_lt TEXT_BYTES (length bytes) then Err (fault T7 whole_layout)
     else read_layout (value_of (without_mark bytes))
 
--- the first rule that a layout breaks: that of layers before those of keys
+-- the first rule that a layout breaks: the rule of layers precedes the rules of keys
 abbrev pub rules_fault : (List ℕ → Bool) → Result Layout LayoutFault → Option LayoutFault
 rules_fault has_record (Err fault) = Some fault
 rules_fault has_record (Ok layout) =
@@ -100,6 +100,6 @@ abbrev pub count_of : Result Layout LayoutFault → ℕ
 count_of (Err fault) = 0
 count_of (Ok layout) = length layout.keys
 
--- how many keys the bytes of a layout have, subkeys among them
+-- the number of keys in the bytes of a layout, including subkeys
 abbrev pub key_count : List ℕ → ℕ
 key_count bytes = count_of (layout_in bytes)

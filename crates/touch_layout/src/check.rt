@@ -1,9 +1,9 @@
-//! The rules of a layout, in the order in which they are looked at.
+//! The rules of a layout, in the order in which they are checked.
 
 ghost use Rattle.std.specs.Prelude.{◌≡◌, IfOk, IfErr, Some, None, Ok, option_map, map};
 ghost use Rattle.serde_json.specs.View.{view};
 ghost use Rattle.rule_model.specs.Tab.{tab};
-ghost use Rattle.kmn_names.specs.Names.{is_named};
+ghost use Rattle.store_table.specs.Names.{is_named};
 ghost use Rattle.touch_layout.specs.Ids.{has_record};
 ghost use Rattle.touch_layout.specs.Keys.{key_view, keys_view};
 ghost use Rattle.touch_layout.specs.LayerIds.{layer_of};
@@ -22,27 +22,27 @@ use indexmap::IndexSet;
 use kmn_base::limits::TEXT_BYTES;
 use kmn_base::texts::without_mark;
 use kmn_base::{Code, Memory};
-use kmn_names::NameTable;
 use rule_model::{Group, Tables};
 use serde_json::Value;
 use std::alloc::Global;
 use std::str;
+use store_table::NameTable;
 
-/// Whether an id isn't empty and is one that no key can have.
+/// Returns whether the id of a key isn't empty and no key can have it.
 fn has_strange_id(key: &TouchKey<'_>) -> bool
     ensures { result ≡ has_strange_id (key_view key.now) }
 {
     key.id.len() > 0 && !is_key_id(key.id.as_bytes())
 }
 
-/// Whether a key leads to a layer that its platform doesn't have.
+/// Returns whether a key leads to a layer that its platform doesn't have.
 fn leads_nowhere<'v>(ids: &IndexSet<(u32, &'v str)>, key: &TouchKey<'v>) -> bool
     ensures { result ≡ leads_nowhere (map (λ id. layer_of id.0 id.1.now) ids.now.keys) (key_view key.now) }
 {
     key.next_layer.len() > 0 && !has_next_layer(ids, key)
 }
 
-/// Whether a T_ key has no record, leads to no layer and is no spacer.
+/// Returns whether a T_ key has no record, leads to no layer and is not a spacer.
 fn does_nothing(names: &NameTable, key: &TouchKey<'_>) -> bool
     ensures { result ≡ does_nothing (is_named names.now) (key_view key.now) }
 {
@@ -50,7 +50,7 @@ fn does_nothing(names: &NameTable, key: &TouchKey<'_>) -> bool
     is_touch_name(id) && key.next_layer.len() == 0 && !key.is_spacer && !names.has(id)
 }
 
-/// The first rule that a key breaks.
+/// Returns the first rule that a key breaks, if any.
 fn key_code<'v>(
     names: &NameTable,
     ids: &IndexSet<(u32, &'v str)>,
@@ -70,7 +70,7 @@ fn key_code<'v>(
     None
 }
 
-/// The first key that breaks a rule.
+/// Returns the fault of the first key that breaks a rule, if any.
 fn keys_fault<'v>(
     names: &NameTable,
     ids: &IndexSet<(u32, &'v str)>,
@@ -89,7 +89,7 @@ fn keys_fault<'v>(
     None
 }
 
-/// The first key of a layout that breaks a rule.
+/// Returns the fault of the first key of a layout that breaks a rule, if any.
 #[tactic(auto, using(crate::proofs::FoundLayers::same_keys_fault))]
 fn found_keys_fault(
     alloc: Global,
@@ -105,7 +105,7 @@ fn found_keys_fault(
     Ok(keys_fault(&names, &ids, found.keys.as_slice()))
 }
 
-/// The first rule that a layout breaks: that of layers before those of keys.
+/// Returns the first rule that a layout breaks, if any: the rule of layers precedes the rules of keys.
 fn rules_fault(
     alloc: Global,
     keyboard: &IndexedTables<'_>,
@@ -121,7 +121,7 @@ fn rules_fault(
     }
 }
 
-/// The JSON value of bytes.
+/// Returns the JSON value of bytes, or `None` if they are not JSON in UTF-8.
 fn read_value(alloc: Global, bytes: &[u8]) -> Result<Option<Value>, Memory>
     ensures { IfOk result (λ value. option_map view value ≡ value_of bytes.now) }
 {
@@ -138,7 +138,9 @@ fn read_value(alloc: Global, bytes: &[u8]) -> Result<Option<Value>, Memory>
     }
 }
 
-/// The count of the keys of a value whose layout breaks no rule, else the first rule that it breaks.
+/// Returns the number of keys of a layout.
+///
+/// Errors: `Refused` with the first rule that the layout breaks; `Memory` if an allocation fails.
 fn check_value(
     alloc: Global,
     root: &Value,
@@ -165,10 +167,12 @@ fn check_value(
     Ok(found.keys.len())
 }
 
-/// The count of the keys of a layout, subkeys among them, where it breaks no rule for the keyboard of the tables; else
-/// the first rule that it breaks, in the order T7, T1, T2, T6 and then key by key T3, T4, T5, and of one rule the first
-/// by place. The form is that of Keyman's touch layouts; the rules are our own choice.
-pub fn check_layout(alloc: Global, bytes: &[u8], tables: &Tables) -> Result<usize, LayoutError>
+/// Checks a layout for the keyboard of the tables and returns the number of its keys, including subkeys. The format is the
+/// format of Keyman's touch layouts; the rules are our own choice.
+///
+/// Errors: `Refused` with the first rule that the layout breaks, in the order T7, T1, T2, T6 and then key by key T3, T4, T5, and
+/// for one rule the first by place; `Memory` if an allocation fails.
+pub fn check_layout(alloc: Global, bytes: &[u8], tables: &Tables) -> Result<u32, LayoutError>
     ensures count { IfOk result (λ count. (layout_fault bytes.now tables.now ≡ None) × (count ≡ key_count bytes.now)) }
     ensures refused { IfErr result (λ e. (fault : _) → e ≡ Refused fault
         → layout_fault bytes.now tables.now ≡ Some fault) }
@@ -186,5 +190,7 @@ pub fn check_layout(alloc: Global, bytes: &[u8], tables: &Tables) -> Result<usiz
         }));
     };
     let keyboard = IndexedTables::new(alloc, tables)?;
-    check_value(alloc, &root, &keyboard, tables.groups.as_slice())
+    let count = check_value(alloc, &root, &keyboard, tables.groups.as_slice())?;
+    // A layout has at most one more key than bytes, so the cast does not truncate.
+    Ok(count as u32)
 }

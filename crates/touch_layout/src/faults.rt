@@ -4,8 +4,8 @@ ghost use Rattle.touch_layout.specs.Faults.{whole_layout};
 use kmn_base::{Code, Memory};
 use thiserror::Error;
 
-/// Where something of a layout stands. Each number counts from 1; 0 says that none of this kind is meant. Platforms 1
-/// to 3 are phone, tablet and desktop.
+/// A place in a layout. Each number counts from 1; 0 means that the place has no number of this kind. Platforms 1 to 3 are
+/// phone, tablet and desktop.
 #[derive(Clone, Copy, Debug, PartialEq, Eq)]
 pub struct LayoutPlace {
     pub platform: u32,
@@ -14,14 +14,14 @@ pub struct LayoutPlace {
     pub key: usize,
 }
 
-/// A rule that a layout breaks, and where. A subkey has the number of its top key.
+/// A rule that a layout breaks, and its place. A subkey has the number of its top key.
 #[derive(Clone, Copy, Debug, PartialEq, Eq)]
 pub struct LayoutFault {
     pub code: Code,
     pub place: LayoutPlace,
 }
 
-/// Why a layout was not accepted.
+/// The error of a layout that is not accepted.
 #[derive(Debug, Drop, Error)]
 pub enum LayoutError {
     #[error("refused {} platform {} layer {} row {} key {}", .0.code, .0.place.platform, .0.place.layer, .0.place.row, .0.place.key)]
@@ -41,7 +41,7 @@ impl From<Memory> for LayoutError {
     }
 }
 
-/// The place of a layout as a whole.
+/// Returns the place of a layout as a whole.
 pub(crate) fn whole_layout() -> LayoutPlace
     ensures { result ≡ whole_layout }
 {

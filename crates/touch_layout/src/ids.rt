@@ -1,4 +1,4 @@
-//! Which ids a key of a layout can have.
+//! The ids that a key of a layout can have.
 
 ghost use Rattle.std.specs.Prelude.{◌≡◌, map};
 ghost use Rattle.std.specs.List.{list_any, list_all};
@@ -9,7 +9,7 @@ use kmn_base::limits::SOURCE_NAME_CHARS;
 use kmn_base::names::same_name;
 use kmn_base::slices::{before, behind};
 use kmn_base::texts::character_count;
-use rule_model::{key_named, named_chars};
+use virtual_keys::{key_named, named_chars};
 
 /// The names of keys that a layout can have and a source can't. The list is our own choice.
 static LAYOUT_NAMES: [&str; 26] = [
@@ -41,7 +41,7 @@ static LAYOUT_NAMES: [&str; 26] = [
     "K_RALT",
 ];
 
-/// Whether an id is one of some names.
+/// Returns whether an id is one of these names, ignoring ASCII case.
 fn is_among(names: &[&str], id: &[u8]) -> bool
     ensures { result ≡ list_any (λ name. same_name name id.now) (map (λ name. name.now) names.now) }
 {
@@ -53,7 +53,7 @@ fn is_among(names: &[&str], id: &[u8]) -> bool
     false
 }
 
-/// Whether an id is a name that only layouts have.
+/// Returns whether an id is a name that only layouts have.
 #[tactic(auto, unfolding(crate::specs::Ids::layout_names))]
 fn is_layout_name(id: &[u8]) -> bool
     ensures { result ≡ list_any (λ name. same_name name id.now) layout_names }
@@ -61,7 +61,7 @@ fn is_layout_name(id: &[u8]) -> bool
     is_among(&LAYOUT_NAMES, id)
 }
 
-/// Whether a byte can be one of a word.
+/// Returns whether a byte can occur in a word.
 fn is_word_byte(byte: u8) -> bool
     ensures { result ≡ is_word_byte byte }
 {
@@ -84,7 +84,7 @@ fn is_word_byte(byte: u8) -> bool
     )
 }
 
-/// Whether each byte can be one of a word.
+/// Returns whether each byte of an id can occur in a word.
 fn is_word(id: &[u8]) -> bool
     ensures { result ≡ list_all is_word_byte id.now }
 {
@@ -96,7 +96,7 @@ fn is_word(id: &[u8]) -> bool
     true
 }
 
-/// Whether a text has U+FFFF, the sentinel of compiled strings.
+/// Returns whether a text contains U+FFFF, the sentinel of compiled strings.
 #[tactic(auto, using(crate::proofs::Sentinels::sentinel_behind))]
 fn has_sentinel(text: &[u8]) -> bool
     ensures { result ≡ has_sentinel text.now }
@@ -109,7 +109,7 @@ fn has_sentinel(text: &[u8]) -> bool
     false
 }
 
-/// Whether an id is a T_ name.
+/// Returns whether an id is a T_ name.
 pub(crate) fn is_touch_name(id: &[u8]) -> bool
     ensures { result ≡ is_touch_name id.now }
 {
@@ -120,7 +120,7 @@ pub(crate) fn is_touch_name(id: &[u8]) -> bool
         && !has_sentinel(id)
 }
 
-/// Whether a key can have an id.
+/// Returns whether a key can have an id.
 pub(crate) fn is_key_id(id: &[u8]) -> bool
     ensures { result ≡ is_key_id id.now }
 {

@@ -1,4 +1,4 @@
-//! The keys of a layout: each key with its subkeys behind it.
+//! Reads the keys of a layout: each key is followed by its subkeys.
 
 ghost use Rattle.std.specs.Prelude.{◌≡◌, MatchResult, Some, None, map, option_map, codes};
 ghost use Rattle.serde_json.specs.View.{view};
@@ -12,7 +12,7 @@ use serde_json::Value;
 /// The members of a flick, in the order in which their keys are read.
 const DIRECTIONS: &[&str] = &["n", "ne", "e", "se", "s", "sw", "w", "nw"];
 
-/// What a key states. A text is empty where it is left out.
+/// The members of a key. A text is empty if it is omitted.
 #[derive(Clone, Copy)]
 pub struct TouchKey<'v> {
     pub place: LayoutPlace,
@@ -21,14 +21,14 @@ pub struct TouchKey<'v> {
     pub is_spacer: bool,
 }
 
-/// Why a key was not read: something of it has another shape, or want of memory.
+/// The error of a key that cannot be read: part of it has another shape, or an allocation fails.
 #[derive(Clone, Copy, Debug, PartialEq, Eq)]
 pub enum Unread {
     Shape,
     Memory,
 }
 
-/// The text of a member that may be left out; None where it is no text.
+/// Returns the text of an optional member, or `None` if the member is not a text.
 fn optional_text<'v>(member: Option<&'v Value>) -> Option<&'v str>
     ensures { option_map (λ s. s.now) result ≡ optional_text (option_map (λ v. view v.now) member.entry) }
 {
@@ -38,7 +38,7 @@ fn optional_text<'v>(member: Option<&'v Value>) -> Option<&'v str>
     }
 }
 
-/// Whether an `sp` is 9 or 10, as a whole number or a text; None where it is neither number nor text.
+/// Returns whether an `sp` is 9 or 10, as a whole number or a text, or `None` if it is neither a number nor a text.
 fn spacer_of(value: &Value) -> Option<bool>
     ensures { result ≡ spacer_of (view value.now) }
 {
@@ -52,7 +52,7 @@ fn spacer_of(value: &Value) -> Option<bool>
     }
 }
 
-/// The same of a member that may be left out.
+/// Returns whether an optional `sp` is 9 or 10, or `None` if it is neither a number nor a text.
 fn optional_spacer(member: Option<&Value>) -> Option<bool>
     ensures { result ≡ optional_spacer (option_map (λ v. view v.now) member.entry) }
 {
@@ -62,7 +62,7 @@ fn optional_spacer(member: Option<&Value>) -> Option<bool>
     }
 }
 
-/// What an object states of its own key.
+/// Returns the key of an object without its subkeys, or `None` if a member has another shape.
 fn own_key<'v>(value: &'v Value, place: LayoutPlace) -> Option<TouchKey<'v>>
     ensures { option_map key_view result ≡ own_key place (view value.now) }
 {
@@ -114,7 +114,7 @@ fn add_own<'v>(
     found.push(key).map_err(|_| Unread::Memory)
 }
 
-/// Adds the keys of the list that is a member, if there is one.
+/// Adds the keys of the list in a member, if the member is present.
 #[cycle(add_key)]
 fn add_list<'v>(
     value: &'v Value,
@@ -153,7 +153,7 @@ fn add_items<'v>(
     Ok(())
 }
 
-/// Adds the keys of the flick, if there is one.
+/// Adds the keys of the flick, if it is present.
 #[cycle(add_key)]
 fn add_flick<'v>(
     value: &'v Value,
@@ -188,7 +188,7 @@ fn add_directions<'v>(
     add_members(flick, DIRECTIONS, place, found)
 }
 
-/// Adds the keys that are members of these names, as far as there are any.
+/// Adds the keys in the members with these names, if they are present.
 #[cycle(add_key)]
 fn add_members<'v>(
     flick: &'v Value,
@@ -206,7 +206,7 @@ fn add_members<'v>(
     Ok(())
 }
 
-/// Adds the key of one direction, if there is one.
+/// Adds the key of one direction, if it is present.
 #[cycle(add_key)]
 fn add_direction<'v>(
     flick: &'v Value,

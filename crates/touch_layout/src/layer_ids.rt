@@ -15,7 +15,7 @@ use kmn_base::names::in_lower_case;
 use kmn_base::{Code, Memory};
 use std::alloc::Global;
 
-/// Adds a layer to those that a key finds.
+/// Adds a layer to the layers that a key can find.
 fn add_id<'v>(ids: &mut IndexSet<(u32, &'v str)>, layer: &TouchLayer<'v>) -> Result<(), Memory>
     ensures { OnOk result ((others : List Layer)
         → FindsSame (map (λ id. layer_of id.0 id.1.now) ids.old.keys) others
@@ -25,7 +25,7 @@ fn add_id<'v>(ids: &mut IndexSet<(u32, &'v str)>, layer: &TouchLayer<'v>) -> Res
     Ok(())
 }
 
-/// The layers of a layout, for a look-up by platform and id.
+/// Returns the layers of a layout, for look-ups by platform and id.
 pub(crate) fn layer_ids<'v>(
     alloc: Global,
     layers: &[TouchLayer<'v>],
@@ -39,14 +39,14 @@ pub(crate) fn layer_ids<'v>(
     Ok(ids)
 }
 
-/// Whether the platform of a key has the layer that the key leads to.
+/// Returns whether the platform of a key has the layer that the key leads to.
 pub(crate) fn has_next_layer<'v>(ids: &IndexSet<(u32, &'v str)>, key: &TouchKey<'v>) -> bool
     ensures { result ≡ list_any (is_next_layer (key_view key.now)) (map (λ id. layer_of id.0 id.1.now) ids.now.keys) }
 {
     ids.contains(&(key.place.platform, key.next_layer))
 }
 
-/// Adds a layer, and answers whether it is none of those before it, without ASCII case.
+/// Adds the id of a layer and returns whether the id is new on its platform. Ids compare without ASCII case.
 fn add_layer(
     alloc: Global,
     ids: &mut IndexSet<(u32, Vec<u8>)>,
@@ -62,7 +62,7 @@ fn add_layer(
     Ok(new)
 }
 
-/// The first layer whose id stood before.
+/// Returns the fault of the first layer whose id an earlier layer of its platform has, if any.
 pub(crate) fn layers_fault(
     alloc: Global,
     layers: &[TouchLayer<'_>],

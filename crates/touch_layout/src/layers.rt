@@ -1,4 +1,4 @@
-//! The layers of a layout, with their keys.
+//! Reads the layers of a layout, with their keys.
 
 ghost use Rattle.std.specs.Prelude.{◌≡◌, MatchResult, Ok, Err, option_map};
 ghost use Rattle.serde_json.specs.View.{view, items_view};
@@ -12,21 +12,21 @@ use crate::keys::{TouchKey, Unread, add_key};
 use serde_json::Value;
 use std::alloc::Global;
 
-/// Why a layout was not read: something at a place has another shape, or want of memory.
+/// The error of a layout that cannot be read: something at a place has another shape, or an allocation fails.
 #[derive(Clone, Copy, Debug, PartialEq, Eq)]
 pub enum Unfit {
     Shape(LayoutPlace),
     Memory,
 }
 
-/// A layer at its place.
+/// A layer with its place.
 #[derive(Clone, Copy)]
 pub struct TouchLayer<'v> {
     pub place: LayoutPlace,
     pub id: &'v str,
 }
 
-/// The list that is a member.
+/// Returns the list in a member, if any.
 fn list_in<'v>(value: &'v Value, name: &str) -> Option<&'v Vec<Value>>
     ensures { option_map (λ v. items_view v.now.items) result ≡ list_in name.now (view value.now) }
 {
@@ -96,7 +96,7 @@ fn add_rows<'v>(
     Ok(())
 }
 
-/// What was found of a layout: its layers and its keys, in the order of their places.
+/// The layers and the keys of a layout, each in the order of their places.
 #[derive(Drop)]
 pub struct FoundKeys<'v> {
     pub layers: Vec<TouchLayer<'v>>,
@@ -136,7 +136,7 @@ fn add_layer<'v>(
         .map_err(|_| Unfit::Memory)
 }
 
-/// The text that is a member.
+/// Returns the text in a member, if any.
 fn text_in<'v>(value: &'v Value, name: &str) -> Option<&'v str>
     ensures { option_map (λ s. s.now) result ≡ text_in name.now (view value.now) }
 {
@@ -164,7 +164,7 @@ fn add_layers<'v>(
     Ok(())
 }
 
-/// Adds a platform, if it is there.
+/// Adds a platform, if it is present.
 fn add_platform<'v>(
     root: &'v Value,
     name: &str,

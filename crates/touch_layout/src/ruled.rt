@@ -1,17 +1,17 @@
-//! Which ids the records of a keyboard have as their key.
+//! The ids that the records of a keyboard have as their keys.
 
 ghost use Rattle.std.specs.Prelude.{◌≡◌, [], IfOk, OnOk};
 ghost use Rattle.rule_model.specs.Tab.{tab};
-ghost use Rattle.kmn_names.specs.Numbering.{with_marks};
+ghost use Rattle.store_table.specs.Numbering.{with_marks};
 ghost use Rattle.touch_layout.specs.Ids.{recorded_name, recorded_names, rule_names};
 
 use indexed_tables::IndexedTables;
 use kmn_base::{Memory, RuleKey};
-use kmn_names::NameTable;
 use rule_model::{Group, Rule};
 use std::alloc::Global;
+use store_table::NameTable;
 
-/// Adds the name that the dictionary has for the key of a record.
+/// Adds the dictionary's name for the key of a record, if any.
 fn add_name(names: &mut NameTable, keyboard: &IndexedTables<'_>, key: RuleKey) -> Result<(), Memory>
     ensures { OnOk result (names.new ≡ with_marks names.old (recorded_name (tab keyboard.now).dictionary key)) }
 {
@@ -39,7 +39,7 @@ fn add_names(
     Ok(())
 }
 
-/// The names of the keys of all records, each once.
+/// Returns the names of the keys of all records, each once.
 #[tactic(auto, using(crate::proofs::RecordedNames::next_group))]
 pub(crate) fn recorded_names(
     alloc: Global,

@@ -1,17 +1,17 @@
 //! Runs of the commands over a folder and a sink in memory, as tables.
 //!
-//! A run stands in five lines of a table:
-//! - the words, of several commands behind `; ` one after the other;
-//! - the source and, behind ` ⇒ `, the pieces of its compiled file that stand as `a.kmx`: `FROM-TO` is a part of the file, and
-//!   four hexadecimal digits are a unit;
+//! Each run is five lines of a table:
+//! - the command-line arguments; `; ` separates several commands, which run one after the other;
+//! - the source and, after ` ⇒ `, the pieces of its compiled file that make up `a.kmx`: `FROM-TO` is a part of the file, and four
+//!   hexadecimal digits are a unit;
 //! - the script;
 //! - the exit status, the size of the file `out`, and the numbers from 1 of the folder's call and of the sink's call that fail;
-//!   a number that isn't there is 0, for no file and no call;
-//! - what is printed or, behind `?`, lines that are among the printed ones.
+//!   a missing number is 0, for no file and no call;
+//! - the printed text or, after `?`, lines that are among the printed ones.
 //!
 //! `¶` stands for a line feed, `␍` for a carriage return, `⌖` for U+FEFF, `@` for the two lines `begin Unicode > use(main)` and
-//! `group(main) using keys`, `⟨TEXT×COUNT⟩` for a text so many times, and `SAMPLE` for a keyboard of every kind of statement. A
-//! line that ends in a backslash goes on in the next.
+//! `group(main) using keys`, `⟨TEXT×COUNT⟩` for COUNT copies of a text, and `SAMPLE` for a keyboard with every kind of statement. A
+//! line that ends in a backslash continues in the next one.
 
 /// Runs on sources.
 pub const RUNS: &str = r##"test a.kmn out a.keys
@@ -349,7 +349,7 @@ SAMPLE
 9 del=0 ins=201C pass=0 beep=0 ent=2 ctx=00E0.00C8.2013.201C¶10 del=1 ins=- pass=0 beep=0 ent=1 ctx=00E0.00C8.2013¶\
 11 del=0 ins=- pass=0 beep=1 ent=3 ctx=00E0.00C8.2013¶text 00E0.00C8.2013|-¶end events=11 failed=0¶"##;
 
-/// Runs on compiled files, and on what was made of them.
+/// Runs on compiled keyboards, and on files that were made from their pieces.
 pub const FILE_RUNS: &str = r##"verify a.kmx
 @+ 'a' > 'b'¶ ⇒ 0-122
 
@@ -673,7 +673,7 @@ decompile a.kmx out
 0 101
 decompiled bytes=101¶"##;
 
-/// Runs that check touch layouts, which stand as the script.
+/// Runs that check touch layouts. The line of the script contains the layout.
 pub const LAYOUT_RUNS: &str = r##"layout a.kmn a.keys
 SAMPLE
 {"phone":{"font":"Sans","layer":[{"id":"default","row":[{"id":"1","key":[{"id":"K_A","text":"a","sk":[{"id":"U_00E1","text":"x"}]},\
@@ -749,7 +749,7 @@ layout a.kmn a.keys
 
 "##;
 
-/// Runs on long inputs, and loads.
+/// Runs on long inputs, and runs of loads.
 pub const LONG_RUNS: &str = r##"test a.kmn out a.keys
 @+ 'a' > 'b'
 ⟨[K_F5]¶×100001⟩
@@ -812,7 +812,7 @@ load 1
 
 "##;
 
-/// The keyboard of `SAMPLE`: the lines of `examples/sample.kmn`, whose script is `examples/sample.keys`.
+/// The keyboard of `SAMPLE`: the lines of `examples/sample.kmn`. Its script is `examples/sample.keys`.
 pub const SAMPLE: &str = r##"c Acute and grave vowels
 store(&version) '10.0'
 store(&name) 'Sample Accents'
@@ -846,7 +846,7 @@ group(after)
 '--' > U+2013
 "##;
 
-/// The text of the first run's file.
+/// The text that the file of the first run decompiles to.
 pub const TEXT: &str = r##"store(&version) "10.0"
 begin Unicode > use(main)
 group(main) using keys

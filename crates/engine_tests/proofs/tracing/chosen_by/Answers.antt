@@ -1,7 +1,7 @@
 use Rattle.std.proofs.Common.{sym, subst}
 use Rattle.std.specs.Prelude.{All}
 use Rattle.std.specs.List.{Contains}
-use Rattle.plain_event.specs.Coverage.{record_lines}
+use Rattle.rule_trace.specs.Coverage.{record_lines}
 use Rattle.engine_tests.proofs.tracing.chosen_by.Goals as goal
 
 pub count-requires-clause-among : goal.count-requires-clause-among

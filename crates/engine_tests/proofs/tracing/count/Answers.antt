@@ -1,5 +1,5 @@
 use Rattle.std.proofs.Common.{◌∙◌, get_or}
-use Rattle.plain_event.proofs.Counting.{lines_are_covered}
+use Rattle.rule_trace.proofs.Counting.{lines_are_covered}
 use Rattle.engine_tests.proofs.tracing.count.Goals as goal
 
 pub add-requires : goal.add-requires

@@ -1,4 +1,4 @@
-use Rattle.plain_event.specs.Coverage.{AreLinesOf}
+use Rattle.rule_trace.specs.Coverage.{AreLinesOf}
 use Rattle.engine_tests.proofs.tracing.show.Given as goal
 
 abbrev pub invariant-loop-step : goal.invariant-loop-step

@@ -2,7 +2,7 @@ use Rattle.std.proofs.Common.{◌≡◌, [], length}
 use Rattle.std.specs.Prelude.{filter, not, nat_eq, option_copied}
 use Rattle.kmn_base.specs.Names.{same_name}
 use Rattle.rule_model.specs.Tab.{distinct_onto, words}
-use Rattle.rule_model.specs.Groups.{bytes_behind}
+use Rattle.virtual_keys.specs.Groups.{bytes_behind}
 use Rattle.indexed_tables.specs.OwnNames.{AreFolded}
 use Rattle.indexed_tables.specs.Words.{words_behind}
 use Rattle.indexed_tables.proofs.own_keys.distinct_words.Given as goal

@@ -1,6 +1,6 @@
 use Rattle.std.proofs.Common.{◌≡◌, ◌++◌, drop}
 use Rattle.std.specs.Prelude.{flat_map}
-use Rattle.kmn_names.specs.Known.{option_named}
+use Rattle.store_table.specs.Known.{option_named}
 use Rattle.item_checker.proofs.facts.add_options.Given as goal
 
 abbrev pub invariant-loop-item : goal.invariant-loop-item

@@ -1,6 +1,6 @@
 use Rattle.std.proofs.Common.{◌≡◌, ◌++◌, drop}
 use Rattle.std.specs.Prelude.{flat_map}
-use Rattle.kmn_names.specs.Known.{rule_options}
+use Rattle.store_table.specs.Known.{rule_options}
 use Rattle.item_checker.proofs.facts.add_rules_options.Given as goal
 
 abbrev pub invariant-loop-rule : goal.invariant-loop-rule

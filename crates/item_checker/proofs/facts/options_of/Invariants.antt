@@ -1,7 +1,7 @@
 use Rattle.std.proofs.Common.{◌≡◌, ◌++◌, drop}
 use Rattle.std.specs.Prelude.{flat_map}
 use Rattle.rule_model.specs.declared.program.GroupDef.{GroupDef}
-use Rattle.kmn_names.specs.Known.{rule_options}
+use Rattle.store_table.specs.Known.{rule_options}
 use Rattle.item_checker.proofs.facts.options_of.Given as goal
 
 abbrev pub invariant-loop-group : goal.invariant-loop-group

@@ -1,7 +1,7 @@
 use Rattle.std.proofs.Common.{◌∙◌}
 use Rattle.std.specs.List.{list_all}
 use Rattle.rule_model.specs.declared.program.StoreDef.{StoreDef}
-use Rattle.kmn_names.specs.Known.{known}
+use Rattle.store_table.specs.Known.{known}
 use Rattle.item_checker.specs.Summaries.{are_found_keys}
 use Rattle.item_checker.proofs.FoundKeys.{stores_found}
 use Rattle.item_checker.proofs.items.items_refusal.Goals as goal

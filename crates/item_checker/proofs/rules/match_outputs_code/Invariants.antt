@@ -1,5 +1,5 @@
 use Rattle.std.proofs.Common.{◌≡◌, drop}
-use Rattle.kmn_names.specs.First.{first_code}
+use Rattle.store_table.specs.First.{first_code}
 use Rattle.item_checker.specs.Items.{match_output_code}
 use Rattle.item_checker.proofs.rules.match_outputs_code.Given as goal
 

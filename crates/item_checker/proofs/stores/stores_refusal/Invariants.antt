@@ -1,5 +1,5 @@
 use Rattle.std.proofs.Common.{◌≡◌, [], take, drop}
-use Rattle.kmn_names.specs.First.{earlier, first_of}
+use Rattle.store_table.specs.First.{earlier, first_of}
 use Rattle.item_checker.specs.Items.{store_refusal}
 use Rattle.item_checker.proofs.stores.stores_refusal.Given as goal
 

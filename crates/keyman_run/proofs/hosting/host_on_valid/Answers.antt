@@ -2,7 +2,7 @@ use Rattle.std.proofs.Common.{List}
 use Rattle.rule_model.specs.Tab.{tab}
 use Rattle.rule_model.specs.declared.tables.Tables.{Tables}
 use Rattle.kmx_format.specs.TablesOf.{tables_of}
-use Rattle.play_script.specs.declared.entries.HostEntry.{HostEntry}
+use Rattle.text_host.specs.declared.entries.HostEntry.{HostEntry}
 use Rattle.keyman_run.specs.Endings.{Ending, host_ending}
 use Rattle.keyman_run.specs.Orders.{host_script_work}
 use Rattle.keyman_run.specs.Steps.{itself}
@@ -12,7 +12,7 @@ use Rattle.keyman_run.proofs.HostRuns.{hosts_entries}
 use Rattle.keyman_run.proofs.RunLaws.{does_behind, does_stopped}
 use Rattle.keyman_run.proofs.hosting.host_on_valid.Goals as goal
 
--- the work behind the script
+-- the work that follows the script
 abbrev rest : Tables → List HostEntry → Work Ending
 rest tables entries = Give (host_ending tables entries)
 

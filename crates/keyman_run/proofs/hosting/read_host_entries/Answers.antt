@@ -2,7 +2,7 @@ use Rattle.std.proofs.Common.{◌≡◌, List, ℕ, Ok, Err, refl, rules, subst}
 use Rattle.kmn_base.specs.declared.codes.Code.TheVariants.{P06}
 use Rattle.kmn_base.specs.declared.limits.TheConstants.{TEXT_BYTES}
 use Rattle.play_script.specs.Answers.{Answers}
-use Rattle.play_script.specs.HostEntries.{host_entries}
+use Rattle.text_host.specs.HostEntries.{host_entries}
 use Rattle.keyman_run.specs.Inputs.{host_script_of}
 use Rattle.keyman_run.specs.Orders.{host_script_work}
 use Rattle.keyman_run.specs.Steps.{itself, at_line_one, script_stop}

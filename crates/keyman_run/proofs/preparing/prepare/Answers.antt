@@ -11,7 +11,7 @@ use Rattle.keyman_run.proofs.MeaningLaws.{job_behind}
 use Rattle.keyman_run.proofs.RunLaws.{gives_as, gives_value, gives_behind, gives_handed, gives_stopped}
 use Rattle.keyman_run.proofs.preparing.prepare.Goals as goal
 
--- the work behind the file of a program
+-- the work that follows the file of a program
 abbrev script_behind : List ℕ → Program → Compiled → Work Job
 script_behind keys program compiled = and_then (script_work (src program).dictionary keys) (λ entries. Give (record { compiled = compiled; entries = entries }))
 

@@ -13,7 +13,7 @@ use Rattle.keyman_run.proofs.MeaningLaws.{does_as, file_behind}
 use Rattle.keyman_run.proofs.RunLaws.{does_behind, does_written, does_unwritten, does_stopped}
 use Rattle.keyman_run.proofs.running.compile.Goals as goal
 
--- the work behind the file
+-- the work that follows the file
 abbrev rest : List ℕ → Compiled → Work Ending
 rest file compiled = Give (compile_ending file compiled)
 

@@ -14,7 +14,7 @@ use Rattle.keyman_run.proofs.RunLaws.{does_behind, does_written, does_unwritten,
 use Rattle.keyman_run.proofs.TextLaws.{text_means}
 use Rattle.keyman_run.proofs.running.decompile.Goals as goal
 
--- the work behind the text
+-- the work that follows the text
 abbrev rest : List ℕ → List ℕ → Work Ending
 rest source text = Give (decompile_ending source text)
 

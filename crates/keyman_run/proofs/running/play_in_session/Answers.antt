@@ -11,7 +11,7 @@ use Rattle.keyman_run.proofs.FileRuns.{plays_entries}
 use Rattle.keyman_run.proofs.RunLaws.{does_behind, does_stopped}
 use Rattle.keyman_run.proofs.running.play_in_session.Goals as goal
 
--- the work behind the script
+-- the work that follows the script
 abbrev rest : Keyboard → List Entry → Work Ending
 rest kb entries = Give (play_ending kb entries)
 

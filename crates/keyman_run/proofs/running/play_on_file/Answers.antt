@@ -7,7 +7,7 @@ use Rattle.keyman_run.proofs.MeaningLaws.{does_as}
 use Rattle.keyman_run.proofs.RunLaws.{does_behind, does_stopped}
 use Rattle.keyman_run.proofs.running.play_on_file.Goals as goal
 
--- the work behind the bytes
+-- the work that follows the bytes
 abbrev rest : List ℕ → List ℕ → Work Ending
 rest keys bytes = bytes_play_work bytes keys
 

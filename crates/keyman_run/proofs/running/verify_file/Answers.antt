@@ -9,7 +9,7 @@ use Rattle.keyman_run.proofs.FileRuns.{does_file}
 use Rattle.keyman_run.proofs.RunLaws.{does_behind, does_stopped}
 use Rattle.keyman_run.proofs.running.verify_file.Goals as goal
 
--- the work behind the bytes
+-- the work that follows the bytes
 abbrev rest : List ℕ → Work Ending
 rest bytes = and_then (given (tables_of_file bytes)) (λ tables. Give (verify_ending tables))
 

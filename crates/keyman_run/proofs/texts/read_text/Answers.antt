@@ -7,7 +7,7 @@ use Rattle.keyman_run.proofs.RunLaws.{gives_behind, gives_handed, gives_stopped}
 use Rattle.keyman_run.proofs.TextLaws.{gives_stated, text_found}
 use Rattle.keyman_run.proofs.texts.read_text.Goals as goal
 
--- the work behind the bytes
+-- the work that follows the bytes
 abbrev text_behind : List ℕ → Work (List ℕ)
 text_behind bytes = given (text_of_file bytes)
 

@@ -1,7 +1,7 @@
 use Rattle.std.proofs.Common.{List, ℕ}
 use Rattle.rule_model.specs.Keyboard.{Keyboard}
 use Rattle.rule_model.specs.Tab.{tab}
-use Rattle.plain_event.specs.Coverage.{lines_of_tables}
+use Rattle.rule_trace.specs.Coverage.{lines_of_tables}
 use Rattle.keyman_run.specs.Orders.{job_work, trace_work}
 use Rattle.keyman_run.specs.Steps.{prepared_job}
 use Rattle.keyman_run.specs.Work.{and_then}

@@ -2,7 +2,7 @@ use Rattle.std.proofs.Common.{◌≡◌, ◌+◌, drop, get_or, false, arith, su
 use Rattle.std.proofs.lemmas.Grind.{common_steps}
 use Rattle.kmn_lines.specs.declared.line_state.LineState.{LineState}
 use Rattle.kmn_lines.specs.Lines.{ends_line, after_byte, physical_lines}
-use Rattle.kmn_lines.specs.Places.{IsBetween}
+use Rattle.kmn_lines.proofs.LineStates.{IsBetween}
 use Rattle.kmn_lines.proofs.LineStates.{between_after_byte, physical_lines_step}
 use Rattle.kmn_lines.proofs.physical_line.physical_line_at.Goals as goal
 

@@ -1,6 +1,6 @@
 use Rattle.std.proofs.Common.{◌≡◌, ◌-◌, ◌≤◌, length, drop}
 use Rattle.kmn_lines.specs.Lines.{physical_lines, physical_lines_at}
-use Rattle.kmn_lines.specs.Places.{IsBetween}
+use Rattle.kmn_lines.proofs.LineStates.{IsBetween}
 use Rattle.kmn_lines.proofs.physical_line.physical_line_at.Given as goal
 
 abbrev pub invariant-loop-at : goal.invariant-loop-at

@@ -6,7 +6,7 @@ use Rattle.kmn_lines.specs.Tokens.{tokens_refusal}
 use Rattle.kmn_lines.specs.Walks.{lines_left}
 use Rattle.kmn_parser.specs.declared.statement.LastGroup.TheVariants.{Missing}
 use Rattle.kmn_parser.specs.Source.{read_lines, no_program}
-use Rattle.kmn_parser.specs.Reading.{read_behind}
+use Rattle.kmn_parser.proofs.LineLemmas.{read_behind}
 use Rattle.kmn_parser.proofs.reading.read_text.Given as goal
 
 abbrev pub invariant-loop-logical : goal.invariant-loop-logical

@@ -2,7 +2,7 @@ use Rattle.std.proofs.Common.{◌≡◌, []}
 use Rattle.std.specs.Prelude.{option_copied}
 use Rattle.indexed_tables.specs.Words.{words_behind}
 use Rattle.rule_model.specs.Tab.{words}
-use Rattle.rule_model.specs.Groups.{bytes_behind}
+use Rattle.virtual_keys.specs.Groups.{bytes_behind}
 use Rattle.kmx_decompiler.specs.Words.{are_unfit, not_empty}
 use Rattle.kmx_decompiler.proofs.dictionary.are_unfit.Given as goal
 

@@ -1,6 +1,6 @@
 use Rattle.std.proofs.Common.{[], map}
 use Rattle.kmn_base.specs.declared.limits.TheConstants.{FILE_BYTES}
-use Rattle.kmx_format.specs.Walk.{items_given, results_of}
+use Rattle.item_codec.specs.Walk.{items_given, results_of}
 use Rattle.kmx_verifier.specs.Items.{target_of}
 use Rattle.kmx_verifier.specs.FaultOf.{context_fault}
 use Rattle.kmx_verifier.proofs.ContextWalking.{ContextWalksOn}

@@ -1,6 +1,6 @@
 use Rattle.std.proofs.Common.{length}
 use Rattle.kmn_base.specs.declared.limits.TheConstants.{FILE_BYTES}
-use Rattle.kmx_format.specs.Walk.{items_given, results_of}
+use Rattle.item_codec.specs.Walk.{items_given, results_of}
 use Rattle.kmx_verifier.specs.FaultOf.{walk_fault}
 use Rattle.kmx_verifier.proofs.Walking.{WalksOn}
 use Rattle.kmx_verifier.proofs.strings.walk.Given as goal

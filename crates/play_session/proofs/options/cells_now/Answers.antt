@@ -1,6 +1,6 @@
 use Rattle.std.proofs.Common.{◌≡◌, ℕ, List, length, ◌≤◌, ◌++◌, map, sym, ◌∙◌, arith, append-nil}
 use Rattle.std.proofs.lemmas.List.{at_drop_all}
-use Rattle.engine_state.specs.Cells.{cell_at}
+use Rattle.option_store.specs.Cells.{cell_at}
 use Rattle.play_session.proofs.OptionStores.{values_of_cells}
 use Rattle.std.proofs.lemmas.Grind.{common_steps}
 use Rattle.play_session.proofs.options.cells_now.Goals as goal

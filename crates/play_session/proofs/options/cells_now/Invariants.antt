@@ -1,5 +1,5 @@
 use Rattle.std.proofs.Common.{◌≡◌, ◌++◌, drop, map}
-use Rattle.engine_state.specs.Cells.{cell_at}
+use Rattle.option_store.specs.Cells.{cell_at}
 use Rattle.play_session.proofs.options.cells_now.Given as goal
 
 abbrev pub invariant-loop-option : goal.invariant-loop-option

@@ -2,9 +2,10 @@ use Rattle.std.proofs.Common.{◌≡◌, ◌≤◌, drop, IsTrue}
 use Rattle.rule_model.specs.Tab.{tab}
 use Rattle.rule_model.specs.Trace.{trace}
 use Rattle.rule_model.specs.Transcript.{events_of}
-use Rattle.plain_event.specs.Coverage.{lines_of_tables, hit_lines}
+use Rattle.rule_trace.specs.Coverage.{lines_of_tables, hit_lines}
 use Rattle.play_transcript.specs.Printing.{AppendsBut}
-use Rattle.play_transcript.specs.TraceEntry.{text_left, end_left}
+use Rattle.play_transcript.proofs.TraceLaws.{end_left}
+use Rattle.play_transcript.proofs.TraceLaws.{text_left}
 use Rattle.play_transcript.specs.TraceEnds.{trace_end}
 use Rattle.play_transcript.specs.TraceText.{trace_text}
 use Rattle.play_transcript.proofs.following.follow.Given as goal

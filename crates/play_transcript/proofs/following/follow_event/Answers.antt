@@ -1,4 +1,4 @@
-use Rattle.plain_event.specs.Coverage.{hit_lines}
+use Rattle.rule_trace.specs.Coverage.{hit_lines}
 use Rattle.play_transcript.proofs.TraceLaws.{step_is_covered}
 use Rattle.std.proofs.Common.{arith}
 use Rattle.play_transcript.proofs.PrintingLaws.{faults}

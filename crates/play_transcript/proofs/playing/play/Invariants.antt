@@ -4,7 +4,8 @@ use Rattle.rule_model.specs.Trace.{trace}
 use Rattle.rule_model.specs.Transcript.{events_of, transcript}
 use Rattle.play_session.specs.Printed.{IsSession}
 use Rattle.play_transcript.specs.Ends.{play_end}
-use Rattle.play_transcript.specs.Playing.{lines_left, end_left}
+use Rattle.play_transcript.proofs.PlayingLaws.{end_left}
+use Rattle.play_transcript.proofs.PlayingLaws.{lines_left}
 use Rattle.play_transcript.specs.Printing.{AppendsBut}
 use Rattle.play_transcript.proofs.playing.play.Given as goal
 

@@ -1,6 +1,6 @@
 use Rattle.std.proofs.Common.{◌∙◌, Some, ap, sym}
-use Rattle.kmn_names.specs.First.{or_refusal}
-use Rattle.kmn_names.specs.Numbering.{lists_of}
+use Rattle.store_table.specs.First.{or_refusal}
+use Rattle.store_table.specs.Numbering.{lists_of}
 use Rattle.rule_checker.proofs.Refusals.{refused_later}
 use Rattle.rule_checker.proofs.checking.checked_names.Goals as goal
 

@@ -1,5 +1,5 @@
 use Rattle.std.proofs.Common.{◌≡◌, [], take, drop}
-use Rattle.kmn_names.specs.First.{earlier, first_of}
+use Rattle.store_table.specs.First.{earlier, first_of}
 use Rattle.rule_checker.specs.Limits.{group_refusal}
 use Rattle.rule_checker.proofs.limits.groups_refusal.Given as goal
 

@@ -1,5 +1,6 @@
 use Rattle.std.proofs.Common.{◌≡◌, ◌+◌, ◌≤◌, drop}
-use Rattle.rule_checker.specs.Counting.{capped, ending_in}
+use Rattle.rule_checker.specs.Counting.{capped}
+use Rattle.rule_checker.proofs.SpelledTexts.{ending_in}
 use Rattle.rule_checker.proofs.spelled.character_count.Given as goal
 
 abbrev pub invariant-loop-byte : goal.invariant-loop-byte

@@ -2,7 +2,7 @@ use Rattle.std.proofs.Common.{◌≡◌, ◌≤◌, List, length, sym, ◌∙◌
 use Rattle.kmn_base.specs.declared.items.Item.{Item}
 use Rattle.kmn_base.specs.Lists.{characters, window, read_again}
 use Rattle.kmn_base.proofs.ReadingAgain.{reading_again_gives_the_text}
-use Rattle.engine_state.specs.Meaning.{option_values, option_saves}
+use Rattle.option_store.specs.Meaning.{option_values, option_saves}
 use Rattle.rule_model.specs.declared.tables.Tables.{Tables}
 use Rattle.rule_model.specs.KeyEvent.{after_key, outcome_of, inserted}
 use Rattle.rule_model.specs.ChosenLines.{lines_of_press}

@@ -1,6 +1,6 @@
 use Rattle.std.proofs.Common.{◌≡◌, drop}
 use Rattle.std.specs.Prelude.{find}
-use Rattle.kmx_format.specs.Compiles.{is_ansi}
+use Rattle.compile_laws.specs.Compiles.{is_ansi}
 use Rattle.rule_expand.proofs.expanding.ansi_start.Given as goal
 
 abbrev pub invariant-loop-start : goal.invariant-loop-start

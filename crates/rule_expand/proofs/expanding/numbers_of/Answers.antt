@@ -1,5 +1,5 @@
 use Rattle.std.proofs.Common.{◌+◌, length, ap, ◌∙◌}
-use Rattle.kmx_format.specs.Numbers.{dictionary_stores}
+use Rattle.compile_laws.specs.Numbers.{dictionary_stores}
 use Rattle.rule_expand.proofs.ExpandedTables.{are_numbers}
 use Rattle.rule_expand.proofs.expanding.numbers_of.Goals as goal
 

@@ -1,5 +1,5 @@
 use Rattle.std.proofs.Common.{◌≡◌, map, take}
-use Rattle.kmx_format.specs.Compiles.{file_group}
+use Rattle.compile_laws.specs.Compiles.{file_group}
 use Rattle.rule_expand.proofs.groups.groups_of.Given as goal
 
 abbrev pub invariant-loop-group : goal.invariant-loop-group

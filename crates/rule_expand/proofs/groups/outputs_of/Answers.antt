@@ -1,7 +1,7 @@
 use Rattle.std.proofs.Common.{◌≡◌, None, ap, ◌∙◌}
 use Rattle.std.specs.Prelude.{flat_map}
 use Rattle.std.proofs.lemmas.Result.{IfOk-weaker}
-use Rattle.kmx_format.specs.Compiles.{file_outputs}
+use Rattle.compile_laws.specs.Compiles.{file_outputs}
 use Rattle.rule_expand.specs.Pieces.{item_pieces, pieces_outputs}
 use Rattle.rule_expand.proofs.PieceLaws.{pieces_put}
 use Rattle.rule_expand.proofs.groups.outputs_of.Goals as goal

@@ -1,6 +1,6 @@
 use Rattle.std.proofs.Common.{◌≡◌, ◌++◌, map, take}
 use Rattle.std.specs.Prelude.{flat_map}
-use Rattle.kmx_format.specs.Compiles.{element_outs}
+use Rattle.compile_laws.specs.Compiles.{element_outs}
 use Rattle.rule_expand.specs.declared.pieces.Piece.TheVariants.{Fixed}
 use Rattle.rule_expand.proofs.pieces.add_elements.Given as goal
 

@@ -1,5 +1,5 @@
 use Rattle.std.proofs.Common.{◌≡◌, map, take}
-use Rattle.kmx_format.specs.Compiles.{file_pattern}
+use Rattle.compile_laws.specs.Compiles.{file_pattern}
 use Rattle.rule_expand.proofs.records.context_of.Given as goal
 
 abbrev pub invariant-loop-item : goal.invariant-loop-item

@@ -1,5 +1,5 @@
 use Rattle.std.proofs.Common.{◌≡◌, ◌++◌, take, map}
-use Rattle.kmx_format.specs.Numbers.{value_store}
+use Rattle.compile_laws.specs.Numbers.{value_store}
 use Rattle.rule_expand.proofs.stores.add_values.Given as goal
 
 abbrev pub invariant-loop-place : goal.invariant-loop-place

@@ -1,6 +1,6 @@
 use Rattle.std.proofs.Common.{◌≡◌, drop}
 use Rattle.std.specs.Prelude.{find}
-use Rattle.kmx_format.specs.Numbers.{is_version}
+use Rattle.compile_laws.specs.Numbers.{is_version}
 use Rattle.rule_expand.proofs.versions.version_of.Given as goal
 
 abbrev pub invariant-loop-store : goal.invariant-loop-store

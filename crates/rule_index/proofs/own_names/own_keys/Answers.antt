@@ -5,7 +5,8 @@ use Rattle.std.proofs.lemmas.Grind.{common_steps}
 use Rattle.kmn_base.specs.declared.items.Element.{Element}
 use Rattle.kmn_base.specs.declared.limits.TheConstants.{STORE_ELEMENTS}
 use Rattle.rule_model.specs.Tab.{element_char, is_dictionary, store_elements, tab_dictionary}
-use Rattle.rule_index.specs.OwnNames.{names_with, names_read}
+use Rattle.rule_index.specs.OwnNames.{names_with}
+use Rattle.rule_index.proofs.OwnNames.{names_read}
 use Rattle.rule_index.proofs.FewNames.{few_elements}
 use Rattle.rule_index.proofs.OwnNames.{names_are_read}
 use Rattle.rule_index.proofs.own_names.own_keys.Goals as goal

@@ -3,7 +3,7 @@ use Rattle.std.specs.Prelude.{find, filter_map}
 use Rattle.std.specs.String.{string_bytes}
 use Rattle.kmn_base.specs.declared.limits.TheConstants.{STORE_ELEMENTS}
 use Rattle.rule_model.specs.Tab.{element_char, is_dictionary, store_elements}
-use Rattle.rule_index.specs.OwnNames.{names_read}
+use Rattle.rule_index.proofs.OwnNames.{names_read}
 use Rattle.rule_index.proofs.FewNames.{begun}
 use Rattle.rule_index.proofs.own_names.own_keys.Given as goal
 

@@ -1,6 +1,7 @@
 use Rattle.std.proofs.Common.{◌≡◌, ◌∙◌, ◌++◌, ◌∷◌, ◌+◌, sym, subst, List, ℕ, [], slice_index_or, arith}
 use Rattle.std.proofs.lemmas.List.{get_or_default}
-use Rattle.rule_index.specs.Values.{known_in, IsNumbered, AreKnown}
+use Rattle.rule_index.specs.Values.{known_in, IsNumbered}
+use Rattle.rule_index.proofs.Numbering.{AreKnown}
 use Rattle.rule_index.proofs.Numbering.{one_more, numbered_all}
 use Rattle.rule_index.proofs.values.value_numbers.Goals as goal
 

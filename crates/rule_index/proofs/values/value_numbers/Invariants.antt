@@ -1,4 +1,5 @@
-use Rattle.rule_index.specs.Values.{AreKnown, known_in}
+use Rattle.rule_index.specs.Values.{known_in}
+use Rattle.rule_index.proofs.Numbering.{AreKnown}
 use Rattle.rule_index.proofs.values.value_numbers.Given as goal
 
 abbrev pub invariant-loop-place : goal.invariant-loop-place

@@ -1,6 +1,6 @@
 use Rattle.std.proofs.Common.{sym, ◌∙◌, ap}
-use Rattle.engine_state.specs.declared.options.Held.{Held}
-use Rattle.engine_state.specs.Cells.{cell_at, held_value}
+use Rattle.option_store.specs.declared.options.Held.{Held}
+use Rattle.option_store.specs.Cells.{cell_at, held_value}
 use Rattle.rule_model.specs.Tab.{tab}
 use Rattle.rule_model.specs.Keyboard.{stated}
 use Rattle.rule_matching.proofs.StoreContents.{elements_held}

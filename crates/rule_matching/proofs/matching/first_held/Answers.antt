@@ -16,7 +16,7 @@ use Rattle.rule_matching.proofs.FirstHeld.{candidate_found, none_found, passed_a
 use Rattle.rule_matching.proofs.matching.first_held.Goals as goal
 use Rattle.rule_matching.proofs.matching.first_held.Goals.{In-Some}
 
--- the candidate is the next one that the press and the list want
+-- the candidate is the next record with a class of the press and the list
 next : (c : In-Some) → IsNext (wanted_classes c.args.entered.now.press c.args.left.now) 6 (classes_of c.args.entered.now.group.now.using_keys c.args.entered.now.group.now.rules)
     c.loop-number.candidates.from (Some c.in-Some.number)
 next c =
@@ -27,7 +27,7 @@ within : (c : In-Some) → (c.loop-number.candidates.from ≤ c.in-Some.number) 
 within c =
     candidate_within c.args.entered.now.press c.args.left.now c.args.entered.now.group.now.using_keys c.args.entered.now.group.now.rules c.loop-number.candidates.from c.in-Some.number (next c)
 
--- the walk goes on behind the candidate
+-- the iterator continues after the candidate
 forth : (c : In-Some) → c.next.new.self.from ≡ c.in-Some.number + 1
 forth c = ap (λ (walk : CandidatesValue). walk.from) c.in-Some.ensures.rest
 

@@ -2,7 +2,7 @@ use Rattle.std.proofs.Common.{◌≤◌, Bool, List, length, map, Some, None, re
 use Rattle.std.specs.Prelude.{if◌then◌else◌}
 use Rattle.kmn_base.specs.declared.keys.RuleKey.{RuleKey}
 use Rattle.kmn_base.specs.declared.keys.RuleKey.TheVariants as key
-use Rattle.rule_model.specs.Fits.{key_fits}
+use Rattle.virtual_keys.specs.Fits.{key_fits}
 use Rattle.rule_model.specs.declared.event_state.Catch.{Catch}
 use Rattle.rule_matching.specs.Matching.{caught_by_taken}
 use Rattle.rule_matching.specs.Moment.{content_at}

@@ -1,6 +1,6 @@
 use Rattle.std.proofs.Common.{◌≡◌, drop, not, ◌||◌}
 use Rattle.std.specs.List.{list_all}
-use Rattle.rule_model.specs.Fits.{key_fits}
+use Rattle.virtual_keys.specs.Fits.{key_fits}
 use Rattle.rule_shadow.specs.Keys.{presses_of}
 use Rattle.rule_shadow.proofs.key_cover.fit_for.Given as goal
 

@@ -1,5 +1,5 @@
 use Rattle.std.proofs.Common.{◌≡◌, drop, map}
-use Rattle.kmn_names.specs.Names.{is_named}
+use Rattle.store_table.specs.Names.{is_named}
 use Rattle.touch_layout.specs.Keys.{keys_view}
 use Rattle.touch_layout.specs.LayerIds.{layer_of}
 use Rattle.touch_layout.specs.Layout.{keys_fault}

@@ -1,6 +1,6 @@
 use Rattle.std.proofs.Common.{◌≡◌, [], drop}
 use Rattle.rule_model.specs.Tab.{tab}
-use Rattle.kmn_names.specs.Numbering.{with_marks}
+use Rattle.store_table.specs.Numbering.{with_marks}
 use Rattle.touch_layout.specs.Ids.{recorded_names}
 use Rattle.touch_layout.proofs.ruled.recorded_names.Given as goal
 

@@ -1,4 +1,4 @@
--- `into_parts` tests the pointer, and moves two fields where it isn't null.
+-- `into_parts` tests the pointer, and moves two fields if it isn't null.
 use Rattle.std.proofs.Common.{◌≡◌, List, [], ◌∷◌, ◌++◌, refl, sym, ap, ◌∙◌, subst, lit<}
 use mir.Val.{Val, vptr, vcons, vnil}
 use base.Logic.{SProp, ent, emp, id⊢}

@@ -1,4 +1,4 @@
--- `none` makes a null pointer, which owns nothing.
+-- `none` makes a handle with a null pointer, which owns nothing.
 use Rattle.std.proofs.Common.{◌≡◌, List, [], ◌∷◌, ◌++◌, refl, sym, subst}
 use mir.Val.{Val}
 use base.Logic.{SProp, ent, emp, id⊢}

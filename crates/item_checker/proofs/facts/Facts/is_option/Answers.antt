@@ -1,6 +1,6 @@
 use Rattle.std.proofs.Common.{◌∙◌, ap, List, ℕ}
-use Rattle.kmn_names.specs.Names.{is_named}
-use Rattle.kmn_names.specs.Known.{Known}
+use Rattle.store_table.specs.Names.{is_named}
+use Rattle.store_table.specs.Known.{Known}
 use Rattle.item_checker.specs.Items.{is_option}
 use Rattle.item_checker.proofs.facts.Facts.is_option.Goals as goal
 

@@ -1,5 +1,5 @@
 use Rattle.std.proofs.Common.{◌∙◌, ap, []}
-use Rattle.kmn_names.specs.Known.{Known, known}
+use Rattle.store_table.specs.Known.{Known, known}
 use Rattle.item_checker.specs.Items.{is_other_text}
 use Rattle.item_checker.specs.Summaries.{are_found_keys, summary, with_items}
 use Rattle.item_checker.proofs.SummaryTests.{other_text_is}

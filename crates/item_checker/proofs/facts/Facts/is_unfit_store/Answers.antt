@@ -1,5 +1,5 @@
 use Rattle.std.proofs.Common.{◌∙◌, ap}
-use Rattle.kmn_names.specs.Known.{Known, known}
+use Rattle.store_table.specs.Known.{Known, known}
 use Rattle.item_checker.specs.Items.{is_unfit_store}
 use Rattle.item_checker.specs.Summaries.{is_unfit_summary}
 use Rattle.item_checker.proofs.SummaryTests.{unfit_named}

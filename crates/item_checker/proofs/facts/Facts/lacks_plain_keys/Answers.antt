@@ -1,7 +1,7 @@
 use Rattle.std.proofs.Common.{◌∙◌, ap}
 use Rattle.std.specs.List.{list_any}
 use Rattle.rule_model.specs.Naming.{elements_named}
-use Rattle.kmn_names.specs.Known.{Known, known}
+use Rattle.store_table.specs.Known.{Known, known}
 use Rattle.item_checker.specs.Items.{is_no_plain_key}
 use Rattle.item_checker.specs.Summaries.{has_other}
 use Rattle.item_checker.proofs.SummaryTests.{other_named}

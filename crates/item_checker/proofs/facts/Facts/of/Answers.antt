@@ -1,7 +1,7 @@
 use Rattle.std.proofs.Common.{◌∙◌, ap}
 use Rattle.std.specs.Prelude.{flat_map}
 use Rattle.rule_model.specs.declared.program.GroupDef.{GroupDef}
-use Rattle.kmn_names.specs.Known.{rule_options}
+use Rattle.store_table.specs.Known.{rule_options}
 use Rattle.item_checker.specs.Summaries.{no_summaries, with_stores}
 use Rattle.item_checker.proofs.Summed.{facts_are}
 use Rattle.item_checker.proofs.facts.Facts.of.Goals as goal

@@ -1,5 +1,5 @@
 use Rattle.std.proofs.Common.{◌∙◌, ap}
-use Rattle.kmn_names.specs.Known.{Known, known}
+use Rattle.store_table.specs.Known.{Known, known}
 use Rattle.item_checker.specs.Items.{puts_key}
 use Rattle.item_checker.specs.Summaries.{has_key}
 use Rattle.item_checker.proofs.SummaryTests.{key_named}

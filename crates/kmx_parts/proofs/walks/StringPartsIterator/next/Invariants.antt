@@ -1,6 +1,6 @@
 use Rattle.std.proofs.Common.{◌≡◌, length}
 use Rattle.std.specs.List.{filter_map}
-use Rattle.kmx_format.specs.Walk.{items_given}
+use Rattle.item_codec.specs.Walk.{items_given}
 use Rattle.kmx_parts.proofs.walks.StringPartsIterator.next.Given as goal
 
 -- only items that may not stand there were passed over

@@ -13,6 +13,7 @@ returns-clause-leaves c =
     let was = values_before c.key_event.new.engine.tables c.self.inside.engine c.in_ok-before.before.items c.as_slice-3.result.now c.in_ok-outcome.ensures.tables c.as_slice-3.ensures.value c.in_ok-before.ensures.values in
     session_after session (event.Key c.args.press) c.key_event.new.engine c.key_event.new.editor c.next_step.new.number true c.put_changes.new.changes.items _
     c.in_ok-outcome.ensures.tables c.in_ok-outcome.ensures.state c.in_ok-outcome.ensures.inserted c.in_ok-outcome.ensures.chosen c.next_step.ensures.number was c.put_changes.ensures.changes
+    (λ i. record { inserted = c.in_ok-outcome.ensures.inserted i; chosen = c.in_ok-outcome.ensures.chosen i })
     ∙ ap (λ (s : SessionState). after_step s (event.Key c.args.press)) c.self.view_is
 
 pub returns-then-len-gt-TEXT_CHARS_AT_KEY-clause-happens : goal.returns-then-len-gt-TEXT_CHARS_AT_KEY-clause-happens

@@ -13,6 +13,7 @@ returns-clause-leaves c =
     let was = values_before c.setting_event.new.engine.tables c.self.inside.engine c.in_ok-before.before.items c.as_slice-3.result.now c.in_ok-setting_event.ensures.tables c.as_slice-3.ensures.value c.in_ok-before.ensures.values in
     session_after session (event.Setting c.args.name.now c.args.value.now) c.setting_event.new.engine c.self.inside.editor c.next_step.new.number false c.put_changes.new.changes.items _
     c.in_ok-setting_event.ensures.tables c.in_ok-setting_event.ensures.state refl refl c.next_step.ensures.number was c.put_changes.ensures.changes
+    (λ i. record { inserted = c.setting_event.ensures.inserted i; chosen = c.setting_event.ensures.chosen i })
     ∙ ap (λ (s : SessionState). after_step s (event.Setting c.args.name.now c.args.value.now)) c.self.view_is
 
 pub invariant_of-self : goal.invariant_of-self

@@ -1,5 +1,5 @@
 use Rattle.std.proofs.Common.{◌≡◌, subst}
-use Rattle.engine_state.specs.Meaning.{option_values}
+use Rattle.option_store.specs.Meaning.{option_values}
 use Rattle.rule_model.specs.declared.tables.Tables.{Tables}
 use Rattle.rule_model.specs.Content.{content}
 use Rattle.rule_model.specs.Keyboard.{Numbered}

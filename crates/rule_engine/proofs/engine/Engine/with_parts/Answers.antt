@@ -2,7 +2,7 @@ use Rattle.std.proofs.Common.{◌≡◌, sym, ◌∙◌, ap, subst, arith}
 use Rattle.std.specs.Prelude.{vec_capacity}
 use Rattle.std.specs.Arc.{arc_value}
 use Rattle.rule_model.specs.declared.tables.Tables.{Tables}
-use Rattle.engine_state.specs.Cells.{first_cells}
+use Rattle.option_store.specs.Cells.{first_cells}
 use Rattle.rule_matching.specs.Moment.{truths_at}
 use Rattle.rule_matching.specs.PlaceMemory.{rooms}
 use Rattle.rule_engine.specs.Event.{moment_with}

@@ -8,7 +8,7 @@ use Rattle.rule_model.specs.Hold.{holds}
 use Rattle.rule_model.specs.Tab.{tab_rule, tab_group}
 use Rattle.rule_model.proofs.PlainKeyboard.{chosen_first}
 use Rattle.rule_matching.specs.Moment.{MomentValue, content_at}
-use Rattle.engine_state.specs.Texts.{LeftValue}
+use Rattle.event_text.specs.Texts.{LeftValue}
 use Rattle.rule_engine.specs.Event.{EventValue, content_in, moment_of}
 use Rattle.rule_engine.proofs.Contexts.{first_in_window}
 use Rattle.rule_engine.proofs.event.PressEvent.chosen_in.Goals as goal

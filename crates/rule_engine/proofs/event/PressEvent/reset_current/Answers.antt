@@ -4,13 +4,14 @@ use Rattle.rule_model.specs.declared.event_state.EventState.{EventState}
 use Rattle.rule_model.specs.Content.{option_number}
 use Rattle.rule_model.specs.Keyboard.{Numbered}
 use Rattle.rule_model.specs.Tab.{tab}
-use Rattle.engine_state.specs.Cells.{reset_cell}
+use Rattle.option_store.specs.Cells.{reset_cell}
 use Rattle.rule_engine.specs.Event.{EventValue}
 use Rattle.rule_engine.proofs.OptionSteps.{event_after_reset}
 use Rattle.rule_matching.specs.PlaceMemory.{rooms}
 use Rattle.rule_matching.proofs.StoreContents.{is_option_within}
 use Rattle.rule_engine.proofs.Stores.{behind_own}
 use Rattle.rule_engine.proofs.Truths.{acts_on}
+use Rattle.rule_engine.proofs.OtherStores.{reset_keeps}
 use Rattle.rule_engine.proofs.event.PressEvent.reset_current.Goals as goal
 
 pub returns-then-is_some : goal.returns-then-is_some
@@ -38,6 +39,6 @@ invariant_of-self c =
     = ap is_some (sym c.option_number.ensures) ∙ (sym c.is_some.ensures ∙ c.if-is_some.true) in
     let own = subst (λ (e : EventValue). c.args.store < length e.tables.stores) (sym c.self.view_is) c.requires in (
       acts_on c.self.inside.indexed.now c.self.inside.options c.reset.new.self c.self.inside.truths.items (rooms c.self.inside.places) c.args.store (reset_cell c.args.store) c.self.invariant.0
-          (behind_own c.self.inside.indexed.now c.args.store own) option c.reset.ensures,
+          (behind_own c.self.inside.indexed.now c.args.store own) (reset_keeps (tab c.self.inside.indexed.now).stores c.args.store) option c.reset.ensures,
       c.self.invariant.1,
     )

@@ -4,12 +4,13 @@ use Rattle.rule_model.specs.declared.event_state.EventState.{EventState}
 use Rattle.rule_model.specs.Content.{option_number}
 use Rattle.rule_model.specs.Keyboard.{Numbered}
 use Rattle.rule_model.specs.Tab.{tab}
-use Rattle.engine_state.specs.Cells.{set_cell}
+use Rattle.option_store.specs.Cells.{set_cell}
 use Rattle.rule_engine.specs.Event.{EventValue, keyboard_of}
 use Rattle.rule_engine.proofs.OptionSteps.{event_after_set}
 use Rattle.rule_matching.specs.PlaceMemory.{rooms}
 use Rattle.rule_matching.proofs.StoreContents.{is_option_within}
 use Rattle.rule_engine.proofs.Truths.{acts_on}
+use Rattle.rule_engine.proofs.OtherStores.{set_keeps}
 use Rattle.rule_engine.proofs.event.PressEvent.set_current.Goals as goal
 
 pub returns-then-is_some : goal.returns-then-is_some
@@ -39,6 +40,6 @@ invariant_of-self c =
     = ap is_some (sym c.option_number.ensures) ∙ (sym c.is_some.ensures ∙ c.if-is_some.true) in
     let before = subst (λ (e : EventValue). c.args.store + 1 < length (keyboard_of e).stores) (sym c.self.view_is) c.requires.store in (
       acts_on c.self.inside.indexed.now c.self.inside.options c.set.new.self c.self.inside.truths.items (rooms c.self.inside.places) c.args.store (set_cell c.args.value) c.self.invariant.0 before
-          option c.set.ensures,
+          (set_keeps (tab c.self.inside.indexed.now).stores c.args.value) option c.set.ensures,
       c.self.invariant.1,
     )

@@ -1,6 +1,6 @@
 use Rattle.std.proofs.Common.{rules, ◌≡◌, ◌≢◌, ◌-◌, List, Bool, length, sym, ◌∙◌, ap, arith}
 use Rattle.rule_model.specs.Tab.{tab}
-use Rattle.engine_state.specs.Cells.{host_cell}
+use Rattle.option_store.specs.Cells.{host_cell}
 use Rattle.rule_engine.proofs.Truths.{truths_by, truths_at_counted, truths_counted, truths_given, truths_kept_or_left, written_over}
 use Rattle.rule_engine.proofs.workspace.Workspace.host_set.Goals as goal
 

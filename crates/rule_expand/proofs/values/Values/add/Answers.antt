@@ -1,7 +1,7 @@
 use Rattle.std.proofs.Common.{ℕ, [], ◌∷◌, List, map, ap, ◌∙◌, Bor}
 use Rattle.std.specs.Str.{bytes_eq}
 use Rattle.rule_model.specs.Tab.{distinct_onto}
-use Rattle.kmn_names.proofs.TextSets.{inserted}
+use Rattle.store_table.proofs.TextSets.{inserted}
 use Rattle.rule_expand.proofs.values.Values.add.Goals as goal
 
 pub returns : goal.returns

@@ -1,7 +1,7 @@
 use Rattle.std.proofs.Common.{ℕ, List, ap, ◌∙◌, Bor}
 use Rattle.std.specs.Prelude.{position}
 use Rattle.std.specs.Str.{bytes_eq}
-use Rattle.kmn_names.proofs.TextSets.{place_by_text}
+use Rattle.store_table.proofs.TextSets.{place_by_text}
 use Rattle.rule_expand.proofs.values.Values.place_of.Goals as goal
 
 pub returns : goal.returns

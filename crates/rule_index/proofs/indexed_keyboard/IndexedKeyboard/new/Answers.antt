@@ -14,6 +14,9 @@ of-requires-clause-few c =
 pub of-requires-clause-count : goal.of-requires-clause-count
 of-requires-clause-count c = few_in_all c.args.file c.as_slice-2.result.now (c.as_slice-2.ensures.value ∙ c.in_ok-stores.ensures) c.requires.stores
 
+pub texts_of-requires : goal.texts_of-requires
+texts_of-requires c = few_in_all c.args.file c.as_slice-3.result.now (c.as_slice-3.ensures.value ∙ c.in_ok-stores.ensures) c.requires.stores
+
 pub invariant_of-result : goal.invariant_of-result
 unfolding tab
 invariant_of-result c = grind (arith, common_steps)

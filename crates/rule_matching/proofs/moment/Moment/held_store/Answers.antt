@@ -1,5 +1,5 @@
 use Rattle.std.proofs.Common.{◌≡◌, ℕ, List, Some, ◌∙◌, sym, subst}
-use Rattle.engine_state.specs.Cells.{cell_at}
+use Rattle.option_store.specs.Cells.{cell_at}
 use Rattle.rule_model.specs.Keyboard.{Numbered}
 use Rattle.rule_model.specs.Content.{elements_at}
 use Rattle.rule_model.specs.Tab.{tab}

@@ -1,9 +1,8 @@
-use Rattle.std.proofs.Common.{◌≡◌, ℕ, List, Some, map, ◌∙◌, ap, subst}
+use Rattle.std.proofs.Common.{◌≡◌, ℕ, false, List, Some, refl, sym, ◌∙◌, ap, subst}
 use Rattle.kmn_base.specs.declared.items.Element.{Element}
-use Rattle.kmn_base.specs.declared.items.Element.TheVariants.{Char}
-use Rattle.engine_state.specs.Cells.{cell_at}
+use Rattle.option_store.specs.Cells.{cell_at}
 use Rattle.rule_model.specs.Content.{elements_at}
-use Rattle.rule_model.specs.Keyboard.{Numbered}
+use Rattle.rule_model.specs.Keyboard.{Numbered, StoreMeaning}
 use Rattle.rule_model.specs.Match.{same_value}
 use Rattle.rule_model.specs.Tab.{tab}
 use Rattle.rule_matching.specs.Moment.{MomentValue, content_at}
@@ -21,9 +20,9 @@ returns-in-Store c =
 
 pub returns-in-Host : goal.returns-in-Host
 returns-in-Host c =
-    let value : List Element = elements_at (tab c.self.inside.indexed.now).stores (Some c.value_store-value.result) in
-    subst (λ (m : MomentValue). c.is_same.result ≡ same_value (content_at m (Numbered c.args.store)) (elements_at (tab m.tables).stores (Some c.value_store-value.result))) c.self.view_is
-    (c.is_same.ensures ∙ (ap (same_value (map Char c.host_text.result.now)) c.stated.ensures
-    ∙ (ap (λ (text : List ℕ). same_value (map Char text) value) c.host_text.ensures
-    ∙ ap (λ (elements : List Element). same_value elements value) c.in-Host.ensures.value)))
+    let stores : List StoreMeaning = (tab c.self.inside.indexed.now).stores in
+    let value : ℕ = c.value_store-value.result in
+    let apart = c.self.invariant.2.current c.args.store (c.in-Host.ensures.host refl) value in
+    subst (λ (m : MomentValue). false ≡ same_value (content_at m (Numbered c.args.store)) (elements_at (tab m.tables).stores (Some value))) c.self.view_is
+    (sym apart ∙ ap (λ (elements : List Element). same_value elements (elements_at stores (Some value))) c.in-Host.ensures.value)
     ∙ ap (same_value (content_at c.args.self.now (Numbered c.args.store))) c.value_store-value.ensures

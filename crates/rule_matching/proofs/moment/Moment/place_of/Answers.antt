@@ -1,7 +1,7 @@
 use Rattle.std.proofs.Common.{◌≡◌, ℕ, List, map, ◌∙◌, ap, subst}
 use Rattle.kmn_base.specs.declared.items.Element.{Element}
 use Rattle.kmn_base.specs.declared.items.Element.TheVariants.{Char}
-use Rattle.engine_state.specs.Cells.{cell_at}
+use Rattle.option_store.specs.Cells.{cell_at}
 use Rattle.rule_model.specs.Keyboard.{Numbered}
 use Rattle.rule_model.specs.Match.{place_of}
 use Rattle.rule_matching.specs.Moment.{MomentValue, content_at}

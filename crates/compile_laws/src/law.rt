@@ -1,0 +1,19 @@
+ghost use Rattle.compile_laws.specs.Law.{MeaningIsKept, TablesAreOnlyOnes, ProgramCompiles, TranscriptIsKept};
+
+/// Whatever events come, the compiled tables of a well-named program take the same steps as its source.
+pub fn compiling_keeps_meaning()
+    ensures { MeaningIsKept }
+{}
+
+/// What is printed of a script is the same, too.
+#[tactic(auto, using(crate::proofs::Whole::transcript_kept))]
+pub fn compiling_keeps_transcripts()
+    ensures { TranscriptIsKept }
+{}
+
+/// A program whose rules have lines of their own compiles to one list of tables, which `compiled_tables` gives.
+#[tactic(auto, using(crate::proofs::Ordered::tables_are_only_ones, crate::proofs::Ordered::program_compiles))]
+pub fn program_has_its_tables()
+    ensures only { TablesAreOnlyOnes }
+    ensures compiles { ProgramCompiles }
+{}

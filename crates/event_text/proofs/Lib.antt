@@ -1,0 +1,2 @@
+pub mod StandingTexts
+pub mod Lefts

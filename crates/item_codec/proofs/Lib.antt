@@ -1,0 +1,4 @@
+pub mod FirstItems
+pub mod Results
+pub mod Operands
+pub mod Sizes

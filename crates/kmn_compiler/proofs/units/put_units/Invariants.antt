@@ -1,6 +1,0 @@
-use Rattle.std.proofs.Common.{◌≡◌, ◌++◌, drop}
-use Rattle.kmn_base.specs.Spelling.{unit_bytes}
-use Rattle.kmn_compiler.proofs.units.put_units.Given as goal
-
-abbrev pub invariant-loop-unit : goal.invariant-loop-unit
-invariant-loop-unit l = l.out ++ unit_bytes (drop l.unit-index l.units) ≡ l.fn.out ++ unit_bytes l.units

@@ -1,7 +1,0 @@
-use Rattle.std.proofs.Common.{◌≡◌, drop}
-use Rattle.kmn_names.specs.First.{first_code}
-use Rattle.kmn_names.specs.Names.{rule_item_code}
-use Rattle.kmn_names.proofs.refusing.rule_items_code.Given as goal
-
-abbrev pub invariant-loop-item : goal.invariant-loop-item
-invariant-loop-item l = first_code (rule_item_code l.stated) (drop l.item-index l.items) ≡ first_code (rule_item_code l.stated) l.items

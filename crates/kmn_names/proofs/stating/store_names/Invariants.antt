@@ -1,6 +1,0 @@
-use Rattle.std.proofs.Common.{◌≡◌, take}
-use Rattle.kmn_names.specs.Names.{store_names}
-use Rattle.kmn_names.proofs.stating.store_names.Given as goal
-
-abbrev pub invariant-loop-store : goal.invariant-loop-store
-invariant-loop-store l = l.names ≡ store_names (take l.store-index l.stores)

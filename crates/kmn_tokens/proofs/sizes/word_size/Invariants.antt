@@ -1,0 +1,9 @@
+use Rattle.std.proofs.Common.{◌≡◌, ◌+◌, ◌-◌, ◌≤◌, length, drop}
+use Rattle.kmn_lines.specs.Tokens.{word_size}
+use Rattle.kmn_tokens.proofs.sizes.word_size.Given as goal
+
+abbrev pub invariant-loop-size : goal.invariant-loop-size
+invariant-loop-size l = (l.size ≤ length l.text) × (l.size + word_size (drop l.size l.text) ≡ word_size l.text)
+
+abbrev pub decreases-loop-size : goal.decreases-loop-size
+decreases-loop-size l = length l.text - l.size

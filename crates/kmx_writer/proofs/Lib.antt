@@ -1,0 +1,4 @@
+pub mod Strings
+pub mod TextSteps
+pub mod RuleSteps
+pub mod Whole

@@ -1,0 +1,4 @@
+pub mod Sizes
+pub mod Spellings
+pub mod Places
+pub mod Excess

@@ -1,8 +1,0 @@
-use Rattle.std.proofs.Common.{◌≡◌, take}
-use Rattle.std.specs.Prelude.{flat_map}
-use Rattle.rule_model.specs.declared.tables.Group.{Group}
-use Rattle.plain_event.specs.Coverage.{rule_lines}
-use Rattle.plain_event.proofs.coverage.record_lines.Given as goal
-
-abbrev pub invariant-loop-group : goal.invariant-loop-group
-invariant-loop-group l = l.lines.items ≡ flat_map (λ (group : Group). rule_lines group.rules) (take l.group-index l.tables.groups)

@@ -1,0 +1,43 @@
+//! The order of records: the longer context first, then the earlier line, then the smaller place: that of the key in a key
+//! store and, of the two records of a cased key, that of the half.
+
+ghost use Rattle.std.specs.List.Sorted.{IsPermutation, IsSortedBy};
+ghost use Rattle.compile_laws.specs.Compiles.{stands_before, IsOrderedGroup, AreOrderedGroups};
+ghost use Rattle.rule_order.specs.Order.{IsOrdered};
+
+use rule_model::{Group, Rule, Tables};
+use std::cmp::Reverse;
+
+/// Puts records in order.
+fn order_records(records: &mut [Rule])
+    ensures records { IsPermutation records.old records.new }
+    ensures in_order { IsSortedBy stands_before records.new }
+{
+    records.sort_unstable_by_key(|record| {
+        (Reverse(record.context.len()), record.line, record.place)
+    });
+}
+
+/// Puts the records of a group in order.
+fn order_group(group: &mut Group)
+    ensures { IsOrderedGroup group.old group.new }
+{
+    order_records(group.rules.as_mut_slice());
+}
+
+/// Puts the records of each group in order.
+fn order_groups(groups: &mut [Group])
+    ensures { AreOrderedGroups groups.old groups.new }
+{
+    for group in groups.iter_mut() {
+        order_group(group);
+    }
+}
+
+/// Puts the records of each group in order: by falling length of the context, then by rising line, then by rising place.
+/// Version, start groups and stores stay.
+pub fn order(tables: &mut Tables)
+    ensures { IsOrdered tables.old tables.new }
+{
+    order_groups(tables.groups.as_mut_slice());
+}

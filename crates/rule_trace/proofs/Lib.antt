@@ -1,0 +1,3 @@
+pub mod Among
+pub mod Counting
+pub mod Lines

@@ -1,0 +1,7 @@
+use Rattle.std.proofs.Common.{◌≡◌, drop}
+use Rattle.store_table.specs.First.{first_code}
+use Rattle.store_table.specs.Names.{rule_item_code}
+use Rattle.store_table.proofs.refusing.rule_items_code.Given as goal
+
+abbrev pub invariant-loop-item : goal.invariant-loop-item
+invariant-loop-item l = first_code (rule_item_code l.stated) (drop l.item-index l.items) ≡ first_code (rule_item_code l.stated) l.items

@@ -1,0 +1,8 @@
+//! Laws of the definitions in `specs/`, each the contract of a function with an empty body.
+
+ghost use Rattle.virtual_keys.specs.Stated.{CodesAreAsStated};
+
+/// Each key that edits has the code of Windows, and the first name of a dictionary the code 256, as in KMX files.
+pub fn codes_are_as_stated()
+    ensures { CodesAreAsStated }
+{}

@@ -1,0 +1,49 @@
+ghost use Rattle.std.specs.Prelude.{◌≡◌, map, option_map};
+ghost use Rattle.virtual_keys.specs.Keys.{name_numbered, key_code, key_name, shift_flag, shift_flags};
+
+use crate::tables::{KEYS, MODIFIERS};
+use kmn_base::names::named_in;
+
+/// The name that a table has for a number.
+fn name_numbered(table: &'static [(&'static str, u16)], number: u16) -> Option<&'static [u8]>
+    ensures { option_map (λ name. name.now) result ≡ name_numbered (map (λ row. (row.0.now, row.1)) table.now) number }
+{
+    for row in table {
+        if row.1 == number {
+            return Some(row.0.as_bytes());
+        }
+    }
+    None
+}
+
+/// The words of the shift flags, each with its flag.
+#[tactic(auto, unfolding(crate::specs::Keys::shift_flags))]
+pub fn modifiers() -> &'static [(&'static str, u16)]
+    ensures { map (λ row. (row.0.now, row.1)) result.now ≡ shift_flags }
+{
+    &MODIFIERS
+}
+
+/// The code of the key of a name.
+#[tactic(auto, unfolding(crate::specs::Keys::key_codes))]
+pub fn key_named(name: &[u8]) -> Option<u16>
+    ensures { result ≡ key_code name.now }
+{
+    named_in(&KEYS, name)
+}
+
+/// The shift flag of a word.
+#[tactic(auto, unfolding(crate::specs::Keys::shift_flags))]
+pub fn modifier_named(word: &[u8]) -> Option<u16>
+    ensures { result ≡ shift_flag word.now }
+{
+    named_in(&MODIFIERS, word)
+}
+
+/// The name of the key of a code.
+#[tactic(auto, unfolding(crate::specs::Keys::key_codes))]
+pub fn name_of(code: u16) -> Option<&'static [u8]>
+    ensures { option_map (λ name. name.now) result ≡ key_name code }
+{
+    name_numbered(&KEYS, code)
+}
