@@ -1,20 +1,25 @@
-/* curlewmetal.h: opens compiled Keyman keyboards and types with them.
+/* curlewmetal.h: opens compiled Keyman keyboards (.kmx files) and types with them.
  *
- * Ownership. A curlew_field is yours, and what it points to is the library's: set it to {0} before its first call, never
- * copy it by =, and end it by curlew_close. The bytes of the keyboard file are yours: keep them, unchanged, until every
- * field over them is closed. Texts are copied into your room. No call keeps a pointer of yours but that to the file. No
- * pointer is null, even to nothing, and two arguments of one call never overlap.
+ * Ownership. A curlew_field is yours; what it points to belongs to the library. Set a field to {0} before its first call, never
+ * copy it by =, and release it with curlew_close. The bytes of the keyboard file are yours: keep them, unchanged, until every field
+ * over them is closed. The library copies texts into your buffers, and keeps no pointer of yours except the pointer to the file.
  *
- * Threads. There are no globals. One call at a time for each field, on the thread that opened it; a copy counts as opened
- * where it was copied, and stays on the thread of what it was copied from. Fields that were opened apart are independent.
- * Not from a signal handler or a forked child of a process with threads.
+ * Pointers. Never pass a null pointer, not even for an empty text or buffer. A pointer that is followed by a `count` or `size` must
+ * point to at least that many elements. Two arguments of one call must not overlap.
  *
- * Memory comes from malloc, realloc and free. No call aborts, throws, prints, locks, waits, or reads a file.
+ * Buffers. A call that fills a buffer writes as much as fits and reports the full length, as its result or in `whole`. If the full
+ * length is larger than the buffer, call again with a larger buffer. The rest of a larger buffer is unchanged.
  *
- * Characters are Unicode code points, and places count characters from the start of the whole text.
+ * Threads. The library has no global variables. Make only one call at a time for each field, on the thread that opened it. A copy
+ * belongs to the thread of the field that it was copied from. Fields from separate curlew_open calls are independent. Don't call the
+ * library from a signal handler, or from a forked child of a process with threads.
  *
- * Room. A call that writes into room writes its beginning, as much as it has place for, and tells how long the whole is:
- * call again with more room where that is larger. What is behind stays as it was. */
+ * Memory comes from malloc, realloc and free. No call aborts, throws, prints, locks, waits, or reads a file from disk.
+ *
+ * Characters are Unicode code points. Positions count characters from the start of the whole text.
+ *
+ * Steps. A step is a call of curlew_key, curlew_before, curlew_caret, curlew_replace or curlew_set that returned CURLEW_OK.
+ * curlew_inserted, curlew_inserted_utf8 and curlew_change describe the last step of their field. */
 #ifndef CURLEWMETAL_H
 #define CURLEWMETAL_H
 
@@ -25,92 +30,101 @@
 extern "C" {
 #endif
 
-/* A text field with its keyboard, or nothing where `held` is null. */
+/* A text field with its keyboard. The field is not open if `held` is null. */
 typedef struct { void *held; } curlew_field;
 
-/* What is wrong with a file: the rule that it breaks (14 is V14), the byte at which it breaks it, and the code that V14
- * names, else 0. */
+/* The fault of a file: the rule that the file breaks (14 means V14), the byte offset of the fault, and the code that V14 names,
+ * or 0 for another rule. */
 typedef struct { uint32_t rule, at, unit; } curlew_fault;
 
-/* What a key does. First `deleted` characters before the caret go, then `inserted` characters come there. */
+/* The edit of a key press. It first deletes `deleted` characters before the caret, then inserts `inserted` characters there. */
 typedef struct {
   uint32_t deleted;
-  uint32_t passed;   /* 1: the keyboard has nothing for this key, and the application does what the key does; else 0 */
+  uint32_t passed;   /* 1 if the keyboard has nothing for this key, so that the application does what the key does; otherwise 0 */
   uint32_t beeps;
-  size_t inserted;   /* curlew_inserted tells which */
-  size_t changes;    /* option values that changed: curlew_change tells which */
+  size_t inserted;   /* the number of inserted characters: see curlew_inserted */
+  size_t changes;    /* the number of option values that changed: see curlew_change */
 } curlew_edit;
 
-/* What calls answer. Every answer but CURLEW_OK leaves each field as it was, and what it would have written unwritten. Each call
- * names below which it gives beside CURLEW_OK. CLOSED comes exactly where the field isn't open; a call that answers a length or a
- * code answers 0 then. */
+/* The results of calls. After every result except CURLEW_OK, each field is unchanged, and so is everything that the call would have
+ * written. The comment of each call lists its results in addition to CURLEW_OK, without CURLEW_. A call returns CLOSED exactly when
+ * the field is not open; a call that returns a length or a code then returns 0. */
 enum {
   CURLEW_OK = 0,
-  CURLEW_REFUSED = 1,   /* not a valid keyboard: see the fault */
-  CURLEW_MEMORY = 2,    /* no memory: the same call may do later */
-  CURLEW_PLACE = 3,     /* a place past the text */
-  CURLEW_LENGTH = 4,    /* the whole text would pass 1,000,000 characters, or passes 995,000 as a key comes */
-  CURLEW_CLOSED = 5,    /* the field isn't open */
-  CURLEW_CHARACTER = 6, /* a number that is no character: a surrogate, or past U+10FFFF */
-  CURLEW_NONE = 7       /* no such option, change or saved value */
+  CURLEW_REFUSED = 1,   /* the file is not a valid keyboard: see the fault */
+  CURLEW_MEMORY = 2,    /* an allocation failed: the same call may succeed later */
+  CURLEW_PLACE = 3,     /* a position is past the end of the text, or `to` is less than `from` */
+  CURLEW_LENGTH = 4,    /* the text would have more than 1,000,000 characters, or has more than 995,000 before a key press */
+  CURLEW_CLOSED = 5,    /* the field is not open */
+  CURLEW_CHARACTER = 6, /* a number is not a character: it is a surrogate, or past U+10FFFF */
+  CURLEW_NONE = 7       /* there is no such option, change or saved value */
 };
 
-/* 1 for the library of this header. */
+/* The version of this header: 10,000 for each major, 100 for each minor and 1 for each patch number. */
+#define CURLEW_VERSION 10000
+
+/* Returns the CURLEW_VERSION of the header that the library was built for. */
 uint32_t curlew_version(void);
 
-/* Opens a file with an empty text; what was open in the field is closed. REFUSED, which alone writes the fault; MEMORY. */
+/* Opens a file with an empty text, and closes what was open in the field. REFUSED, the only result that writes the fault; MEMORY. */
 uint32_t curlew_open(curlew_field *field, const uint8_t *file, size_t size, curlew_fault *fault);
-/* Makes `other` a field over the same file, with the same text and options; what was open there is closed. The file isn't
- * looked at again. MEMORY, CLOSED. */
+/* Makes `other` a field over the same file with the same text and options, and closes what was open there. Doesn't read the file.
+ * MEMORY, CLOSED. */
 uint32_t curlew_copy(curlew_field *field, curlew_field *other);
-/* Closes a field, also one that isn't open. */
+/* Closes a field. The field need not be open. */
 void curlew_close(curlew_field *field);
 
-/* A key goes down. `code` is a Windows key code, as curlew_key_code tells, or that of a key of the keyboard's own, as
- * curlew_own_key_code tells. `mods` adds up left control 1, right control 2, left alt 4, right alt 8, shift 16 and caps lock 256;
+/* Processes a key press (key down). `code` is a Windows key code (see curlew_key_code), or the code of a custom key (see
+ * curlew_own_key_code). `mods` is the sum of left control 1, right control 2, left alt 4, right alt 8, shift 16 and caps lock 256;
  * other bits are ignored. LENGTH, MEMORY, CLOSED. */
 uint32_t curlew_key(curlew_field *field, uint16_t code, uint16_t mods, curlew_edit *edit);
-/* What the key would do; nothing happens. What it would insert is written into the room, and `changes` is 0. LENGTH, MEMORY,
- * CLOSED. */
+/* Reports what the key press would do, without doing it. Writes the characters that it would insert to the buffer; `changes` is 0.
+ * LENGTH, MEMORY, CLOSED. */
 uint32_t curlew_preview(curlew_field *field, uint16_t code, uint16_t mods, curlew_edit *edit,
                         uint32_t *room, size_t count);
-/* What the last call that changed the text inserted, where it was a key: as code points, and as UTF-8. The answer is the
- * whole length; 0 where the field isn't open. */
+/* Writes the characters that the last step inserted, as code points or as UTF-8. There are none if that step was not curlew_key.
+ * Returns the full length. */
 size_t curlew_inserted(curlew_field *field, uint32_t *room, size_t count);
 size_t curlew_inserted_utf8(curlew_field *field, uint8_t *room, size_t size);
 
-/* The text before the caret is this now, and what stands after it stays. Deadkeys stay where the text still stands around
- * them. Give what you know of it, at least 64 characters where there are so many. Nothing at all: a new place, as after a
- * click. CHARACTER, LENGTH, MEMORY, CLOSED. */
+/* Sets the text before the caret; the text after it is unchanged. Deadkeys remain where the text around them does. Pass what you know
+ * of the text, at least the last 64 characters if there are as many. Pass no characters for a new position, for instance after a
+ * click: then the deadkeys go, unless the last 64 characters and deadkeys before the caret are all deadkeys. CHARACTER, LENGTH, MEMORY,
+ * CLOSED. */
 uint32_t curlew_before(curlew_field *field, const uint32_t *text, size_t count);
-/* The caret moves to a place. PLACE, CLOSED; it takes no memory. */
+/* Moves the caret to a position. Doesn't allocate. PLACE, CLOSED. */
 uint32_t curlew_caret(curlew_field *field, uint32_t place);
-/* The characters from one place to another are replaced by these. CHARACTER, PLACE, LENGTH, MEMORY, CLOSED. */
+/* Replaces the characters between the positions `from` and `to` with a text. CHARACTER, PLACE, LENGTH, MEMORY, CLOSED. */
 uint32_t curlew_replace(curlew_field *field, uint32_t from, uint32_t to, const uint32_t *text, size_t count);
-/* The text before the caret, or after it where `after` isn't 0. The answer is its whole length; 0 where the field isn't open. */
+/* Writes the text before the caret, or the text after it if `after` is not 0. Returns its full length. */
 size_t curlew_text(curlew_field *field, uint32_t after, uint32_t *room, size_t count);
-/* The last 64 characters and deadkeys before the caret, or all where there are fewer; the deadkey n is 0x80000000 + n. */
+/* Writes the last 64 characters and deadkeys before the caret, or all if there are fewer. Deadkey n is 0x80000000 + n.
+ * Returns their number. */
 size_t curlew_context(curlew_field *field, uint32_t *room, size_t count);
 
-/* Gives the option of a name a value, which is current and saved then. The name is UTF-8, without regard to the case of ASCII
- * letters. NONE, CHARACTER, MEMORY, CLOSED. */
+/* Sets the current and the saved value of an option. The name is UTF-8, and compares without ASCII case. NONE, CHARACTER, MEMORY,
+ * CLOSED. */
 uint32_t curlew_set(curlew_field *field, const uint8_t *name, size_t size, const uint32_t *value, size_t count);
-/* The nth option value, from 0, that the last call that changed the text or an option changed: the number of its store, and
- * whether it is the saved value (1) or the current one (0). NONE, CLOSED. */
+/* Reports the nth option value, from 0, that the last step changed: writes the number of its store, and whether it is the saved
+ * value (1) or the current value (0). NONE, CLOSED. */
 uint32_t curlew_change(curlew_field *field, size_t n, uint32_t *store, uint32_t *saved);
-/* The name of a store as UTF-8; empty where it has none. MEMORY, CLOSED. */
+/* Returns the number of stores. Their numbers begin at 0, and the last two are the layer and the platform. */
+uint32_t curlew_store_count(curlew_field *field);
+/* Writes the numbers of the stores that are options, in rising order. Returns how many there are. */
+size_t curlew_options(curlew_field *field, uint32_t *room, size_t count);
+/* Writes the name of a store as UTF-8. The name is empty if the store has none. NONE if there is no such store; MEMORY, CLOSED. */
 uint32_t curlew_option_name(curlew_field *field, uint32_t store, uint8_t *room, size_t size, size_t *whole);
-/* The value of a store, the saved one where `saved` isn't 0: characters, a deadkey n as 0x80000000 + n, and a virtual key as
- * 0x90000000 and its code. NONE where no value is saved; MEMORY, CLOSED. */
+/* Writes the current value of a store, or the saved value if `saved` is not 0. Deadkey n is 0x80000000 + n, and a virtual key is
+ * 0x90000000 + its code. NONE if there is no such store, or if the saved value is asked for and none is saved; MEMORY, CLOSED. */
 uint32_t curlew_option_value(curlew_field *field, uint32_t store, uint32_t saved, uint32_t *room, size_t count,
                              size_t *whole);
 
-/* The code of the key of a name that every keyboard knows, in ASCII and without regard to case: of K_A it is 65; 0 where there
- * is none. */
+/* Returns the code of a key that every keyboard has, for instance 65 for K_A; 0 if no such key has this name. The name is ASCII, and
+ * compares without case. */
 uint16_t curlew_key_code(const uint8_t *name, size_t size);
-/* The code of the key of a name in this field: that of curlew_key_code, else that of a key that the keyboard names itself, as
- * T_new or U_0041. Such codes begin at 256, and are those of this file alone. The name is UTF-8, without regard to the case of
- * ASCII letters. 0 where the keyboard knows no such key, or the field isn't open. */
+/* Returns the code of a key in this field: the code of curlew_key_code, otherwise the code of a custom key of the keyboard, for
+ * instance T_new or U_0041; 0 if the keyboard has no such key. Codes of custom keys start at 256, and are valid only for this file.
+ * The name is UTF-8, and compares without ASCII case. */
 uint16_t curlew_own_key_code(curlew_field *field, const uint8_t *name, size_t size);
 
 #ifdef __cplusplus

@@ -1,11 +1,11 @@
-/* An input method in small: example FILE.kmx reads names of keys, as K_A, or T_new where the keyboard has it, from standard input,
- * one a line, and prints the edit of each and the text before the caret. docs/C.md explains the loop. */
+/* A minimal input method. `example FILE.kmx` reads names of keys from standard input, one per line, for instance K_A, or T_new if the
+ * keyboard has it. It prints the edit of each key press and the text before the caret. docs/C.md explains the loop. */
 #include "curlewmetal.h"
 #include <stdio.h>
 #include <stdlib.h>
 #include <string.h>
 
-/* The bytes of a file, which stay until the program ends. */
+/* Returns the bytes of a file, or NULL. The program keeps them until it ends. */
 static uint8_t *contents(const char *name, size_t *size) {
   FILE *file = fopen(name, "rb");
   if (!file) return NULL;
@@ -22,7 +22,7 @@ static uint8_t *contents(const char *name, size_t *size) {
   return bytes;
 }
 
-/* What an input method does with the edit: it deletes, commits, and says whether it handled the key. */
+/* Prints the edit. An input method deletes and commits instead, and reports whether it handled the key. */
 static void print_edit(curlew_field *field, const curlew_edit *edit) {
   uint8_t room[4 * 4096];
   size_t size = curlew_inserted_utf8(field, room, sizeof room);
@@ -31,7 +31,7 @@ static void print_edit(curlew_field *field, const curlew_edit *edit) {
          edit->passed ? ", passed" : "");
 }
 
-/* The text before the caret, which a real application keeps itself. */
+/* Prints the text before the caret. A real application keeps this text itself. */
 static void print_text(curlew_field *field) {
   uint32_t room[80];
   size_t count = curlew_text(field, 0, room, 80);

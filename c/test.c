@@ -1,9 +1,12 @@
-/* The test of the library, which bench/c-library compiles and runs: test WORK FILE.kmx ..
+/* The test of the library. bench/c-library compiles it and runs `test WORK FILE.kmx ..`, where WORK is one of these:
  *
- * play: reads the entries of a script from standard input, and prints the lines of its transcript.
- * host: the same, in as many fields as they open.      answers: each answer of each call.
- * memory: plays with each allocation refused in turn.      damage: opens the file with each byte changed, and plays it.
- * threads: two fields on two threads.      speed: what a key costs, of a name behind the file's, if one is there. */
+ * `play` reads the entries of a script from standard input, and prints the lines of its transcript.
+ * `host` does so in as many fields as the entries open.
+ * `answers` checks each result of each call.
+ * `memory` plays with each allocation refused in turn.
+ * `damage` opens the file with each byte changed, and plays it.
+ * `threads` types in two fields on two threads.
+ * `speed` measures what a key press costs. The name of the key may follow FILE.kmx. */
 #include "curlewmetal.h"
 #include <pthread.h>
 #include <stdio.h>
@@ -34,7 +37,7 @@ static void read_file(const char *name) {
   fclose(file);
 }
 
-/* ---- the allocator: one call is refused, where that is asked for */
+/* ---- the allocator: refuses one call if a test requests it */
 
 static long refused_call = -1, calls, live;
 
@@ -70,13 +73,13 @@ void __wrap_free(void *p) {
 
 #define NAME 4096
 #define FIELDS 64
-#define UNKNOWN 100   /* no answer of the library: a script sets an option that the keyboard hasn't, which does nothing there */
+#define UNKNOWN 100   /* not a result of the library: a script sets an option that the keyboard doesn't have, which has no effect */
 
 static uint32_t room[1000100];
-/* The fields of a script. The first is never typed in, and the others begin as copies of it. */
+/* The fields of a script. Nobody types in the first field; the others start as copies of it. */
 static curlew_field fields[FIELDS + 1];
 static unsigned opened, turned, steps[FIELDS + 1], shown, failed;
-/* What stands before each line of a field: nothing, or its number where a script has many. */
+/* The beginning of each line of a field: empty, or the number of the field if the script has many. */
 static char mark[16];
 
 static void print_characters(const uint32_t *text, size_t count) {
@@ -118,7 +121,7 @@ static void print_step(curlew_field *field, const curlew_edit *edit) {
   print_changes(field);
 }
 
-/* A step that did nothing is none here, so that the field still tells the last one. */
+/* Prints the line of a script's step that had no effect. The library made no step, so its calls still describe the last one. */
 static void print_nothing(curlew_field *field) {
   printf("%s%u del=0 ins=- pass=0 beep=0 ctx=", mark, steps[turned]);
   print_characters(room, curlew_context(field, room, SIZE(room)));
@@ -148,7 +151,7 @@ static size_t read_text(uint32_t *text, size_t most) {
   return count;
 }
 
-/* A name, which is given by two hexadecimal digits for each byte. */
+/* Reads a name: two hexadecimal digits for each byte. */
 static size_t read_name(uint8_t *name) {
   static char word[2 * NAME + 1];
   unsigned byte = 0;
@@ -161,7 +164,7 @@ static size_t read_name(uint8_t *name) {
   return length;
 }
 
-/* The code of a key by its name, which each keyboard has or this one alone. */
+/* Reads the name of a key and returns its code. The key is one that every keyboard has, or a custom key of this keyboard. */
 static uint16_t read_key(curlew_field *field) {
   static uint8_t name[NAME];
   size_t length = read_name(name);
@@ -170,7 +173,7 @@ static uint16_t read_key(curlew_field *field) {
   return code;
 }
 
-/* What a call that did nothing leaves as it was. */
+/* What a call that had no effect leaves unchanged. */
 typedef struct { size_t left, right, inserted, context; uint32_t items[64]; } state;
 
 static state seen(curlew_field *field) {
@@ -243,7 +246,7 @@ static uint32_t show(curlew_field *field) {
   return CURLEW_OK;
 }
 
-/* Whether the whole text is as a line of the script says. */
+/* Checks that the whole text is the text that a line of the script expects. */
 static void expect(curlew_field *field) {
   static uint32_t text[4096];
   unsigned line = read_number();
@@ -254,7 +257,7 @@ static void expect(curlew_field *field) {
   printf("%sexpect failed line=%u\n", mark, line);
 }
 
-/* Turns to a field of a script that has many. */
+/* Selects a field of a script that has many. */
 static void turn(unsigned number) {
   turned = number;
   sprintf(mark, "f%u ", number);
@@ -280,7 +283,7 @@ static uint32_t entry(char kind) {
   }
 }
 
-/* The steps of all fields. */
+/* Returns the number of steps of all fields. */
 static unsigned steps_of_all(void) {
   unsigned all = 0;
   for (unsigned i = 1; i <= opened; i++) all += steps[i];
@@ -317,7 +320,7 @@ static void play(int many) {
   for (unsigned i = 0; i <= opened; i++) curlew_close(&fields[i]);
 }
 
-/* A file whose own keys are T_new and U_0041. */
+/* A file with the custom keys T_new and U_0041. */
 static const char own_keys[] =
   "KXTS\0\12\0\0\0\0\0\0\0\0\0\0\0\0\0\0\0\0\0\0\1\0\0\0\1\0\0\0"
   "@\0\0\0L\0\0\0\377\377\377\377\0\0\0\0\0\0\0\0\0\0\0\0\0\0\0\0\0\0\0\0"
@@ -344,7 +347,40 @@ static void key_codes(void) {
   curlew_close(&field);
 }
 
-/* ---- the answers */
+/* ---- the results */
+
+/* The stores of a field: the layer and the platform are the last two, and the last options. */
+static void stores(curlew_field *field) {
+  uint8_t name[16];
+  size_t whole = 9, options = curlew_options(field, room, SIZE(room));
+  uint32_t count = curlew_store_count(field);
+  is(count >= 2 && options >= 2 && options <= count, "the stores and the options");
+  is(room[options - 2] == count - 2 && room[options - 1] == count - 1, "the last options");
+  for (size_t n = 1; n < options; n++) is(room[n - 1] < room[n], "the options rise");
+  is(curlew_option_name(field, count - 1, name, sizeof name, &whole) == CURLEW_OK && whole == 9, "the platform's name");
+  is(!memcmp(name, "&platform", 9), "the platform's name as bytes");
+  whole = 7;
+  is(curlew_option_name(field, count, name, sizeof name, &whole) == CURLEW_NONE && whole == 7, "the name of no store");
+  is(curlew_option_value(field, count, 0, room, 9, &whole) == CURLEW_NONE && whole == 7, "the value of no store");
+}
+
+/* curlew_before passes no character: the deadkey of K_QUOTE goes, in an empty text and with an e after the caret, and K_A inserts an
+ * a without an accent. */
+static void new_places(void) {
+  curlew_field field = {0};
+  curlew_fault fault = {9, 9, 9};
+  curlew_edit edit;
+  uint32_t e = 'e';
+  for (size_t after = 0; after < 2; after++) {
+    is(curlew_open(&field, bytes, size, &fault) == CURLEW_OK, "a file");
+    is(curlew_replace(&field, 0, 0, &e, after) == CURLEW_OK && curlew_text(&field, 1, room, 9) == after, "what stands after");
+    is(curlew_key(&field, 222, 0, &edit) == CURLEW_OK && curlew_context(&field, room, 9) == 1, "a deadkey");
+    is(curlew_before(&field, &e, 0) == CURLEW_OK && curlew_context(&field, room, 9) == 0, "no deadkey at a new place");
+    is(curlew_text(&field, 0, room, 9) == 0 && curlew_text(&field, 1, room, 9) == after, "the text of a new place");
+    is(curlew_key(&field, 65, 0, &edit) == CURLEW_OK && curlew_inserted(&field, room, 9) == 1 && room[0] == 'a', "no accent");
+  }
+  curlew_close(&field);
+}
 
 static void answers(void) {
   curlew_field field = {0}, other = {0};
@@ -353,11 +389,12 @@ static void answers(void) {
   uint32_t text[] = {'e', 0x1F600}, bad[] = {'a', 0xD800}, far_off[] = {0x110000}, store = 9, saved = 9;
   uint8_t utf8[8];
   size_t whole = 9;
-  is(curlew_version() == 1, "the version");
+  is(curlew_version() == CURLEW_VERSION, "the version");
   curlew_close(&field);
   is(curlew_key(&field, 65, 0, &edit) == CURLEW_CLOSED && edit.deleted == 9, "a key of a closed field");
   is(curlew_before(&field, text, 2) == CURLEW_CLOSED && curlew_copy(&field, &other) == CURLEW_CLOSED && !other.held, "closed");
   is(curlew_inserted(&field, room, 1) == 0 && curlew_option_name(&field, 0, utf8, 8, &whole) == CURLEW_CLOSED, "closed");
+  is(curlew_store_count(&field) == 0 && curlew_options(&field, room, 9) == 0, "the stores of a closed field");
   is(curlew_open(&field, bytes, size / 2, &fault) == CURLEW_REFUSED && fault.rule != 9 && !field.held, "half a file");
   is(curlew_open(&field, bytes, size, &fault) == CURLEW_OK && field.held, "a file");
   is(curlew_before(&field, bad, 2) == CURLEW_CHARACTER && curlew_before(&field, far_off, 1) == CURLEW_CHARACTER, "no characters");
@@ -381,6 +418,7 @@ static void answers(void) {
   is(curlew_option_name(&field, store, utf8, 2, &whole) == CURLEW_OK && whole == 6 && utf8[0] == '&', "the layer's name");
   is(curlew_change(&field, 99, &store, &saved) == CURLEW_NONE, "no such change");
   is(curlew_option_value(&field, 60000, 1, room, 9, &whole) == CURLEW_NONE, "no saved value");
+  stores(&field);
   is(curlew_copy(&field, &other) == CURLEW_OK && other.held && other.held != field.held, "a copy");
   is(curlew_key(&field, 65, 0, &edit) == CURLEW_OK && curlew_text(&other, 0, room, 9) == 1, "a copy apart");
   is(curlew_key(&other, curlew_key_code((const uint8_t *)"K_A", 3), 0, &edit) == CURLEW_OK, "the copy's key");
@@ -392,13 +430,14 @@ static void answers(void) {
   curlew_close(&other);
   is(!field.held && !other.held, "closed fields");
   key_codes();
+  new_places();
 }
 
 /* ---- memory */
 
 static const uint16_t keys[] = {192, 222, 65, 69, 189, 189, 66, 8, 67, 192, 65, 13, 112};
 
-/* Plays with one allocation refused, and each call that answers so made again. Answers whether one was. */
+/* Plays with one allocation refused, and repeats each call that returns CURLEW_MEMORY. Returns how many calls it repeated. */
 static int played(char *out, long refuse) {
   curlew_field field = {0}, other = {0};
   curlew_fault fault;
@@ -499,7 +538,7 @@ static void least(double *of, double start, double count) {
   if (took < *of) *of = took;
 }
 
-/* The characters on standard input, which stand before the caret. */
+/* Reads the text before the caret from standard input. */
 static size_t read_before(uint32_t *text, size_t most) {
   size_t count = 0;
   unsigned c;
@@ -507,8 +546,9 @@ static size_t read_before(uint32_t *text, size_t most) {
   return count;
 }
 
-/* Prints the least of ten runs, in nanoseconds: of the key of a name, behind the text on standard input, with what it inserts,
- * or of A and backspace in turn; of a text of 64 characters that is told; of a copy; and of one start. */
+/* Prints the least times of ten runs, in nanoseconds: of a key press with the characters that it inserts, of a curlew_before with 64
+ * characters, and of a copy; and the time of one opening. The key has the given name, and is pressed after the text on standard
+ * input. Without a name, A and backspace are pressed in turn. */
 static void speed(const char *name) {
   static uint32_t begun[1000000];
   curlew_field field = {0}, other = {0};
