@@ -1,5 +1,5 @@
-# Of a transcript of presses, each behind two caret moves: a line for each press up to the first that sets an option, with what
-# stands before the caret, whether the key was passed on, and the beeps.
+# Reads a transcript of key presses, each after two caret moves. Prints a line for each press up to the first one that sets an option:
+# the items before the caret, whether the key was passed on, and the beeps.
 /^(opt|save) / { if (pressed) exit }
 /^[0-9]+ del=/ {
     pressed = $1 > 1 && $1 % 3 == 1

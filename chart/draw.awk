@@ -1,6 +1,7 @@
-# Draws keys (place, width and name, row by row, a blank line between rows) with what they give: lines of modifiers, key, what
-# is given, whether the key is passed on, beeps, and with `behind` how many characters are deleted first. The four cells of a key are plain below left, SHIFT above
-# left, RALT below right, and both above right. With `caps` a third row below them has caps lock, and caps lock with RALT.
+# Draws keys and what they insert. The first file lists the keys by position, width and name, row by row, with a blank line between
+# rows. The second file has a line for each press: modifiers, key, inserted items, whether the key is passed on, beeps, and with `behind`
+# the number of characters that are deleted first. A key has four cells: plain below left, SHIFT above left, RALT below right, and both
+# above right. With `caps`, a third row below them has caps lock, and caps lock with RALT.
 BEGIN {
     unit = 64; gap = 4; top = 44
     rows = caps == "" ? 2 : 3; high = caps == "" ? unit : 90
@@ -12,7 +13,7 @@ BEGIN {
     column["SHIFT+RALT"] = 1; row["SHIFT+RALT"] = 0
     print "<svg xmlns=\"http://www.w3.org/2000/svg\" viewBox=\"0 0 " 14.5 * unit + 16 " " 5 * high + top + 44 "\" font-family=\"sans-serif\" text-anchor=\"middle\">"
     print "<rect width=\"100%\" height=\"100%\" fill=\"#ffffff\"/>"
-    print "<text x=\"10\" y=\"28\" font-size=\"18\" text-anchor=\"start\" fill=\"#222222\">" escaped(title) "</text>"
+    print "<text x=\"10\" y=\"28\" font-size=\"18\" text-anchor=\"start\" fill=\"#222222\">" escaped(ENVIRON["title"]) "</text>"
 }
 
 /^#/ { next }
@@ -27,17 +28,17 @@ END {
     print "<circle cx=\"" x + 284 "\" cy=\"" y - 5 "\" r=\"9\" fill=\"none\" stroke=\"#b04a00\" stroke-width=\"1.5\"/><text x=\"" x + 300 "\" y=\"" y "\">deadkey by its number</text>"
     bell(x + 484, y - 5); print "<text x=\"" x + 500 "\" y=\"" y "\">beep</text>"
     print "<rect x=\"" x + 560 "\" y=\"" y - 14 "\" width=\"18\" height=\"18\" fill=\"#dddddd\"/><text x=\"" x + 586 "\" y=\"" y "\">passed on to the application</text>"
-    if (behind != "") print "<text x=\"" x + 586 "\" y=\"" y + 16 "\" fill=\"#a00000\">&#x2212;1: deletes a character before</text>"
+    if (behind != "") print "<text x=\"" x + 586 "\" y=\"" y + 16 "\" fill=\"#a00000\">&#x2212;1: deletes one character first</text>"
     print "</g>"
     print "</svg>"
 }
 
-# The frame of a key.
+# Draws the frame of a key.
 function frame(key) {
     print "<rect x=\"" place[key] "\" y=\"" height[key] "\" width=\"" width[key] "\" height=\"" high - gap "\" rx=\"6\" fill=\"#ffffff\" stroke=\"#888888\"/>"
 }
 
-# What a key gives with some modifiers.
+# Draws the cell of a key with some modifiers.
 function cell(key, mods, given, passed, beeps, deleted,    x, y, wide, tall) {
     wide = (width[key] - 4) / 2; tall = (high - gap - 4) / rows
     x = place[key] + 2 + column[mods] * wide; y = height[key] + 2 + row[mods] * tall
@@ -47,12 +48,12 @@ function cell(key, mods, given, passed, beeps, deleted,    x, y, wide, tall) {
     if (given != "-") items(given, x + wide / 2, y + tall / 2, wide)
 }
 
-# A mark for a beep.
+# Draws the symbol for a beep.
 function bell(x, y) {
     print "<path d=\"M" x - 6 " " y + 4 "h12l-2 -3v-3a4 4 0 0 0 -8 0v3z\" fill=\"#7a1fa2\"/>"
 }
 
-# Deadkeys and the texts between them, in their order. Of a long one the first four are shown.
+# Draws deadkeys and the texts between them, in order. If there are more than four items, draws only the first four.
 function items(given, x, y, wide,    item, count, shown, step, size, i, first, text) {
     count = split(given, item, ".")
     shown = count > 4 ? 4 : count
@@ -70,13 +71,13 @@ function items(given, x, y, wide,    item, count, shown, step, size, i, first, t
     print "</g>"
 }
 
-# A deadkey by its number.
+# Draws a deadkey by its number.
 function ring(number, x, y, radius) {
     print "<circle cx=\"" x "\" cy=\"" y "\" r=\"" radius "\" fill=\"none\" stroke=\"#b04a00\" stroke-width=\"1.5\"/>"
     print "<text x=\"" x "\" y=\"" y + radius * 0.35 "\" font-size=\"" radius "\" fill=\"#b04a00\">" number "</text>"
 }
 
-# Characters side by side, by their codes. One alone that can't be seen is written as its code, and a blank as an open box.
+# Draws characters side by side, by their codes. A single invisible character is drawn as its code, and a space as an open box.
 function run(codes, x, y, size,    code, count, i, text) {
     count = split(codes, code, " ")
     if (count == 1 && code[1] != "0020" && is_hidden(code[1])) {
@@ -87,14 +88,14 @@ function run(codes, x, y, size,    code, count, i, text) {
     print "<text x=\"" x "\" y=\"" y + size * 0.35 "\">" (is_combining(code[1]) ? "&#x25CC;" : "") text "</text>"
 }
 
-# A character as XML can have it.
+# Returns a character in a form that XML allows.
 function drawn(code) {
     if (code == "0020") code = "2423"
     if (is_within(code, "0000", "001F") || code == "FFFE" || code == "FFFF") code = "FFFD"
     return "&#x" code ";"
 }
 
-# What is given, by code points, for whoever points at it.
+# Returns the inserted items by their code points, for the tooltip.
 function told(item, count,    i, text) {
     for (i = 1; i <= count; i++) text = text (i > 1 ? " " : "") (item[i] ~ /^d/ ? "deadkey " substr(item[i], 2) : "U+" item[i])
     return text
@@ -117,7 +118,9 @@ function is_combining(code) {
         || is_within(code, "FE20", "FE2F")
 }
 
+# Returns a text in a form that XML allows.
 function escaped(text) {
+    gsub(/[\001-\037\177]/, "?", text)
     gsub("&", "\\&amp;", text); gsub("<", "\\&lt;", text); gsub(">", "\\&gt;", text)
     return text
 }

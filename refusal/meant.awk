@@ -1,7 +1,8 @@
-# What a refusal means in the file that it is about, of so many `bytes`: with `code`, `line` and `rest`, all that stands behind the
-# code, prints what is meant there, or an empty line where the code says all, then the beginning of the line, and a full stop.
-# Behind a tab stands the thing that is left out, as docs/CODES.md names it. A source is read as docs/LANGUAGE.md says, by bytes:
-# set LC_ALL=C.
+# Explains a refusal in the file that it refers to, with the functions of `source.awk`. The variables are `code`, `line`, `rest` (the
+# rest of the refusal after the code) and `bytes` (the size of the file). The first printed line states what the refusal means there,
+# or is empty if the code says enough. For a feature that is not supported, this line ends with a tab and the name of the feature in
+# docs/CODES.md. The second line is a hint or empty. The third is the number of the line that has the error, or 0 if no line has it.
+# Then come the beginning of that line and a full stop.
 BEGIN {
     split("C16 C17 C18 C19 C20 C21 C22 P07 H2", codes, " ")
     split("items:items:elements:store 20,001:group 1,001:deadkey 5,001:record 100,001:event 100,001:field 65", words, ":")
@@ -9,34 +10,29 @@ BEGIN {
     of_source = code ~ /^[CS]/
 }
 
-{
-    sub(/\r$/, "")
-    count = split($0, physical, "\r")
-    if (count == 0) take("")
-    for (part = 1; part <= count; part++) take(physical[part])
-}
-
 END {
     if (open) finish()
     if (code ~ /^(L05|P06|T7)$/) print grouped(bytes) " bytes"
     else if (rest ~ /^(size|rules|stores|elements) /) print grouped(substr(rest, index(rest, " ") + 1)) " " unit_of(rest)
-    else print of_source ? meaning_of() : meaning
-    print text
+    else print (of_source && meaning == "" ? meaning_of() : meaning)
+    print hint
+    print (code ~ /^(C01|L05|P06)$/ || utf16 ? 0 : line)
+    print printable(text)
     print "."
 }
 
-# What is counted where a refusal has a number of its own.
+# Returns the unit of the number that a refusal states.
 function unit_of(rest) {
     return rest ~ /^size/ ? "bytes" : rest ~ /^rules/ ? "records" : substr(rest, 1, index(rest, " ") - 1)
 }
 
-# A number with its thousands parted.
+# Returns a number with commas between thousands.
 function grouped(number,    all) {
     for (; length(number) > 3; number = substr(number, 1, length(number) - 3)) all = "," substr(number, length(number) - 2) all
     return number all
 }
 
-# At most 300 bytes, without a part of a character.
+# Returns at most the first 300 bytes, without splitting a character.
 function beginning(s) {
     if (length(s) <= 300) return s
     s = substr(s, 1, 300)
@@ -44,105 +40,75 @@ function beginning(s) {
     return s "..."
 }
 
-# Takes a physical line.
+# Returns a text in which a terminal finds nothing to obey and no broken character.
+function printable(s,    all, good) {
+    gsub(/[\001-\010\013-\037\177]/, "?", s)
+    for (;;) {
+        good = valid_bytes(s)
+        all = all substr(s, 1, good)
+        if (good >= length(s)) return all
+        all = all "?"
+        s = substr(s, good + 2)
+    }
+}
+
+# Returns the number of bytes at the beginning of a text that are UTF-8.
+function valid_bytes(s,    found) {
+    if (s !~ /[\200-\377]/) return length(s)
+    found = "^([\001-\177]|[\302-\337][\200-\277]|\340[\240-\277][\200-\277]|[\341-\354\356\357][\200-\277][\200-\277]|\355[\200-\237]" \
+        "[\200-\277]|\360[\220-\277][\200-\277][\200-\277]|" \
+        "[\361-\363][\200-\277][\200-\277][\200-\277]|\364[\200-\217][\200-\277][\200-\277])+"
+    return match(s, found) ? RLENGTH : 0
+}
+
+# Processes a physical line.
 function take(s) {
-    row++
-    if (row == 1) sub(/^\357\273\277/, "", s)
-    if (row == line) text = beginning(s)
-    if (!of_source) {
-        if (row == line && code in counted) meaning = counted[code]
-        return
+    if (row == 1 && s ~ /^(\377\376|\376\377|[^\001]\001[^\001]\001|\001[^\001]\001[^\001])/) {
+        utf16 = 1; meaning = "the text is in UTF-16"; hint = "Save it as UTF-8."
     }
-    if (!open) begin(s)
-    else scan(s, 1)
-    if (!open) finish()
-}
-
-# Begins a logical line: its tokens are `token` up to `tokens`, with `kind` q for a quoted text, s for a sign and w for a word.
-function begin(s,    rest_of, lower) {
-    first_row = row; tokens = 0; skipped = 0
-    lower = tolower(s)
-    if (match(lower, /^[ \t]*\$(keymanweb|kmfl):/)) skipped = 1
-    if (match(lower, /^[ \t]*\$(keymanonly|keyman):/)) scan(substr(s, RLENGTH + 1), 0)
-    else scan(s, 1)
-}
-
-# Takes the tokens of a physical line; `open` tells that the next one goes on with it. A comment begins behind a blank.
-function scan(s, blank,    end, first) {
-    open = 0
-    while (s != "") {
-        first = substr(s, 1, 1)
-        if (match(s, /^[ \t]+/)) { s = substr(s, RLENGTH + 1); blank = 1; continue }
-        if (blank && s ~ /^[cC]([ \t]|$)/) return
-        if (s ~ /^\\[ \t]*$/) { open = 1; return }
-        blank = 0
-        if (first == "'" || first == "\"") {
-            end = index(substr(s, 2), first)
-            if (end == 0) end = length(s)
-            add("q", substr(s, 2, end - 1)); s = substr(s, end + 2)
-        } else if (s ~ /^!=/) { add("s", "!="); s = substr(s, 3)
-        } else if (index("()[]>+=,", first)) { add("s", first); s = substr(s, 2)
-        } else {
-            if (s ~ /^[uU][+]/) match(s, /^..[^] \t'"()>+=,[]*/)
-            else match(s, /^[^] \t'"()>+=,[]+/)
-            end = RLENGTH
-            if (substr(s, end, 2) == "!=" && end > 1) end--
-            if (substr(s, end) ~ /^\\[ \t]*$/ && end > 1) end--
-            add("w", substr(s, 1, end)); s = substr(s, end + 1)
-        }
+    if (code ~ /^[LP]01$/ && meaning == "") find_bytes(s)
+    if (code ~ /^V0[12]$/ && row == 1 && s !~ /^KXTS/) hint = "If the file is a source, compile it first."
+    if (code ~ /^E/ && !line) count_events(s)
+    if (row == line) {
+        text = beginning(s)
+        if (hint == "") hint = hint_of(s)
     }
+    if (of_source) read_tokens(s)
+    else if (row == line && code in counted) meaning = counted[code]
 }
 
-function add(what, value) {
-    token[++tokens] = value; kind[tokens] = what
+# Finds the line of an event, which the refusal states by its number.
+function count_events(s) {
+    sub(/^[ \t]+/, "", s)
+    if (s ~ /^\[/) events += gsub(/\[/, "[", s)
+    else if (s ~ /^(caret|edit|option|preview)/) events++
+    if (events >= substr(rest, 7) + 0) line = row
 }
 
-function sign(at, value) {
-    return at <= tokens && kind[at] == "s" && token[at] == value
+# Finds the first byte that is not UTF-8. The refusal itself is for the whole text, and states line 1.
+function find_bytes(s,    good, byte) {
+    good = valid_bytes(s)
+    if (good >= length(s)) return
+    for (byte = 128; sprintf("%c", byte) != substr(s, good + 1, 1) && byte < 255; byte++);
+    meaning = sprintf("byte %d of line %d is %02X", good + 1, row, byte)
+    line = row
 }
 
-# The word at a place, without case; empty where something else stands there.
-function word(at) {
-    return at <= tokens && kind[at] == "w" ? tolower(token[at]) : ""
-}
-
-function characters(value) {
-    gsub(/[\200-\277]/, "", value)
-    return length(value)
-}
-
-# The place of the first sign of a value, or one past the end.
-function place_of(value,    at) {
-    for (at = 1; at <= tokens && !sign(at, value); at++);
-    return at
-}
-
-# How many items or elements stand at these places, with those of stores that are put.
-function items(from, to,    at, sum, name) {
-    for (at = from; at <= to; at++) {
-        name = put_at(at)
-        if (kind[at] == "q") sum += characters(token[at])
-        else if (name != "") sum += size[name]
-        else sum++
-        if (sign(at, "[")) while (at <= to && !sign(at, "]")) at++
-        if (sign(at + 1, "(")) while (at <= to && !sign(at, ")")) at++
+# Returns how the language writes a text or a comment, if the refused line has what other languages write.
+function hint_of(s,    count, i, pieces) {
+    if (code !~ /^(L03|S|P0[234578])/) return ""
+    gsub(/'[^']*'|"[^"]*"/, " ", s)
+    count = split(s, pieces, /[ \t(),+>=]+/)
+    for (i = 1; i <= count; i++) {
+        if (pieces[i] ~ /^['"]?(\342\200[\230-\237\271\272]|\302[\253\273])|(\342\200[\230-\237\271\272]|\302[\253\273])$/)
+            return "A text is in straight quotes, as in 'a' or \"a\"."
+        if (pieces[i] ~ /^(\/\/|\/\*|#)/)
+            return code ~ /^P/ ? "A comment is a line that begins with #." : "A comment begins with the letter c and a blank."
     }
-    return sum + 0
+    return ""
 }
 
-# The store that `outs` or `$` puts at a place.
-function put_at(at,    value) {
-    value = word(at)
-    if (value ~ /^\$./) return substr(value, 2)
-    return value == "outs" && sign(at + 1, "(") ? tolower(token[at + 2]) : ""
-}
-
-# Whether a virtual key stands among the elements of a store that is put here, or at this place.
-function gives_key(at) {
-    return sign(at, "[") || put_at(at) in with_key
-}
-
-# Ends a logical line: keeps what it states, and of the refused one its tokens, since what it names may stand behind it.
+# Ends a logical line. Stores what it defines. Keeps the tokens of the refused line, since later lines may define what it names.
 function finish(    at) {
     open = 0
     if (skipped || tokens == 0) return
@@ -160,12 +126,12 @@ function state_store(name,    at) {
     for (at = 5; at <= tokens; at++) if (gives_key(at)) with_key[name] = 1
 }
 
-# What is meant in the refused line.
+# Returns what the refusal means in the refused line.
 function meaning_of(    at) {
     tokens = kept
     for (at = 1; at <= kept; at++) { token[at] = kept_token[at]; kind[at] = kept_kind[at] }
-    if (code == "C03") return quoted(token[3]) ", which line " stores[tolower(token[3])] " states"
-    if (code == "C04") return quoted(token[3]) ", which line " groups[tolower(token[3])] " states"
+    if (code == "C03") return quoted(token[3]) ", already defined in line " stores[tolower(token[3])]
+    if (code == "C04") return quoted(token[3]) ", already defined in line " groups[tolower(token[3])]
     if (code ~ /^C0[567]$/) return missing()
     if (code == "C12") return left_out()
     if (code == "C16") return grouped(items(1, (place_of("+") < place_of(">") ? place_of("+") : place_of(">")) - 1)) " items"
@@ -179,7 +145,7 @@ function quoted(value) {
     return "'" value "'"
 }
 
-# The first name in the line that no statement states, or for C07 none before it.
+# Returns the first name in the line that no statement defines, or for C07 no earlier statement.
 function missing(    at, name) {
     for (at = 1; at <= tokens; at++) {
         name = code == "C06" ? group_at(at) : store_at(at)
@@ -199,7 +165,7 @@ function store_at(at,    name) {
     return word(at) ~ /^(if|set)$/ && name ~ /^&/ ? "" : name
 }
 
-# The first thing of the line that is left out, and behind a tab how the table of these calls it.
+# Returns the first feature of the line that is not supported, and after a tab its name in the table of docs/CODES.md.
 function left_out(    at, name, output) {
     name = tolower(token[3])
     if (word(1) == "store" && name ~ /^&/)
@@ -207,23 +173,24 @@ function left_out(    at, name, output) {
     for (at = 1; at <= tokens; at++) {
         if (sign(at, ">")) output = 1
         name = thing_at(at, output)
-        if (name != "") return (word(at) ~ /^\$|^outs$/ ? quoted(shown(at)) ", which has a virtual key," : quoted(shown(at))) "\t" name
+        if (name != "") return (word(at) ~ /^\$|^outs$/ ? quoted(shown(at)) ", which contains a virtual key," : quoted(shown(at))) "\t" name
         if (sign(at + 1, "(")) while (at < tokens && !sign(at, ")")) at++
     }
 }
 
-# How the table calls what stands at a place, empty where it may stand there.
+# Returns the table's name for the feature at a position, or an empty text if it is supported there.
 function thing_at(at, output,    name) {
     name = word(at)
     if (name ~ /^(clearcontext|fix)$/) return output ? "`" name "`" : ""
     if (name ~ /^(switch|baselayout)$/) return "`" name "(x)`"
-    if (name ~ /^(if|set)$/ && tolower(token[at + 2]) ~ /^&/ && tolower(token[at + 2]) !~ (name == "if" ? "^&(layer|platform)$" : "^&layer$"))
+    if (name ~ /^(if|set)$/ && tolower(token[at + 2]) ~ /^&/ \
+        && tolower(token[at + 2]) !~ (name == "if" ? "^&(layer|platform)$" : "^&layer$"))
         return "`" name "(&x"
     if (output && word(1) ~ /^(match|nomatch)$/ && name ~ /^(context|index)$/) return "`" name "`"
     return output && gives_key(at) ? "a virtual key" : ""
 }
 
-# An item as it stands in the line.
+# Returns an item as it is written in the line.
 function shown(at,    all, last) {
     last = at
     if (sign(at, "[")) while (last < tokens && !sign(last, "]")) last++
@@ -235,7 +202,7 @@ function shown(at,    all, last) {
     return all
 }
 
-# A name that is too long, with its characters.
+# Returns a text that states the length of a name that is too long.
 function long_name(    at) {
     for (at = 3; at <= tokens; at++)
         if (sign(at - 1, "(") && kind[at] == "w" && characters(token[at]) > 80) return "a name of " characters(token[at]) " characters"

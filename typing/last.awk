@@ -1,5 +1,5 @@
-# Of a transcript three lines: the last event's, the text's, and the values that options have, as NAME=LIST, with a star before
-# those that this event changed. A name with a blank in it, which no source can give, is left out.
+# Prints three lines from a transcript: the line of the last event, the line of the text, and the values of the options as NAME=LIST,
+# with a star before those that this event changed. Omits a name that contains a blank, which no source can define.
 /^[0-9]+ del=/ { step = $0; split("", changed); next }
 /^opt / && NF == 3 { if (!($2 in value)) { names[++count] = $2 } value[$2] = $3; changed[$2] = 1; next }
 /^text / { text = $0 }
