@@ -1,0 +1,12 @@
+pub mod Contexts
+pub mod Events
+pub mod Keys
+pub mod Laws
+pub mod Outputs
+pub mod Steps
+pub mod Typed
+pub mod WorkedConditions
+pub mod WorkedContexts
+pub mod WorkedKeys
+pub mod WorkedOutputs
+pub mod WorkedWindows

@@ -1,0 +1,4 @@
+//! What Keyman's own engine (Keyman Core) does with a compiled keyboard.
+#![tactic(auto)]
+
+pub mod laws;
