@@ -1,15 +1,15 @@
--- Where a key fits a press as in this product.
+-- A key fits a press in Keyman's own engine as in this product, with four exceptions.
 use Rattle.std.specs.Prelude.{◌≡◌, ℕ, Bool, true, false, not, ◌&&◌, ◌||◌, nat_eq, if◌then◌else◌, None}
-use Rattle.std.proofs.Common.{refl, sym, ◌∙◌, arith}
+use Rattle.std.proofs.Common.{refl, sym, ap, ◌∙◌, arith}
 use Rattle.std.specs.Bool.{beq}
 use Rattle.std.specs.Option.{option_map_or}
 use Rattle.kmn_base.specs.declared.keys.KeyPress.{KeyPress}
 use Rattle.kmn_base.specs.declared.keys.RuleKey.TheVariants.{Any, Char, Virtual}
 use Rattle.virtual_keys.specs.Fits.{left_control, right_control, left_alt, right_alt, shift, either_control, either_alt, has, has_either, caps_fit, sides_fit, flags_fit, char_of_press, key_fits}
 use Rattle.core_meaning.specs.Keys.{is_keypad, core_char, has_both_sides, has_side, names_either, eithers_fit, same_sides, names_alt_gr, right_alt_alone, sides_named_fit, core_flags_fit, core_key_fits}
-use Rattle.core_meaning.specs.Laws.{IsCommonPress, AreCommonFlags, IsCommonKey, CommonKeysFitAlike}
+use Rattle.core_meaning.specs.Laws.{TwiceNamedFitNothing, BothSidesHeldFitNothing, IsCommonPress, AreCommonFlags, IsCommonKey, CommonKeysFitAlike}
 
--- what of two is false where one or the other is false
+-- if neither of two is true, each is false
 left_false : (a b : Bool) → (a || b) ≡ false → a ≡ false
 left_false true b none = none
 left_false false b none = refl
@@ -21,7 +21,7 @@ right_false true b none = absurd (true_no_false none)
     true_no_false e = grind arith
 right_false false b none = none
 
--- the second of two is false where both aren't true and the first is
+-- if the first of two is true but not both, the second is false
 second_false : (a b : Bool) → (a && b) ≡ false → a ≡ true → b ≡ false
 second_false true b none first = none
 second_false false b none first = absurd (false_no_true first)
@@ -29,7 +29,7 @@ second_false false b none first = absurd (false_no_true first)
     false_no_true : false ≡ true → ⊥
     false_no_true e = grind arith
 
--- flags that name no side, in the order of this product
+-- the test of flags that name no side, with its parts in the order of this product
 either_order : (caps_ok same_shift control alt : Bool) → ((caps_ok && true) && (same_shift && ((true && control) && alt))) ≡ (((same_shift && caps_ok) && control) && alt)
 either_order true true true alt = refl
 either_order true true false alt = refl
@@ -37,7 +37,7 @@ either_order true false control alt = refl
 either_order false true control alt = refl
 either_order false false control alt = refl
 
--- flags that name sides, in the order of this product
+-- the test of flags that name sides, with its parts in the order of this product
 sides_order : (caps_ok same_shift control alt : Bool) → ((caps_ok && true) && ((same_shift && (control && alt)) || false)) ≡ (((same_shift && caps_ok) && control) && alt)
 sides_order true true true true = refl
 sides_order true true true false = refl
@@ -46,7 +46,7 @@ sides_order true false control alt = refl
 sides_order false true control alt = refl
 sides_order false false control alt = refl
 
--- a modifier whose sides aren't named
+-- a modifier whose sides are not named fits as in this product
 half_fits : (named left right : Bool) → beq named (left || right) ≡ (if named then (left || right) else (beq false left && beq false right))
 half_fits true true right = refl
 half_fits true false true = refl
@@ -120,3 +120,38 @@ unfolding key_fits
 common_keys_fit_alike Any press key common = refl
 common_keys_fit_alike (Char c) press key common = λ i. option_map_or (nat_eq c) (if common.no_keypad i then None else char_of_press press) false
 common_keys_fit_alike (Virtual flags code) press key common = λ i. nat_eq code press.code && flags_alike flags press.mods common.one_side key i
+
+and_false : (b : Bool) → (b && false) ≡ false
+and_false true = refl
+and_false false = refl
+
+-- if two are true, each is
+both_true : (a b : Bool) → (a && b) ≡ true → (a ≡ true) × (b ≡ true)
+both_true a true both = grind arith
+both_true true false both = grind arith
+both_true false false both = grind arith
+
+pub twice_named_fit_nothing : TwiceNamedFitNothing
+twice_named_fit_nothing flags code press twice =
+    (λ i. nat_eq code press.code && ((caps_fit flags press.mods && not (has_both_sides press.mods)) && (if parts.0 i then (same_shift && ((not (parts.1 i) && control) && alt)) else sides_named_fit flags press.mods)))
+    ∙ ap (λ (b : Bool). nat_eq code press.code && ((caps_fit flags press.mods && not (has_both_sides press.mods)) && b)) (and_false same_shift)
+    ∙ ap (λ (b : Bool). nat_eq code press.code && b) (and_false (caps_fit flags press.mods && not (has_both_sides press.mods)))
+    ∙ and_false (nat_eq code press.code)
+  where
+    parts : (names_either flags ≡ true) × (has_side flags ≡ true)
+    parts = both_true (names_either flags) (has_side flags) twice
+    same_shift : Bool
+    same_shift = beq (has flags shift) (has press.mods shift)
+    control : Bool
+    control = beq (has flags either_control) (has_either press.mods left_control right_control)
+    alt : Bool
+    alt = beq (has flags either_alt) (has_either press.mods left_alt right_alt)
+
+pub both_sides_held_fit_nothing : BothSidesHeldFitNothing
+both_sides_held_fit_nothing flags code press both =
+    (λ i. nat_eq code press.code && ((caps_fit flags press.mods && not (both i)) && rest))
+    ∙ ap (λ (b : Bool). nat_eq code press.code && (b && rest)) (and_false (caps_fit flags press.mods))
+    ∙ and_false (nat_eq code press.code)
+  where
+    rest : Bool
+    rest = if names_either flags then (beq (has flags shift) (has press.mods shift) && eithers_fit flags press.mods) else sides_named_fit flags press.mods

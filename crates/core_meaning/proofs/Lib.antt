@@ -4,4 +4,5 @@ pub mod WorkedConditions
 pub mod WorkedContexts
 pub mod WorkedKeys
 pub mod WorkedOutputs
+pub mod WorkedTables
 pub mod WorkedWindows

@@ -1,4 +1,4 @@
--- When the context of a record holds in Keyman's own engine, which places it finds, and which record is taken.
+-- Whether the context of a record holds in Keyman's own engine, which places it finds, and which record is taken.
 use Rattle.std.specs.Prelude.{ℕ, zero, suc, ◌-◌, Bool, true, false, not, ◌&&◌, ◌||◌, nat_eq, nat_le, if◌then◌else◌, List, [], ◌∷◌, ◌++◌, length, map, drop, count_by, position, slice_get, unwrap_or, is_some, option_map, codes, Option, Some, None}
 use Rattle.std.specs.List.{list_all}
 use Rattle.std.specs.Option.{option_map_or}
@@ -21,7 +21,7 @@ use Rattle.rule_model.specs.System.{is_space, has_words}
 use Rattle.core_meaning.specs.Events.{CoreVersion, is_18, CoreKeyboard, last_items}
 use Rattle.core_meaning.specs.Keys.{core_key_fits}
 
--- the content of each store at a moment
+-- the content of each store in an event
 abbrev pub core_content : CoreKeyboard → EventState → Content
 core_content kb s = content kb.stores s.current
 
@@ -36,12 +36,12 @@ is_space_at value place = option_map_or is_space (slice_get value place) false
 abbrev pub has_empty_word : List Element → Bool
 has_empty_word value = nat_eq (length value) 0 || is_space_at value 0 || is_space_at value (length value - 1)
 
--- the first store of a system id
+-- the number of the first store with a system id
 abbrev pub system_store : List Store → ℕ → Option ℕ
 system_store stores id = position (λ (store : Store). nat_eq store.system id) stores
 
--- whether what a system id names is equal to a value: the platform has each of its words, and of any other id the first store
--- that has it has the value. None if no store has the id
+-- whether a system option is equal to a value: the platform has each word of the value, or the first store with the id has the
+-- value. None if no store has the id
 abbrev pub system_equal : CoreKeyboard → Content → ℕ → List Element → Option Bool
 system_equal kb content id value =
     if nat_eq id PLATFORM then Some (not (has_empty_word value) && has_words core_platform value)
@@ -65,8 +65,8 @@ abbrev pub is_repeated : List Item → ℕ → Item → Bool
 is_repeated seen zero x = true
 is_repeated seen (suc before) x = option_map_or (same_item x) (slice_get seen before) true
 
--- whether an item of the window is as an item of a context asks, behind the places found and the items compared so far; a `nul`
--- that isn't the first item of its context asks for what there isn't
+-- whether an item of a context matches an item of the window, given the places found and the items compared so far; a `nul` that
+-- isn't the first item of its context never matches
 abbrev pub core_matches : Content → List ℕ → List Item → Pat → Item → Bool
 core_matches content places seen (pattern.Char c) x = is_item x (element.Char c)
 core_matches content places seen (pattern.Mark m) x = is_item x (element.Mark m)
@@ -82,11 +82,11 @@ core_place content places (pattern.Any store) x = unwrap_or (place_of x (content
 core_place content places (pattern.Index store offset) x = place_found places offset
 core_place content places _ x = 0
 
--- whether a context holds, and the places that its items found as far as they were compared
+-- whether a context holds, and the places that its compared items found
 abbrev pub Tried : Type 0
 Tried = Bool × List ℕ
 
--- what comes of the rest of a context, from the places found and the items compared so far and the items that are left
+-- the result of the rest of a context, given the places found, the items compared so far, and the remaining items of the window
 abbrev pub Rest : Type 0
 Rest = List ℕ → List Item → List Item → Tried
 
@@ -104,7 +104,7 @@ compares content pattern rest places seen (x ∷ items) =
     (if core_matches content places seen pattern x then rest else fails)
     (places ++ core_place content places pattern x ∷ []) (seen ++ x ∷ []) items
 
--- the items of a context, each compared with its own item of the window
+-- the items of a context, each compared with its own item of the window, from given places and compared items on
 abbrev pub core_match : Content → List Pat → Rest
 core_match content [] places seen items = (true, places)
 core_match content (pattern ∷ patterns) places seen items =
@@ -131,7 +131,7 @@ has_items context window =
 abbrev pub first_places : CoreVersion → List Pat → List ℕ
 first_places version context = if begins_with_nul context && is_18 version then 0 ∷ [] else []
 
--- whether a context holds: its conditions are true, and the last items of the window are as its other items ask
+-- whether a context holds: its conditions are true, and its other items match the last items of the window
 abbrev pub core_holds : CoreKeyboard → Content → List Item → List Pat → Tried
 core_holds kb content window context =
     if has_items context window && list_all (core_condition kb content) context
@@ -149,7 +149,7 @@ Taken = Option Rule × List ℕ
 abbrev pub take_or_try : Rule → Bool → (List ℕ → Taken) → Tried → Taken
 take_or_try rule takes others tried = (if tried.0 && takes then (λ places. (Some rule, places)) else others) tried.1
 
--- the first record of a list that holds and is taken; before the first is tried, these places were found
+-- the first record of a list that holds and is taken, given the places found before any of them is tried
 abbrev pub core_choose : (Rule → Tried) → (Rule → Bool) → List Rule → List ℕ → Taken
 core_choose holds takes [] places = (None, places)
 core_choose holds takes (rule ∷ rules) places = take_or_try rule (takes rule) (core_choose holds takes rules) (holds rule)

@@ -45,8 +45,8 @@ pub record CoreState : Type 0 where
   pub last : LastMatch
   pub ended : Bool
 
--- the state in an event: the text and the options, the window, how many effects are queued, and the stores that are saved at
--- the end of the event
+-- the state in an event: the text and the options, the window, how many effects are queued, and the stores to save at the end of
+-- the event
 pub record CoreEvent : Type 0 where
   pub event : EventState
   pub window : List Item
@@ -68,7 +68,7 @@ units (x ∷ items) = weight x + units items
 abbrev pub window_units : ℕ
 window_units = 63
 
--- the longest end of items, which have so many units in all, that a rule can see
+-- the longest end of at most 63 units, given the units of all items
 abbrev pub seen_end : ℕ → List Item → List Item
 seen_end total [] = []
 seen_end total (x ∷ items) = if nat_le total window_units then x ∷ items else seen_end (total - weight x) items
@@ -107,7 +107,7 @@ core_put_all (x ∷ items) c = core_put_all items (core_put x c)
 abbrev pub delete_at_end : CoreEvent → CoreEvent
 delete_at_end c = with_left (without_last 1 c.event.left) (record c { window = without_last 1 c.window })
 
--- so many items are deleted one by one
+-- the last n items are deleted one by one
 abbrev pub core_back : ℕ → CoreEvent → CoreEvent
 core_back = iterate (core_queue delete_at_end)
 

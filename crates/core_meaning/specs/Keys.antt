@@ -1,4 +1,4 @@
--- Which character a key press gives in Keyman's own engine, and which key presses the key of a rule fits there.
+-- Which character a key press produces in Keyman's own engine, and which key presses the key of a rule fits there.
 use Rattle.std.specs.Prelude.{ℕ, Bool, true, false, ◌&&◌, ◌||◌, not, nat_eq, nat_le, if◌then◌else◌, Option, None}
 use Rattle.std.specs.Bool.{beq}
 use Rattle.std.specs.Option.{option_map_or}
@@ -45,12 +45,12 @@ abbrev pub names_alt_gr : ℕ → Bool
 names_alt_gr flags =
     has flags left_control && has flags right_alt && not (has flags right_control) && not (has flags left_alt) && not (has flags shift)
 
--- whether the right alt is held alone, without shift
+-- whether the right alt is held, and neither another side nor shift
 abbrev pub right_alt_alone : ℕ → Bool
 right_alt_alone mods =
     has mods right_alt && not (has mods left_control) && not (has mods right_control) && not (has mods left_alt) && not (has mods shift)
 
--- sides that flags name: those are held, or the right alt alone stands for the left control and the right alt
+-- exactly the sides that flags name are held; or the flags name the left control and the right alt, and only the right alt is held
 abbrev pub sides_named_fit : ℕ → ℕ → Bool
 sides_named_fit flags mods = (beq (has flags shift) (has mods shift) && same_sides flags mods) || (names_alt_gr flags && right_alt_alone mods)
 

@@ -1,5 +1,5 @@
 -- What Keyman's own engine and this product share, and what the definitions of the engine compute.
-use Rattle.std.specs.Prelude.{◌≡◌, ℕ, ◌<◌, ◌≤◌, ◌&&◌, Bool, false, List, drop}
+use Rattle.std.specs.Prelude.{◌≡◌, ℕ, ◌<◌, ◌≤◌, ◌&&◌, Bool, true, false, List, [], ◌∷◌, ◌++◌, drop}
 use Rattle.kmn_base.specs.declared.items.Item.{Item}
 use Rattle.kmn_base.specs.declared.keys.KeyPress.{KeyPress}
 use Rattle.kmn_base.specs.declared.keys.RuleKey.{RuleKey}
@@ -18,6 +18,26 @@ pub record IsLongestEnd (items window : List Item) : Type 0 where
 -- the window of items is their longest end of at most 63 units
 abbrev pub WindowIsLongestEnd : Type 0
 WindowIsLongestEnd = (items : List Item) → IsLongestEnd items (window_of items)
+
+-- after a put, the window of the old window is that of the whole text
+abbrev pub WindowOfPut : Type 0
+WindowOfPut = (items : List Item) (x : Item) → window_of (window_of items ++ x ∷ []) ≡ window_of (items ++ x ∷ [])
+
+-- an end of at most 63 units is seen whole
+pub record IsSeenWhole (items end : List Item) : Type 0 where
+  pub before : List Item
+  pub parts : window_of (items ++ end) ≡ before ++ end
+
+abbrev pub ShortEndsAreSeen : Type 0
+ShortEndsAreSeen = (items end : List Item) → units end ≤ 63 → IsSeenWhole items end
+
+-- flags that name control or alt together with a side of either fit no press
+abbrev pub TwiceNamedFitNothing : Type 0
+TwiceNamedFitNothing = (flags code : ℕ) (press : KeyPress) → (names_either flags && has_side flags) ≡ true → core_key_fits (Virtual flags code) press ≡ false
+
+-- a press that holds both sides of control or of alt fits no virtual key
+abbrev pub BothSidesHeldFitNothing : Type 0
+BothSidesHeldFitNothing = (flags code : ℕ) (press : KeyPress) → has_both_sides press.mods ≡ true → core_key_fits (Virtual flags code) press ≡ false
 
 -- a press holds not both sides of control or of alt, and its key is not of the keypad
 pub record IsCommonPress (press : KeyPress) : Type 0 where

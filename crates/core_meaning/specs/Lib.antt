@@ -2,6 +2,7 @@ pub mod Contexts
 pub mod Events
 pub mod Keys
 pub mod Laws
+pub mod Options
 pub mod Outputs
 pub mod Steps
 pub mod Typed
@@ -9,4 +10,5 @@ pub mod WorkedConditions
 pub mod WorkedContexts
 pub mod WorkedKeys
 pub mod WorkedOutputs
+pub mod WorkedTables
 pub mod WorkedWindows

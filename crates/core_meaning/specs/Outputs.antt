@@ -17,6 +17,7 @@ use Rattle.rule_model.specs.Match.{item_of}
 use Rattle.rule_model.specs.Act.{one_more, item_list, set_current, save_current, reset_current}
 use Rattle.rule_model.specs.Tab.{elements_of}
 use Rattle.core_meaning.specs.Events.{CoreVersion, is_18, CoreKeyboard, CoreEvent, LastMatch, last_items, core_queue, core_put, core_put_all, core_back}
+use Rattle.core_meaning.specs.Options.{note_save, core_reset}
 use Rattle.core_meaning.specs.Contexts.{core_content, place_found, begins_with_nul, compared_count}
 
 -- how many groups an event can enter
@@ -30,7 +31,7 @@ Entering = ℕ → CoreEvent → CoreEvent
 abbrev pub end_output : CoreEvent → CoreEvent
 end_output c = record c { ended = true }
 
--- a group is entered; behind the 50th no other is, and output has ended
+-- a group is entered, or output ends if 50 groups were entered
 abbrev pub core_use : Entering → Entering
 core_use enter group c = (if nat_le entries_at_most c.event.entered then end_output else enter group) c
 
@@ -45,19 +46,11 @@ abbrev pub element_list : Option Element → List Element
 element_list None = []
 element_list (Some e) = e ∷ []
 
--- whether the store of a number has a name
-abbrev pub is_named : List Store → ℕ → Bool
-is_named stores n = option_map_or (λ (store : Store). not (nat_eq (length store.name) 0)) (slice_get stores n) false
-
--- a store is noted to be saved at the end of the event; one without a name never is
-abbrev pub note_save : List Store → ℕ → CoreEvent → CoreEvent
-note_save stores n c = (if is_named stores n then core_queue (λ c. record c { to_save = c.to_save ++ n ∷ [] }) else (λ c. c)) c
-
 -- a beep is queued
 abbrev pub beep : CoreEvent → CoreEvent
 beep = core_queue (λ c. record c { event = record (c.event) { beeps = one_more c.event.beeps } })
 
--- what one item of an output does that neither enters a group nor ends the output
+-- what an item of an output does, if it neither enters a group nor ends the output
 abbrev pub core_act_one : CoreKeyboard → Out → CoreEvent → CoreEvent
 core_act_one kb (output.Char x) c = core_put (item.Char x) c
 core_act_one kb (output.Mark m) c = core_put (item.Mark m) c
@@ -66,24 +59,24 @@ core_act_one kb output.Context c = core_put_all c.last.kept c
 core_act_one kb (output.ContextAt offset) c = core_put_all (item_list (slice_get c.last.kept (offset - 1 - c.last.skipped))) c
 core_act_one kb (output.Set store value) c =
     with_event (set_current (option_number kb.stores (Numbered store)) (core_content kb c.event (Numbered value)) c.event) c
-core_act_one kb (output.Save store) c = note_save kb.tables.stores store c
-core_act_one kb (output.Reset store) c =
-    with_event (reset_current (option_number kb.stores (Numbered store)) (elements_of kb.tables.stores store) c.event) c
+core_act_one kb (output.Save store) c = note_save kb.stores store c
+core_act_one kb (output.Reset store) c = with_event (core_reset kb store c.event) c
 core_act_one kb output.Beep c = beep c
 core_act_one kb _ c = c
 
--- a state with whether the match output of the group comes behind the output
+-- a state, and whether the match output of the group follows
 abbrev pub Acted : Type 0
 Acted = CoreEvent × Bool
 
 abbrev pub without_match : CoreEvent → Acted
 without_match c = (c, false)
 
--- what comes behind a `use`: nothing, if output has ended
+-- the rest of an output after a `use`, which is left out if output has ended
 abbrev pub behind_use : (CoreEvent → Acted) → CoreEvent → Acted
 behind_use rest c = (if c.ended then without_match else rest) c
 
--- the items of an output act in order; the match output comes behind it if it has used no group and not returned
+-- the items of an output act in order, given whether it has used a group; the match output follows if it has used none and not
+-- returned
 abbrev pub core_act : CoreKeyboard → Entering → List Out → Bool → CoreEvent → Acted
 core_act kb enter [] used c = (c, not used)
 core_act kb enter (output.Stop ∷ outputs) used c = without_match (end_output c)

@@ -18,6 +18,7 @@ use Rattle.rule_model.specs.KeyEvent.{begin_event}
 use Rattle.rule_model.specs.Trace.{options_of, none_saved}
 use Rattle.core_meaning.specs.Events.{CoreVersion, is_18, CoreKeyboard, core_keyboard, LastMatch, CoreState, CoreEvent, window_of, core_put, core_back, core_back_marks}
 use Rattle.core_meaning.specs.Keys.{core_char}
+use Rattle.core_meaning.specs.Options.{core_save_all}
 use Rattle.core_meaning.specs.Contexts.{core_content, core_holds, core_takes, Taken, core_choose}
 use Rattle.core_meaning.specs.Outputs.{Entering, end_output, core_act_alone, core_done}
 
@@ -39,8 +40,8 @@ abbrev pub put_press : Option ℕ → CoreEvent → CoreEvent
 put_press None c = c
 put_press (Some x) c = core_put (item.Char x) c
 
--- where no record is taken: in a group with keys a press without a character does its default, else the nomatch output acts if
--- there is one, else a group with keys puts the character
+-- what happens if no record is taken: in a group with keys, a press without a character does its default; else the nomatch output
+-- acts, if there is one; else a group with keys puts the character
 abbrev pub core_unmatched : CoreKeyboard → Entering → KeyPress → Group → CoreEvent → CoreEvent
 core_unmatched kb enter press group c =
     (if group.using_keys && not (is_some (core_char press)) then core_default press
@@ -71,7 +72,7 @@ core_in_group kb enter press (Some group) c = do_taken_with kb enter press group
 abbrev pub one_more_entered : CoreEvent → CoreEvent
 one_more_entered c = record c { event = record (c.event) { entered = c.event.entered + 1 } }
 
--- a group is entered, with so many entries inside one another that may still come
+-- a group is entered, with at most this depth of groups in it
 abbrev pub core_enter : ℕ → CoreKeyboard → KeyPress → ℕ → CoreEvent → CoreEvent
 core_enter zero kb press group c = end_output c
 core_enter (suc depth) kb press group c =
@@ -89,29 +90,25 @@ core_begin state =
       ended = state.ended;
     }
 
--- the stores that were noted are saved, each with the value that it then has
-abbrev pub core_save_all : CoreKeyboard → List ℕ → EventState → EventState
-core_save_all kb [] s = s
-core_save_all kb (store ∷ stores) s = core_save_all kb stores (save_current (option_number kb.stores (Numbered store)) s)
-
 abbrev pub is_between : ℕ → ℕ → ℕ → Bool
 is_between first last code = nat_le first code && nat_le code last
 
--- whether version 18 takes a passed key for one that changes the text or moves the caret
+-- whether version 18 expects that a passed key changes the text or moves the caret
 abbrev pub resets_context : KeyPress → Bool
 resets_context press =
     not (is_plain press) || is_between 0 15 press.code || nat_eq press.code 19 || is_between 21 31 press.code
     || is_between 33 44 press.code || is_between 46 47 press.code || is_between 112 135 press.code
 
--- the marks are lost if version 18 passes on such a key: the host then tells the text anew
-abbrev pub left_behind : CoreVersion → KeyPress → EventState → List Item
-left_behind version press s =
+-- the text before the caret after a press: version 18 removes the marks if it passes on such a key
+abbrev pub left_after : CoreVersion → KeyPress → EventState → List Item
+left_after version press s =
     if is_18 version && s.pass && resets_context press then map item.Char (characters s.left) else s.left
 
+-- the end of an event: the stores that were noted are saved
 abbrev pub core_end : CoreKeyboard → KeyPress → CoreEvent → CoreState
 core_end kb press c =
-    let s = core_save_all kb c.to_save c.event in
-    record { left = left_behind kb.version press s; current = s.current; saved = s.saved; last = c.last; ended = c.ended }
+    let s = core_save_all kb.stores c.to_save c.event in
+    record { left = left_after kb.version press s; current = s.current; saved = s.saved; last = c.last; ended = c.ended }
 
 -- what a press does up to its end: the start group is entered
 abbrev pub core_press : CoreKeyboard → KeyPress → CoreState → CoreEvent
@@ -139,12 +136,13 @@ shown passed rest state = (characters state.left, passed) ∷ rest state
 abbrev pub shown_end : CoreKeyboard → KeyPress → (CoreState → List (List ℕ × Bool)) → CoreEvent → List (List ℕ × Bool)
 shown_end kb press rest c = shown c.event.pass rest (core_end kb press c)
 
--- the text before the caret behind each press from a state on, and whether the press is passed on
+-- the text before the caret after each press from a state on, and whether the press is passed on
 abbrev pub core_texts_from : CoreKeyboard → List KeyPress → CoreState → List (List ℕ × Bool)
 core_texts_from kb [] state = []
 core_texts_from kb (press ∷ presses) state = shown_end kb press (core_texts_from kb presses) (core_press kb press state)
 
--- the texts that presses type behind some first characters, given whether the engine begins with output ended
+-- the text before the caret after each press, from a first text on, and whether the press is passed on; given whether the flag
+-- that output has ended is set at first
 unfoldable pub core_texts : CoreVersion → Tables → Bool → List ℕ → List KeyPress → List (List ℕ × Bool)
 core_texts version tables ended text presses =
     core_texts_from (core_keyboard version tables) presses (core_first (core_keyboard version tables).stores ended text)

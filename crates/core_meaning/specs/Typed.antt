@@ -63,7 +63,7 @@ press code = held 0 code
 abbrev pub keys : List ℕ → List KeyPress
 keys letters = map press letters
 
--- the text behind the last press
+-- the text after the last press, or a first text if there is none
 abbrev pub last_text : List ℕ → List (List ℕ × Bool) → List ℕ
 last_text text [] = text
 last_text text (shown ∷ others) = last_text shown.0 others

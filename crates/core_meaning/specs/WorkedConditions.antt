@@ -8,7 +8,7 @@ use Rattle.rule_model.specs.declared.system.TheConstants.{LAYER, PLATFORM}
 use Rattle.rule_model.specs.WorkedTraces.{value}
 use Rattle.core_meaning.specs.Typed.{file, with_keys, without_keys, on_char, without_key, reads, puts, keys, BothType}
 
--- + 'a' > layer('caps'); if(&layer = 'caps') + 'b' > 'B'
+-- + 'a' > `layer('caps')`; `if(&layer = 'caps')` + 'b' > 'B'
 abbrev pub layer_set_and_asked_rules : Tables
 layer_set_and_asked_rules = file (value (codes "caps") ∷ value (codes "caps") ∷ [])
     (with_keys [] []
@@ -16,7 +16,7 @@ layer_set_and_asked_rules = file (value (codes "caps") ∷ value (codes "caps") 
     ∷ on_char [] (byte "a") (output.SetSystem LAYER 0 ∷ []) ∷ [])
     ∷ [])
 
--- if(&layer != 'caps') + 'a' > 'x'
+-- `if(&layer != 'caps')` + 'a' > 'x'
 abbrev pub layer_unequal_rules : Tables
 layer_unequal_rules = file (value (codes "caps") ∷ [])
     (with_keys [] []
@@ -83,7 +83,7 @@ platform_only_blank_rules = file (value (codes " ") ∷ [])
     (on_char (pattern.SystemEqual PLATFORM 0 ∷ []) (byte "a") (puts (codes "x")) ∷ [])
     ∷ [])
 
--- the texts behind the presses, and which presses were passed on
+-- the texts after the presses, and which presses were passed on
 pub record AreWorkedConditions : Type 0 where
   -- no store has the layer, so a condition on it never holds, and setting it does nothing
   pub layer_set_and_asked : BothType layer_set_and_asked_rules (keys (codes "BAB"))
@@ -94,7 +94,7 @@ pub record AreWorkedConditions : Type 0 where
   -- nor for the layer that is shown at first
   pub layer_default : BothType layer_default_rules (keys (codes "A"))
       (codes "a") (codes "0")
-  -- behind an output that sets the layer nothing else changes
+  -- an output that sets the layer does nothing else with it
   pub layer_only_set : BothType layer_only_set_rules (keys (codes "AA"))
       (codes "xx") (codes "00")
   -- nor does it in a nomatch output
@@ -112,6 +112,6 @@ pub record AreWorkedConditions : Type 0 where
   -- several blanks between two words are one
   pub platform_blanks_between : BothType platform_blanks_between_rules (keys (codes "A"))
       (codes "x") (codes "0")
-  -- a blank alone makes empty words
+  -- a value of one blank has two empty words
   pub platform_only_blank : BothType platform_only_blank_rules (keys (codes "A"))
       (codes "a") (codes "0")

@@ -100,12 +100,12 @@ unreached_group_rules = file []
     (without_key (reads (codes "p")) (puts (codes "q")) ∷ [])
     ∷ [])
 
--- the texts behind the presses, and which presses were passed on
+-- the texts after the presses, and which presses were passed on
 pub record AreWorkedContexts : Type 0 where
-  -- a nul behind a condition never holds
+  -- a nul after a condition never holds
   pub nul_behind_if : BothType nul_behind_if_rules (keys (codes "CC"))
       (codes "cc") (codes "00")
-  -- a nul in front of it does
+  -- a nul before the condition can hold
   pub nul_before_if : BothType nul_before_if_rules (keys (codes "CC"))
       (codes "dc") (codes "00")
   -- context(k) of a context counts no condition, and holds if it comes before its item
@@ -127,10 +127,10 @@ pub record AreWorkedContexts : Type 0 where
   -- an output that begins with context deletes nothing
   pub context_behind_nul : BothType context_behind_nul_rules (keys (codes "AB"))
       (codes "ax") (codes "00")
-  -- a record without keys and with an empty context is passed over
+  -- in a group without keys, a record with an empty context is passed over
   pub empty_context : BothType empty_context_rules (keys (codes "A"))
       (codes "x") (codes "0")
-  -- and so its group does not do its match output
+  -- and its group does not do its match output
   pub empty_context_with_match : BothType empty_context_with_match_rules (keys (codes "A"))
       (codes "x") (codes "0")
   -- a group that no output uses does nothing

@@ -128,7 +128,7 @@ nomatch_without_keys_rules = file []
     (without_key (reads (codes "q")) (puts (codes "r")) ∷ [])
     ∷ [])
 
--- the texts behind the presses, and which presses were passed on
+-- the texts after the presses, and which presses were passed on
 pub record AreWorkedKeys : Type 0 where
   -- control with a side of control, and alt with a side of alt, fit nothing
   pub ctrl_and_its_side : BothType ctrl_and_its_side_rules (held 0x1 65 ∷ held 0x8 66 ∷ [])
@@ -142,7 +142,7 @@ pub record AreWorkedKeys : Type 0 where
   -- named sides fit exactly these sides
   pub sides_named : BothType sides_named_rules (held 0x5 65 ∷ held 0xA 65 ∷ held 0x6 65 ∷ [])
       (codes "xy") (codes "001")
-  -- the left control and the right alt fit the right alt alone, too
+  -- the left control and the right alt also fit if only the right alt is held
   pub altgr : BothType altgr_rules (held 0x8 65 ∷ held 0x9 65 ∷ [])
       (codes "xx") (codes "00")
   -- with shift they do not
@@ -160,7 +160,7 @@ pub record AreWorkedKeys : Type 0 where
   -- both sides of alt fit no rule
   pub one_side_held_twice : BothType one_side_held_twice_rules (held 0xC 65 ∷ held 0x8 65 ∷ [])
       (codes "x") (codes "10")
-  -- a key of the keypad gives no character
+  -- a key of the keypad produces no character
   pub keypad_rule : BothType keypad_rule_rules (press 53 ∷ press 101 ∷ press 107 ∷ [])
       (codes "x") (codes "011")
   -- a rule can name a key of the keypad

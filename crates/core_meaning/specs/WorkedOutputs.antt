@@ -159,33 +159,33 @@ save_of_another_rules = file (named (codes "o") (codes "0") ∷ named (codes "p"
     ∷ on_char [] (byte "r") (output.Reset 0 ∷ []) ∷ [])
     ∷ [])
 
--- the texts behind the presses, and which presses were passed on
+-- the texts after the presses, and which presses were passed on
 pub record AreWorkedOutputs : Type 0 where
-  -- a return of an earlier press ends each output behind a use
+  -- a return of an earlier press ends each output after a use
   pub item_behind_use : BothType item_behind_use_rules (keys (codes "ARA"))
       (codes "x") (codes "000")
-  -- nothing is lost if only nul stands there
+  -- nothing is lost if only a nul follows
   pub nul_behind_use : BothType nul_behind_use_rules (keys (codes "ARA"))
       (codes "yy") (codes "000")
-  -- nor if only return does
+  -- nor if only a return follows
   pub return_behind_use : BothType return_behind_use_rules (keys (codes "ARA"))
       (codes "yy") (codes "000")
-  -- nothing is done behind a return
+  -- nothing is done after a return
   pub item_behind_return : BothType item_behind_return_rules (keys (codes "AA"))
       [] (codes "00")
   -- an output can use two groups while no return was done
   pub two_uses : BothType two_uses_rules (keys (codes "A"))
       (codes "z") (codes "0")
-  -- the match output is not done behind an output that used a group
+  -- the match output is not done after an output that used a group
   pub match_behind_use : BothType match_behind_use_rules (keys (codes "A"))
       (codes "y") (codes "0")
-  -- which is not seen if it only has nul
+  -- this makes no difference if it only has a nul
   pub match_nul_behind_use : BothType match_nul_behind_use_rules (keys (codes "A"))
       (codes "y") (codes "0")
-  -- or only returns
+  -- or only a return
   pub match_return_behind_use : BothType match_return_behind_use_rules (keys (codes "A"))
       (codes "y") (codes "0")
-  -- a match output ends behind its use, too, once a return was done
+  -- a return of an earlier press also ends a match output after its use
   pub match_with_use_and_item : BothType match_with_use_and_item_rules (keys (codes "ARA"))
       (codes "ymy") (codes "000")
   -- a match output can use a group
@@ -194,10 +194,10 @@ pub record AreWorkedOutputs : Type 0 where
   -- save takes the value at the end of the event
   pub save_then_set : BothType save_then_set_rules (keys (codes "SRA"))
       (codes "a") (codes "000")
-  -- also where reset follows
+  -- also if a reset follows
   pub save_then_reset : BothType save_then_reset_rules (keys (codes "SA"))
       (codes "a") (codes "00")
-  -- a saved value comes back with reset
+  -- reset takes the saved value
   pub save_alone : BothType save_alone_rules (keys (codes "STRA"))
       (codes "x") (codes "0000")
   -- a used group can change what is saved

@@ -104,7 +104,7 @@ over_1024_items_rules = file (named (codes "v") (replicate 600 (byte "x")) ∷ [
     ∷ without_keys [] (replicate 600 (output.Char 120)) []
     ∷ [])
 
--- the texts behind the presses, and which presses were passed on
+-- the texts after the presses, and which presses were passed on
 pub record AreWorkedWindows : Type 0 where
   -- 21 marks have 63 units, which a context can ask for
   pub sixty_two_marks_units : BothType sixty_two_marks_units_rules (replicate 21 (press 68) ++ keys (codes "X"))
@@ -118,28 +118,28 @@ pub record AreWorkedWindows : Type 0 where
   -- 32 characters past U+FFFF have 64 units, and a context with them never holds
   pub emoji_thirty_two : BothType emoji_thirty_two_rules (replicate 32 (press 69) ++ keys (codes "X"))
       (replicate 32 0x1F600 ++ codes "x") (replicate 33 48)
-  -- a nul looks for the start of the window, in which only 31 of 33 such characters stand
+  -- a nul means the start of the window, which has only 31 of 33 such characters
   pub nul_with_thirty_one_emoji : BothType nul_with_thirty_one_emoji_rules (replicate 33 (press 69) ++ keys (codes "X"))
       (0x1F600 ∷ 0x1F600 ∷ codes "y") (replicate 34 48)
-  -- the window does not grow again in the event: of 63 characters 23 are left
+  -- the window does not grow again in the event: 23 of its 63 characters are left
   pub window_spent_before_use : BothType window_spent_before_use_rules (replicate 75 (press 65) ++ keys (codes "B"))
       (replicate 35 97 ++ codes "n") (replicate 76 48)
-  -- 4 characters are left of it, so a nul before two does not hold
+  -- 4 characters are left in it, so a nul before two does not hold
   pub nul_behind_window_just_enough : BothType nul_behind_window_just_enough_rules (replicate 65 (press 65) ++ keys (codes "B"))
       (codes "aaaaaan") (replicate 66 48)
-  -- 3 are left of it, so a nul before three does, though more stand in the text
+  -- 3 are left in it, so a nul before three holds, though the text has more
   pub nul_behind_spent_window : BothType nul_behind_spent_window_rules (replicate 65 (press 65) ++ keys (codes "B"))
       (codes "aaY") (replicate 66 48)
-  -- K_BKSP takes marks alone and is passed on
+  -- if there are only marks, K_BKSP deletes them and is passed on
   pub backspace_on_a_mark : BothType backspace_on_a_mark_rules (keys (codes "Q") ++ (press 8 ∷ keys (codes "A")))
       (codes "a") (codes "010")
-  -- a passed key takes the marks in version 18
+  -- a passed key removes the marks in version 18
   pub passed_key_on_a_mark : EachTypes passed_key_on_a_mark_rules (keys (codes "Q") ++ (press 116 ∷ keys (codes "A")))
       (codes "zx") (codes "010")
       (codes "za") (codes "010")
   -- 21 of 22 marks are in the window, and no character, so K_BKSP is passed on
   pub twenty_two_marks_deleted : BothType twenty_two_marks_deleted_rules (keys (codes "ZQ") ++ (press 8 ∷ []))
       (codes "z") (codes "001")
-  -- what comes behind 1,024 effects of an event is lost
+  -- what follows 1,024 effects of an event is lost
   pub over_1024_items : BothType over_1024_items_rules (keys (codes "AB"))
       (replicate 1024 120 ++ codes "b") (codes "00")
