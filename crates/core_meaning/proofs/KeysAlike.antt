@@ -3,11 +3,10 @@ use Rattle.std.specs.Prelude.{◌≡◌, ℕ, Bool, true, false, not, ◌&&◌, 
 use Rattle.std.proofs.Common.{refl, sym, ap, ◌∙◌, arith}
 use Rattle.std.specs.Bool.{beq}
 use Rattle.std.specs.Option.{option_map_or}
-use Rattle.kmn_base.specs.declared.keys.KeyPress.{KeyPress}
 use Rattle.kmn_base.specs.declared.keys.RuleKey.TheVariants.{Any, Char, Virtual}
 use Rattle.virtual_keys.specs.Fits.{left_control, right_control, left_alt, right_alt, shift, either_control, either_alt, has, has_either, caps_fit, sides_fit, flags_fit, char_of_press, key_fits}
-use Rattle.core_meaning.specs.Keys.{is_keypad, core_char, has_both_sides, has_side, names_either, eithers_fit, same_sides, names_alt_gr, right_alt_alone, sides_named_fit, core_flags_fit, core_key_fits}
-use Rattle.core_meaning.specs.Laws.{TwiceNamedFitNothing, BothSidesHeldFitNothing, IsCommonPress, AreCommonFlags, IsCommonKey, CommonKeysFitAlike}
+use Rattle.core_meaning.specs.Keys.{has_both_sides, has_side, names_either, eithers_fit, names_alt_gr, right_alt_alone, sides_named_fit, core_flags_fit}
+use Rattle.core_meaning.specs.Laws.{TwiceNamedFitNothing, BothSidesHeldFitNothing, AreCommonFlags, CommonKeysFitAlike}
 
 -- if neither of two is true, each is false
 left_false : (a b : Bool) → (a || b) ≡ false → a ≡ false
@@ -140,10 +139,13 @@ twice_named_fit_nothing flags code press twice =
   where
     parts : (names_either flags ≡ true) × (has_side flags ≡ true)
     parts = both_true (names_either flags) (has_side flags) twice
+
     same_shift : Bool
     same_shift = beq (has flags shift) (has press.mods shift)
+
     control : Bool
     control = beq (has flags either_control) (has_either press.mods left_control right_control)
+
     alt : Bool
     alt = beq (has flags either_alt) (has_either press.mods left_alt right_alt)
 

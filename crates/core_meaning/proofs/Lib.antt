@@ -1,3 +1,7 @@
+pub mod ConditionsAlike
+pub mod ContextsAlike
+pub mod FirstTaken
+pub mod HoldsAlike
 pub mod KeysAlike
 pub mod Windows
 pub mod WorkedConditions

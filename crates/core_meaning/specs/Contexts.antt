@@ -13,7 +13,7 @@ use Rattle.rule_model.specs.declared.tables.Rule.{Rule}
 use Rattle.rule_model.specs.declared.tables.Group.{Group}
 use Rattle.rule_model.specs.declared.tables.Store.{Store}
 use Rattle.rule_model.specs.declared.system.TheConstants.{PLATFORM}
-use Rattle.rule_model.specs.Keyboard.{Ref, Numbered}
+use Rattle.rule_model.specs.Keyboard.{Numbered}
 use Rattle.rule_model.specs.Match.{Content, is_item, is_element, same_item, same_value, place_of}
 use Rattle.rule_model.specs.Content.{content}
 use Rattle.rule_model.specs.Patterns.{is_condition, is_nul}
@@ -146,8 +146,12 @@ core_takes group press rule = if group.using_keys then core_key_fits rule.key pr
 abbrev pub Taken : Type 0
 Taken = Option Rule × List ℕ
 
+abbrev pub take_with : Rule → List ℕ → Taken
+take_with rule places = (Some rule, places)
+
+-- a record is taken if its context holds and it can be taken, or else the others are tried
 abbrev pub take_or_try : Rule → Bool → (List ℕ → Taken) → Tried → Taken
-take_or_try rule takes others tried = (if tried.0 && takes then (λ places. (Some rule, places)) else others) tried.1
+take_or_try rule takes others tried = (if tried.0 && takes then take_with rule else others) tried.1
 
 -- the first record of a list that holds and is taken, given the places found before any of them is tried
 abbrev pub core_choose : (Rule → Tried) → (Rule → Bool) → List Rule → List ℕ → Taken

@@ -1,5 +1,5 @@
 -- What Keyman's own engine (Keyman Core) keeps between two events, and what an event changes.
-use Rattle.std.specs.Prelude.{ℕ, ◌+◌, ◌-◌, Bool, true, false, nat_le, nat_lt, if◌then◌else◌, List, [], ◌∷◌, ◌++◌, Option, None, Some, length, drop}
+use Rattle.std.specs.Prelude.{ℕ, ◌+◌, ◌-◌, Bool, true, false, nat_le, nat_lt, if◌then◌else◌, List, [], ◌∷◌, ◌++◌, Option, length, drop}
 use Rattle.std.specs.Fn.{iterate}
 use Rattle.std.specs.List.{suffix_len}
 use Rattle.kmn_base.specs.Lists.{is_mark, without_last}
@@ -8,7 +8,7 @@ use Rattle.kmn_base.specs.declared.items.Item.TheVariants.{Char, Mark}
 use Rattle.kmn_base.specs.declared.items.Element.{Element}
 use Rattle.rule_model.specs.declared.event_state.EventState.{EventState}
 use Rattle.rule_model.specs.declared.tables.Tables.{Tables}
-use Rattle.rule_model.specs.Keyboard.{StoreMeaning, Keyboard}
+use Rattle.rule_model.specs.Keyboard.{StoreMeaning}
 use Rattle.rule_model.specs.Tab.{tab}
 
 -- the versions of the engine that were measured: 16.0.138 and 18.0.235

@@ -1,3 +1,4 @@
+pub mod ContextLaws
 pub mod Contexts
 pub mod Events
 pub mod Keys

@@ -1,7 +1,5 @@
 -- What the items of an output do in Keyman's own engine.
-use Rattle.std.specs.Prelude.{ℕ, ◌+◌, ◌-◌, Bool, true, false, not, ◌&&◌, nat_eq, nat_le, if◌then◌else◌, List, [], ◌∷◌, ◌++◌, length, count_by, slice_get, filter_map, Option, Some, None}
-use Rattle.std.specs.Option.{option_map_or}
-use Rattle.kmn_base.specs.declared.items.Item.{Item}
+use Rattle.std.specs.Prelude.{ℕ, ◌+◌, ◌-◌, Bool, true, false, not, ◌&&◌, nat_le, if◌then◌else◌, List, [], ◌∷◌, count_by, slice_get, filter_map, Option, Some, None}
 use Rattle.kmn_base.specs.declared.items.Item.TheVariants as item
 use Rattle.kmn_base.specs.declared.items.Element.{Element}
 use Rattle.rule_model.specs.declared.event_state.EventState.{EventState}
@@ -9,14 +7,12 @@ use Rattle.rule_model.specs.declared.tables.Pat.{Pat}
 use Rattle.rule_model.specs.declared.tables.Out.{Out}
 use Rattle.rule_model.specs.declared.tables.Out.TheVariants as output
 use Rattle.rule_model.specs.declared.tables.Rule.{Rule}
-use Rattle.rule_model.specs.declared.tables.Store.{Store}
 use Rattle.rule_model.specs.Keyboard.{Numbered}
 use Rattle.rule_model.specs.Patterns.{is_condition}
-use Rattle.rule_model.specs.Content.{option_number, elements_at}
+use Rattle.rule_model.specs.Content.{option_number}
 use Rattle.rule_model.specs.Match.{item_of}
-use Rattle.rule_model.specs.Act.{one_more, item_list, set_current, save_current, reset_current}
-use Rattle.rule_model.specs.Tab.{elements_of}
-use Rattle.core_meaning.specs.Events.{CoreVersion, is_18, CoreKeyboard, CoreEvent, LastMatch, last_items, core_queue, core_put, core_put_all, core_back}
+use Rattle.rule_model.specs.Act.{one_more, item_list, set_current}
+use Rattle.core_meaning.specs.Events.{CoreVersion, is_18, CoreKeyboard, CoreEvent, last_items, core_queue, core_put, core_put_all, core_back}
 use Rattle.core_meaning.specs.Options.{note_save, core_reset}
 use Rattle.core_meaning.specs.Contexts.{core_content, place_found, begins_with_nul, compared_count}
 

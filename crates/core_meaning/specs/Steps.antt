@@ -1,8 +1,7 @@
 -- What a key press does in Keyman's own engine, and the texts that presses type.
-use Rattle.std.specs.Prelude.{ℕ, zero, suc, ◌+◌, Bool, true, false, not, ◌&&◌, ◌||◌, nat_eq, nat_le, if◌then◌else◌, List, [], ◌∷◌, length, map, slice_get, is_some, Option, Some, None}
+use Rattle.std.specs.Prelude.{ℕ, zero, suc, ◌+◌, Bool, true, not, ◌&&◌, ◌||◌, nat_eq, nat_le, if◌then◌else◌, List, [], ◌∷◌, length, map, slice_get, is_some, Option, Some, None}
 use Rattle.kmn_base.specs.declared.items.Item.{Item}
 use Rattle.kmn_base.specs.declared.items.Item.TheVariants as item
-use Rattle.kmn_base.specs.declared.items.Element.{Element}
 use Rattle.kmn_base.specs.declared.keys.KeyPress.{KeyPress}
 use Rattle.kmn_base.specs.Lists.{characters}
 use Rattle.virtual_keys.specs.declared.codes.TheConstants.{K_BKSP}
@@ -11,12 +10,10 @@ use Rattle.rule_model.specs.declared.event_state.EventState.{EventState}
 use Rattle.rule_model.specs.declared.tables.Group.{Group}
 use Rattle.rule_model.specs.declared.tables.Rule.{Rule}
 use Rattle.rule_model.specs.declared.tables.Tables.{Tables}
-use Rattle.rule_model.specs.Keyboard.{StoreMeaning, Numbered}
-use Rattle.rule_model.specs.Content.{option_number}
-use Rattle.rule_model.specs.Act.{save_current}
+use Rattle.rule_model.specs.Keyboard.{StoreMeaning}
 use Rattle.rule_model.specs.KeyEvent.{begin_event}
 use Rattle.rule_model.specs.Trace.{options_of, none_saved}
-use Rattle.core_meaning.specs.Events.{CoreVersion, is_18, CoreKeyboard, core_keyboard, LastMatch, CoreState, CoreEvent, window_of, core_put, core_back, core_back_marks}
+use Rattle.core_meaning.specs.Events.{CoreVersion, is_18, CoreKeyboard, core_keyboard, CoreState, CoreEvent, window_of, core_put, core_back, core_back_marks}
 use Rattle.core_meaning.specs.Keys.{core_char}
 use Rattle.core_meaning.specs.Options.{core_save_all}
 use Rattle.core_meaning.specs.Contexts.{core_content, core_holds, core_takes, Taken, core_choose}

@@ -3,7 +3,6 @@ use Rattle.std.specs.Prelude.{[], ◌∷◌, ◌++◌, codes}
 use Rattle.std.specs.Str.{byte}
 use Rattle.rule_model.specs.declared.tables.Tables.{Tables}
 use Rattle.rule_model.specs.declared.tables.Out.TheVariants as output
-use Rattle.rule_model.specs.WorkedTraces.{named}
 use Rattle.core_meaning.specs.Typed.{file, with_keys, without_keys, on_char, on_key, without_key, reads, puts, dictionary, press, held, keys, BothType}
 
 -- + [CTRL LCTRL K_A] > 'x'; + [ALT RALT K_B] > 'y'

@@ -5,7 +5,7 @@ use Rattle.rule_model.specs.declared.tables.Tables.{Tables}
 use Rattle.rule_model.specs.declared.tables.Pat.TheVariants as pattern
 use Rattle.rule_model.specs.declared.tables.Out.TheVariants as output
 use Rattle.rule_model.specs.WorkedTraces.{value, named}
-use Rattle.core_meaning.specs.Typed.{file, with_keys, without_keys, on_char, without_key, reads, puts, press, keys, BothType}
+use Rattle.core_meaning.specs.Typed.{file, with_keys, without_keys, on_char, without_key, reads, puts, keys, BothType}
 
 -- + 'r' > return; + 'a' > use(t) 'x'; group(t); 'q' > 'r'
 abbrev pub item_behind_use_rules : Tables

@@ -1,5 +1,6 @@
 //! Laws of the definitions in `specs/`, each the contract of a function with an empty body.
 
+ghost use Rattle.core_meaning.specs.ContextLaws.{ConditionsAreAlike, ContextsHoldAlike, ContextsMatchAlike, FirstIsTaken};
 ghost use Rattle.core_meaning.specs.Laws.{BothSidesHeldFitNothing, CommonKeysFitAlike, ShortEndsAreSeen, TwiceNamedFitNothing, WindowIsLongestEnd, WindowOfPut};
 ghost use Rattle.core_meaning.specs.WorkedConditions.{AreWorkedConditions};
 ghost use Rattle.core_meaning.specs.WorkedContexts.{AreWorkedContexts};
@@ -22,6 +23,20 @@ pub fn common_keys_fit_alike()
     ensures alike { CommonKeysFitAlike }
     ensures twice_named { TwiceNamedFitNothing }
     ensures both_held { BothSidesHeldFitNothing }
+{}
+
+/// States which contexts hold as in this product, in a window that is long enough, and that they find the same places.
+#[tactic(auto, using(crate::proofs::ConditionsAlike::conditions_are_alike, crate::proofs::HoldsAlike::contexts_hold_alike))]
+pub fn contexts_hold_alike()
+    ensures matches { ContextsMatchAlike }
+    ensures conditions { ConditionsAreAlike }
+    ensures holds { ContextsHoldAlike }
+{}
+
+/// States that the engine uses the first record that holds and that it can take.
+#[tactic(auto, using(crate::proofs::FirstTaken::first_is_taken))]
+pub fn first_is_taken()
+    ensures { FirstIsTaken }
 {}
 
 /// States what the engine typed of ten keyboards with conditions on the layer and the platform.
