@@ -13,7 +13,8 @@ use Rattle.kmx_format.specs.TablesOf.{word_at}
 use Rattle.kmx_view.specs.View.{store_count, group_count}
 use Rattle.core_export.specs.Checksum.{checksum}
 use Rattle.core_export.specs.Words.{with_word}
-use Rattle.core_export.specs.Export.{pointed, pointed_stores, pointed_records, pointed_groups, played_version, are_contents_pointed, are_contexts_pointed, are_groups_pointed, replaced}
+use Rattle.core_export.specs.Readable.{is_pointed, is_record_pointed, are_contents_pointed, are_records_pointed, are_groups_pointed}
+use Rattle.core_export.specs.Export.{pointed, pointed_stores, pointed_record, pointed_records, pointed_groups, played_version, replaced}
 use Rattle.core_export.specs.ExportLaws.{ExportedFilesStay}
 use Rattle.core_export.proofs.Replaced.{is_replaced, overwritten}
 use Rattle.core_export.proofs.Made.{has_header}
@@ -39,7 +40,7 @@ word_again bytes place h within =
 -- ---- if no offset 0 is left, no offset is replaced
 
 module _ (bytes : List ℕ) (unit : ℕ) where
-  point_stays : (place : ℕ) (out : List ℕ) → not (nat_eq (word_at bytes place) 0) ≡ true → pointed bytes unit place out ≡ out
+  point_stays : (place : ℕ) (out : List ℕ) → is_pointed bytes place ≡ true → pointed bytes unit place out ≡ out
   point_stays place out h = by_test (nat_eq (word_at bytes place) 0) h
     where
       by_test : (b : Bool) → not b ≡ true → (if b then with_word place unit out else out) ≡ out
@@ -49,19 +50,24 @@ module _ (bytes : List ℕ) (unit : ℕ) where
   stores_stay : (place count : ℕ) (out : List ℕ) → are_contents_pointed bytes place count ≡ true → pointed_stores bytes unit place count out ≡ out
   stores_stay place zero out h = refl
   stores_stay place (suc count) out h =
-      let parts = and_parts (not (nat_eq (word_at bytes (place + 8)) 0)) (are_contents_pointed bytes (place + 12) count) h in
+      let parts = and_parts (is_pointed bytes (place + 8)) (are_contents_pointed bytes (place + 12) count) h in
       stores_stay (place + 12) count (pointed bytes unit (place + 8) out) parts.1 ∙ point_stays (place + 8) out parts.0
 
-  records_stay : (place count : ℕ) (out : List ℕ) → are_contexts_pointed bytes place count ≡ true → pointed_records bytes unit place count out ≡ out
+  record_stays : (place : ℕ) (out : List ℕ) → is_record_pointed bytes place ≡ true → pointed_record bytes unit place out ≡ out
+  record_stays place out h =
+      let parts = and_parts (is_pointed bytes (place + 12)) (is_pointed bytes (place + 16)) h in
+      point_stays (place + 16) (pointed bytes unit (place + 12) out) parts.1 ∙ point_stays (place + 12) out parts.0
+
+  records_stay : (place count : ℕ) (out : List ℕ) → are_records_pointed bytes place count ≡ true → pointed_records bytes unit place count out ≡ out
   records_stay place zero out h = refl
   records_stay place (suc count) out h =
-      let parts = and_parts (not (nat_eq (word_at bytes (place + 16)) 0)) (are_contexts_pointed bytes (place + 20) count) h in
-      records_stay (place + 20) count (pointed bytes unit (place + 16) out) parts.1 ∙ point_stays (place + 16) out parts.0
+      let parts = and_parts (is_record_pointed bytes place) (are_records_pointed bytes (place + 20) count) h in
+      records_stay (place + 20) count (pointed_record bytes unit place out) parts.1 ∙ record_stays place out parts.0
 
   groups_stay : (place count : ℕ) (out : List ℕ) → are_groups_pointed bytes place count ≡ true → pointed_groups bytes unit place count out ≡ out
   groups_stay place zero out h = refl
   groups_stay place (suc count) out h =
-      let parts = and_parts (are_contexts_pointed bytes (word_at bytes (place + 4)) (word_at bytes (place + 16))) (are_groups_pointed bytes (place + 24) count) h in
+      let parts = and_parts (are_records_pointed bytes (word_at bytes (place + 4)) (word_at bytes (place + 16))) (are_groups_pointed bytes (place + 24) count) h in
       groups_stay (place + 24) count (pointed_records bytes unit (word_at bytes (place + 4)) (word_at bytes (place + 16)) out) parts.1
       ∙ records_stay (word_at bytes (place + 4)) (word_at bytes (place + 16)) out parts.0
 
@@ -74,7 +80,7 @@ exported_files_stay bytes out unit small export =
     let long : 64 ≤ length out = has_header out export.same.valid in
     let version : ℕ = played_version (word_at out VERSION_AT) in
     let one : pointed_stores out unit (word_at out STORES_AT) (store_count out) out ≡ out = stores_stay out unit (word_at out STORES_AT) (store_count out) out export.same.contents in
-    let two : pointed_groups out unit (word_at out GROUPS_AT) (group_count out) out ≡ out = groups_stay out unit (word_at out GROUPS_AT) (group_count out) out export.same.contexts in
+    let two : pointed_groups out unit (word_at out GROUPS_AT) (group_count out) out ≡ out = groups_stay out unit (word_at out GROUPS_AT) (group_count out) out export.same.records in
     let three : with_word VERSION_AT version out ≡ out =
     ap (λ v. with_word VERSION_AT v out) (played_twice (word_at bytes VERSION_AT) (word_at out VERSION_AT) export.version) ∙ word_again out VERSION_AT small (omega (arith, long)) in
     let all : with_word VERSION_AT version (pointed_groups out unit (word_at out GROUPS_AT) (group_count out) (pointed_stores out unit (word_at out STORES_AT) (store_count out) out)) ≡ out =

@@ -3,13 +3,13 @@ use Rattle.std.proofs.Common.{◌≡◌, ℕ, zero, suc, ◌+◌, ◌*◌, ◌<�
 use Rattle.std.specs.Prelude.{slice_get, nat_lt, nat_eq, if◌then◌else◌}
 use Rattle.std.proofs.lemmas.Bool.{cases_Bool, eqb-true}
 use Rattle.std.proofs.lemmas.Bool.Decides.{nat_tests}
-use Rattle.kmx_format.specs.declared.places.TheConstants.{CHECKSUM_AT, GROUPS_AT, STORES_AT, VERSION_AT}
+use Rattle.kmx_format.specs.declared.places.TheConstants.{CHECKSUM_AT, GROUPS_AT, RULE_CONTEXT_AT, RULE_OUTPUT_AT, STORES_AT, VERSION_AT}
 use Rattle.kmx_format.specs.declared.sizes.TheConstants.{STORE_BYTES, GROUP_BYTES, RULE_BYTES}
 use Rattle.kmx_format.specs.TablesOf.{word_at}
 use Rattle.kmx_view.specs.View.{store_count, group_count}
 use Rattle.core_export.specs.Checksum.{checksum}
 use Rattle.core_export.specs.Words.{with_word}
-use Rattle.core_export.specs.Export.{pointed, pointed_stores, pointed_records, pointed_groups, played_version, summed, replaced, exported, IsInWord, IsInZero, IsInContents, IsInContexts, IsInGroups, InChecksum, InVersion, InContent, InContext, OnlyReplaced}
+use Rattle.core_export.specs.Export.{pointed, pointed_stores, pointed_record, pointed_records, pointed_groups, played_version, summed, replaced, exported, IsInWord, IsInZero, IsInContents, IsInRecords, IsInGroups, InChecksum, InVersion, InContent, InOutput, InContext, OnlyReplaced}
 use Rattle.core_export.proofs.Replaced.{length-with_word, before_same, behind_same}
 
 -- ---- the number of bytes
@@ -26,9 +26,12 @@ module _ (bytes : List ℕ) (unit : ℕ) where
   stores_size place zero out = refl
   stores_size place (suc count) out = stores_size (place + STORE_BYTES) count (pointed bytes unit (place + 8) out) ∙ pointed_size (place + 8) out
 
+  record_size : (place : ℕ) (out : List ℕ) → length (pointed_record bytes unit place out) ≡ length out
+  record_size place out = pointed_size (place + 16) (pointed bytes unit (place + 12) out) ∙ pointed_size (place + 12) out
+
   records_size : (place count : ℕ) (out : List ℕ) → length (pointed_records bytes unit place count out) ≡ length out
   records_size place zero out = refl
-  records_size place (suc count) out = records_size (place + RULE_BYTES) count (pointed bytes unit (place + 16) out) ∙ pointed_size (place + 16) out
+  records_size place (suc count) out = records_size (place + RULE_BYTES) count (pointed_record bytes unit place out) ∙ record_size place out
 
   groups_size : (place count : ℕ) (out : List ℕ) → length (pointed_groups bytes unit place count out) ≡ length out
   groups_size place zero out = refl
@@ -94,53 +97,61 @@ module _ (bytes : List ℕ) (unit at : ℕ) where
           let same : place + 12 + 12 * k + 8 ≡ place + 12 * suc k + 8 = omega arith in
           record { index = suc k; less = omega (arith, less); inside = subst (λ p. IsInZero bytes p at) same h.inside }
 
-  contexts_stay : (place count : ℕ) (out : List ℕ) → (IsInContexts bytes place count at → ⊥) → slice_get (pointed_records bytes unit place count out) at ≡ slice_get out at
-  contexts_stay place zero out other = refl
-  contexts_stay place (suc count) out other =
-      contexts_stay (place + RULE_BYTES) count (pointed bytes unit (place + 16) out) (λ h. other (later h)) ∙ zero_stays (place + 16) out (λ h. other (first h))
-    where
-      first : IsInZero bytes (place + 16) at → IsInContexts bytes place (suc count) at
-      first h = let same : place + 16 ≡ place + 20 * 0 + 16 = omega arith in record { index = 0; less = omega arith; inside = subst (λ p. IsInZero bytes p at) same h }
+  -- an offset 0 of the first of a number of key records, or of one of the others, is one of them all
+  in_first_record : (field place count : ℕ) → IsInZero bytes (place + field) at → IsInRecords bytes field place (suc count) at
+  in_first_record field place count h =
+      let same : place + field ≡ place + 20 * 0 + field = omega arith in record { index = 0; less = omega arith; inside = subst (λ p. IsInZero bytes p at) same h }
 
-      later : IsInContexts bytes (place + RULE_BYTES) count at → IsInContexts bytes place (suc count) at
-      later h =
-          let k = h.index in
-          let less = h.less in
-          let same : place + 20 + 20 * k + 16 ≡ place + 20 * suc k + 16 = omega arith in
-          record { index = suc k; less = omega (arith, less); inside = subst (λ p. IsInZero bytes p at) same h.inside }
+  in_other_records : (field place count : ℕ) → IsInRecords bytes field (place + RULE_BYTES) count at → IsInRecords bytes field place (suc count) at
+  in_other_records field place count h =
+      let k = h.index in
+      let less = h.less in
+      let same : place + 20 + 20 * k + field ≡ place + 20 * suc k + field = omega arith in
+      record { index = suc k; less = omega (arith, less); inside = subst (λ p. IsInZero bytes p at) same h.inside }
 
-  groups_stay : (place count : ℕ) (out : List ℕ) → (IsInGroups bytes place count at → ⊥) → slice_get (pointed_groups bytes unit place count out) at ≡ slice_get out at
-  groups_stay place zero out other = refl
-  groups_stay place (suc count) out other =
-      groups_stay (place + GROUP_BYTES) count (pointed_records bytes unit (word_at bytes (place + 4)) (word_at bytes (place + 16)) out) (λ h. other (later h))
-      ∙ contexts_stay (word_at bytes (place + 4)) (word_at bytes (place + 16)) out (λ h. other (first h))
-    where
-      first : IsInContexts bytes (word_at bytes (place + 4)) (word_at bytes (place + 16)) at → IsInGroups bytes place (suc count) at
-      first h =
-          let same : place ≡ place + 24 * 0 = omega arith in
-          record { index = 0; less = omega arith; inside = subst (λ p. IsInContexts bytes (word_at bytes (p + 4)) (word_at bytes (p + 16)) at) same h }
+  records_stay : (place count : ℕ) (out : List ℕ) → (IsInRecords bytes RULE_OUTPUT_AT place count at → ⊥) → (IsInRecords bytes RULE_CONTEXT_AT place count at → ⊥)
+      → slice_get (pointed_records bytes unit place count out) at ≡ slice_get out at
+  records_stay place zero out no_output no_context = refl
+  records_stay place (suc count) out no_output no_context =
+      records_stay (place + RULE_BYTES) count (pointed_record bytes unit place out) (λ h. no_output (in_other_records RULE_OUTPUT_AT place count h)) (λ h. no_context (in_other_records RULE_CONTEXT_AT place count h))
+      ∙ zero_stays (place + RULE_CONTEXT_AT) (pointed bytes unit (place + RULE_OUTPUT_AT) out) (λ h. no_context (in_first_record RULE_CONTEXT_AT place count h))
+      ∙ zero_stays (place + RULE_OUTPUT_AT) out (λ h. no_output (in_first_record RULE_OUTPUT_AT place count h))
 
-      later : IsInGroups bytes (place + GROUP_BYTES) count at → IsInGroups bytes place (suc count) at
-      later h =
-          let k = h.index in
-          let less = h.less in
-          let same : place + 24 + 24 * k ≡ place + 24 * suc k = omega arith in
-          record { index = suc k; less = omega (arith, less); inside = subst (λ p. IsInContexts bytes (word_at bytes (p + 4)) (word_at bytes (p + 16)) at) same h.inside }
+  -- an offset 0 of a key record of the first of a number of groups, or of one of the others, is one of them all
+  in_first_group : (field place count : ℕ) → IsInRecords bytes field (word_at bytes (place + 4)) (word_at bytes (place + 16)) at → IsInGroups bytes field place (suc count) at
+  in_first_group field place count h =
+      let same : place ≡ place + 24 * 0 = omega arith in
+      record { index = 0; less = omega arith; inside = subst (λ p. IsInRecords bytes field (word_at bytes (p + 4)) (word_at bytes (p + 16)) at) same h }
+
+  in_other_groups : (field place count : ℕ) → IsInGroups bytes field (place + GROUP_BYTES) count at → IsInGroups bytes field place (suc count) at
+  in_other_groups field place count h =
+      let k = h.index in
+      let less = h.less in
+      let same : place + 24 + 24 * k ≡ place + 24 * suc k = omega arith in
+      record { index = suc k; less = omega (arith, less); inside = subst (λ p. IsInRecords bytes field (word_at bytes (p + 4)) (word_at bytes (p + 16)) at) same h.inside }
+
+  groups_stay : (place count : ℕ) (out : List ℕ) → (IsInGroups bytes RULE_OUTPUT_AT place count at → ⊥) → (IsInGroups bytes RULE_CONTEXT_AT place count at → ⊥)
+      → slice_get (pointed_groups bytes unit place count out) at ≡ slice_get out at
+  groups_stay place zero out no_output no_context = refl
+  groups_stay place (suc count) out no_output no_context =
+      groups_stay (place + GROUP_BYTES) count (pointed_records bytes unit (word_at bytes (place + 4)) (word_at bytes (place + 16)) out)
+      (λ h. no_output (in_other_groups RULE_OUTPUT_AT place count h)) (λ h. no_context (in_other_groups RULE_CONTEXT_AT place count h))
+      ∙ records_stay (word_at bytes (place + 4)) (word_at bytes (place + 16)) out (λ h. no_output (in_first_group RULE_OUTPUT_AT place count h)) (λ h. no_context (in_first_group RULE_CONTEXT_AT place count h))
 
 pub only_replaced : (bytes : List ℕ) (unit : ℕ) → OnlyReplaced bytes (exported bytes unit)
 unfolding replaced
 only_replaced bytes unit =
     let contents : List ℕ = pointed_stores bytes unit (word_at bytes STORES_AT) (store_count bytes) bytes in
-    let contexts : List ℕ = pointed_groups bytes unit (word_at bytes GROUPS_AT) (group_count bytes) contents in
+    let pointed_all : List ℕ = pointed_groups bytes unit (word_at bytes GROUPS_AT) (group_count bytes) contents in
     let version : ℕ = played_version (word_at bytes VERSION_AT) in
-    let played : List ℕ = with_word VERSION_AT version contexts in
+    let played : List ℕ = with_word VERSION_AT version pointed_all in
     record {
-      size = summed_size played ∙ length-with_word VERSION_AT version contexts ∙ groups_size bytes unit (word_at bytes GROUPS_AT) (group_count bytes) contents
+      size = summed_size played ∙ length-with_word VERSION_AT version pointed_all ∙ groups_size bytes unit (word_at bytes GROUPS_AT) (group_count bytes) contents
           ∙ stores_size bytes unit (word_at bytes STORES_AT) (store_count bytes) bytes;
       rest = λ at other.
           word_stays CHECKSUM_AT (checksum (with_word CHECKSUM_AT 0 played)) at (with_word CHECKSUM_AT 0 played) (λ h. other (InChecksum h))
           ∙ word_stays CHECKSUM_AT 0 at played (λ h. other (InChecksum h))
-          ∙ word_stays VERSION_AT version at contexts (λ h. other (InVersion h))
-          ∙ groups_stay bytes unit at (word_at bytes GROUPS_AT) (group_count bytes) contents (λ h. other (InContext h))
+          ∙ word_stays VERSION_AT version at pointed_all (λ h. other (InVersion h))
+          ∙ groups_stay bytes unit at (word_at bytes GROUPS_AT) (group_count bytes) contents (λ h. other (InOutput h)) (λ h. other (InContext h))
           ∙ contents_stay bytes unit at (word_at bytes STORES_AT) (store_count bytes) bytes (λ h. other (InContent h));
     }

@@ -23,7 +23,7 @@ use Rattle.kmx_verifier.specs.declared.faults.Target.{Target}
 use Rattle.kmx_verifier.specs.Items.{target_of}
 use Rattle.kmx_verifier.specs.FaultOf.{broken, broken_by, walk_fault, context_fault, read_at, item_count, string_fault, context_string_fault, name_fault, too_many_elements, store_fault, elements_in, stores_fault, context_targets, flags_fault, record_fault, records_fault, records_place_fault, group_strings_fault, group_fault, groups_fault}
 use Rattle.kmx_verifier.proofs.Looking.{walk_same, context_same}
-use Rattle.core_export.specs.Export.{are_contents_pointed, are_contexts_pointed, are_groups_pointed}
+use Rattle.core_export.specs.Readable.{are_contents_pointed, are_records_pointed, are_groups_pointed}
 use Rattle.core_export.proofs.Outside.{later, Refilled, StoresKept, RecordsKept, GroupsKept}
 
 -- a string is the empty one of offset 0, or starts at or after a place
@@ -188,10 +188,10 @@ module _ (bytes fin : List ℕ) (unit high : ℕ) (sizes : length bytes ≡ leng
 
   pub records_same : (using_keys : Bool) (place count : ℕ) → RecordsKept bytes unit fin small place count → RecordsClear bytes high place count
       → (records_fault bytes using_keys place count ≡ records_fault fin using_keys place count) × (rules_from bytes using_keys place count ≡ rules_from fin using_keys place count)
-      × (are_contexts_pointed fin place count ≡ true)
+      × (are_records_pointed fin place count ≡ true)
   records_same using_keys place zero kept clear = (refl, refl, refl)
   records_same using_keys place (suc count) kept clear =
-      let output : StringKept (place + 12) = stays_kept (place + 12) kept.3 clear.0 in
+      let output : StringKept (place + 12) = refilled_kept (place + 12) kept.3 clear.0 in
       let context : StringKept (place + 16) = refilled_kept (place + 16) kept.4 clear.1 in
       let rest = records_same using_keys (place + 20) count kept.5 clear.2 in
       let fault : record_fault bytes using_keys place ≡ record_fault fin using_keys place =
@@ -210,7 +210,7 @@ module _ (bytes fin : List ℕ) (unit high : ℕ) (sizes : length bytes ≡ leng
       } in (
         ap₂ option_or fault rest.0,
         ap₂ (λ (r : Rule) (rs : List Rule). r ∷ rs) rule rest.1,
-        ap₂ (λ a b. a && b) (some (word_at fin (place + 16)) (refilled_some (place + 16) kept.4)) rest.2,
+        ap₂ (λ a b. a && b) (ap₂ (λ a b. a && b) (some (word_at fin (place + 12)) (refilled_some (place + 12) kept.3)) (some (word_at fin (place + 16)) (refilled_some (place + 16) kept.4))) rest.2,
       )
 
   pub groups_same : (before place count : ℕ) → GroupsKept bytes unit fin small place count → GroupsClear bytes high place count
@@ -248,5 +248,5 @@ module _ (bytes fin : List ℕ) (unit high : ℕ) (sizes : length bytes ≡ leng
       } in (
         ap₂ option_or fault (rest.0 ∙ ap (λ n. groups_fault fin (before + n) (place + 24) count) count_is),
         ap₂ (λ (g : Group) (gs : List Group). g ∷ gs) group rest.1,
-        ap₂ (λ a b. a && b) (ap₂ (are_contexts_pointed fin) kept.1 kept.4 ∙ records.2) rest.2,
+        ap₂ (λ a b. a && b) (ap₂ (are_records_pointed fin) kept.1 kept.4 ∙ records.2) rest.2,
       )

@@ -13,7 +13,8 @@ use Rattle.kmx_view.specs.View.{is_ended, store_count, group_count}
 use Rattle.kmx_verifier.specs.FaultOf.{broken, size_fault, header_fault, arrays_fault, stores_fault, groups_fault, fault_of, IsValid, no_group}
 use Rattle.kmx_verifier.proofs.Sound.{broken-none}
 use Rattle.kmx_verifier.proofs.Clean.{both, unbroken_not}
-use Rattle.core_export.specs.Export.{pointed_stores, pointed_groups, played_version, are_contents_pointed, are_groups_pointed, SaysTheSame}
+use Rattle.core_export.specs.Readable.{are_contents_pointed, are_groups_pointed}
+use Rattle.core_export.specs.Export.{pointed_stores, pointed_groups, played_version, SaysTheSame}
 use Rattle.core_export.proofs.Outside.{Outside, SameWithin, unchanged, wider, later, back_same, front_same, joined, narrower, stores_outside, groups_outside, GroupsLaid, StoresKept, GroupsKept, stores_kept, groups_kept}
 use Rattle.core_export.proofs.Kept.{StoresClear, GroupsClear, stores_same, groups_same}
 
@@ -131,5 +132,5 @@ module _ (bytes fin : List ℕ) (unit high : ℕ) (laid : Laid bytes unit high) 
           groups = sym (of_groups.1 ∙ ap₂ (groups_from fin) w36 w28) i;
         };
         contents = ap₂ (are_contents_pointed fin) (sym w32) (sym w24) ∙ of_stores.2;
-        contexts = ap₂ (are_groups_pointed fin) (sym w36) (sym w28) ∙ of_groups.2;
+        records = ap₂ (are_groups_pointed fin) (sym w36) (sym w28) ∙ of_groups.2;
       }

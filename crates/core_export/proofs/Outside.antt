@@ -6,7 +6,7 @@ use Rattle.std.proofs.lemmas.Bool.Decides.{eqb_tells}
 use Rattle.std.proofs.lemmas.List.{drop-drop, drop-take, take-take}
 use Rattle.kmx_format.specs.TablesOf.{half_at, word_at}
 use Rattle.core_export.specs.Words.{with_word}
-use Rattle.core_export.specs.Export.{pointed, pointed_stores, pointed_records, pointed_groups}
+use Rattle.core_export.specs.Export.{pointed, pointed_stores, pointed_record, pointed_records, pointed_groups}
 use Rattle.core_export.proofs.Replaced.{length-with_word, before_same, behind_same, read_there, same_words}
 
 -- ---- equal bytes
@@ -106,13 +106,20 @@ module _ (bytes : List ℕ) (unit : ℕ) where
       (wider (place + 8) (place + 8 + 4) place (place + 12 * suc count) out first (omega arith) (omega arith) (pointed_outside (place + 8) out))
       (wider (place + 12) (place + 12 + 12 * count) place (place + 12 * suc count) first rest (omega arith) (omega arith) (stores_outside (place + 12) count first))
 
+  pub record_outside : (place : ℕ) (out : List ℕ) → Outside (place + 12) (place + 20) out (pointed_record bytes unit place out)
+  record_outside place out =
+      let half : List ℕ = pointed bytes unit (place + 12) out in
+      after (place + 12) (place + 20) out half (pointed bytes unit (place + 16) half)
+      (wider (place + 12) (place + 12 + 4) (place + 12) (place + 20) out half (omega arith) (omega arith) (pointed_outside (place + 12) out))
+      (wider (place + 16) (place + 16 + 4) (place + 12) (place + 20) half (pointed bytes unit (place + 16) half) (omega arith) (omega arith) (pointed_outside (place + 16) half))
+
   pub records_outside : (place count : ℕ) (out : List ℕ) → Outside place (place + 20 * count) out (pointed_records bytes unit place count out)
   records_outside place zero out = unchanged place (place + 20 * 0) out
   records_outside place (suc count) out =
-      let first : List ℕ = pointed bytes unit (place + 16) out in
+      let first : List ℕ = pointed_record bytes unit place out in
       let rest : List ℕ = pointed_records bytes unit (place + 20) count first in
       after place (place + 20 * suc count) out first rest
-      (wider (place + 16) (place + 16 + 4) place (place + 20 * suc count) out first (omega arith) (omega arith) (pointed_outside (place + 16) out))
+      (wider (place + 12) (place + 20) place (place + 20 * suc count) out first (omega arith) (omega arith) (record_outside place out))
       (wider (place + 20) (place + 20 + 20 * count) place (place + 20 * suc count) first rest (omega arith) (omega arith) (records_outside (place + 20) count first))
 
   -- the key records of a number of groups are between two places, in the order of the groups
@@ -153,7 +160,7 @@ module _ (bytes : List ℕ) (unit : ℕ) where
     abbrev pub RecordsKept : ℕ → ℕ → Type 0
     RecordsKept place zero = Unit {0}
     RecordsKept place (suc count) =
-        (half_at fin place ≡ half_at bytes place) × Stays (place + 4) × Stays (place + 8) × Stays (place + 12) × Refilled (place + 16) × RecordsKept (place + 20) count
+        (half_at fin place ≡ half_at bytes place) × Stays (place + 4) × Stays (place + 8) × Refilled (place + 12) × Refilled (place + 16) × RecordsKept (place + 20) count
 
     abbrev pub GroupsKept : ℕ → ℕ → Type 0
     GroupsKept place zero = Unit {0}
@@ -193,21 +200,29 @@ module _ (bytes : List ℕ) (unit : ℕ) where
         → SameWithin place (place + 20 * count) (pointed_records bytes unit place count out) fin → RecordsKept place count
     records_kept place zero out sizes same within h = tt
     records_kept place (suc count) out sizes same within h =
-        let first : List ℕ = pointed bytes unit (place + 16) out in
+        let half : List ℕ = pointed bytes unit (place + 12) out in
+        let first : List ℕ = pointed_record bytes unit place out in
         let rest : List ℕ = pointed_records bytes unit (place + 20) count first in
         let high : ℕ = place + 20 * suc count in
-        let outside : Outside (place + 16) (place + 20) out first = wider (place + 16) (place + 16 + 4) (place + 16) (place + 20) out first (omega arith) (omega arith) (pointed_outside (place + 16) out) in
+        let outside : Outside (place + 12) (place + 20) out first = record_outside place out in
+        let context : Outside (place + 16) (place + 16 + 4) half first = pointed_outside (place + 16) half in
+        let output : Outside (place + 12) (place + 12 + 4) out half = pointed_outside (place + 12) out in
         let onward : SameWithin 0 (place + 20) first rest = front_same (place + 20) (place + 20 + 20 * count) first rest (records_outside (place + 20) count first) in
-        let ahead : SameWithin 0 (place + 16) out first = front_same (place + 16) (place + 20) out first outside in
+        let ahead : SameWithin 0 (place + 12) out first = front_same (place + 12) (place + 20) out first outside in
+        let before : SameWithin 0 (place + 16) half first = front_same (place + 16) (place + 16 + 4) half first context in
+        let past : SameWithin (place + 12 + 4) high out half = back_same (place + 12) (place + 12 + 4) high out half output in
         let read : SameWithin place high out bytes = tail_same place high out bytes sizes same in
-        let stays : (at : ℕ) → place ≤ at → at + 4 ≤ place + 16 → Stays at = λ at a b.
+        let now : (at : ℕ) → place ≤ at → at + 4 ≤ place + 20 → word_at fin at ≡ word_at first at = λ at a b.
+        sym (h.words at a (omega (arith, b))) ∙ sym (onward.words at (omega arith) (omega (arith, b))) in
+        let stays : (at : ℕ) → place ≤ at → at + 4 ≤ place + 12 → Stays at = λ at a b.
         sym (h.words at a (omega (arith, b))) ∙ sym (onward.words at (omega arith) (omega (arith, b))) ∙ sym (ahead.words at (omega arith) b) ∙ read.words at a (omega (arith, b)) in (
           sym (h.halves place (omega arith) (omega arith)) ∙ sym (onward.halves place (omega arith) (omega arith)) ∙ sym (ahead.halves place (omega arith) (omega arith)) ∙ read.halves place (omega arith) (omega arith),
           stays (place + 4) (omega arith) (omega arith),
           stays (place + 8) (omega arith) (omega arith),
-          stays (place + 12) (omega arith) (omega arith),
-          refilled (place + 16) out (read.words (place + 16) (omega arith) (omega arith)) (omega (arith, sizes, within))
-              (sym (h.words (place + 16) (omega arith) (omega arith)) ∙ sym (onward.words (place + 16) (omega arith) (omega arith))),
+          refilled (place + 12) out (read.words (place + 12) (omega arith) (omega arith)) (omega (arith, sizes, within))
+              (now (place + 12) (omega arith) (omega arith) ∙ sym (before.words (place + 12) (omega arith) (omega arith))),
+          refilled (place + 16) half (sym (past.words (place + 16) (omega arith) (omega arith)) ∙ read.words (place + 16) (omega arith) (omega arith)) (omega (arith, sizes, within, output.size))
+              (now (place + 16) (omega arith) (omega arith)),
           records_kept (place + 20) count first (sym outside.size ∙ sizes) (sym outside.behind ∙ later place (place + 20) out bytes (omega arith) same) (omega (arith, within))
               (narrower place high (place + 20) (place + 20 + 20 * count) rest fin (omega arith) (omega arith) h),
         )

@@ -57,13 +57,18 @@ told_so tables all some others lines listed told_of told is_all is_some are_line
     let at : told_of ≡ rising (flat_map found_lines same) = are_told_of ∙ are_listed ∙ are_lines ∙ ap (λ (xs : List ConstructLines). rising (flat_map found_lines xs)) (is_some ∙ is_all) in
     is_told ∙ ap (λ (xs : List ConstructLines). map (told_at xs) told_of) (is_others ∙ is_all) ∙ ap (λ (xs : List ℕ). map (told_at same) xs) at ∙ told_differences tables
 
+-- adding the numbers of one more item of a list does not change the final set
+pub fold_more : {X : Type 0} (f : X → List ℕ) (xs : List X) (i : ℕ) (d x : X) (before after : List ℕ) → i < length xs → x ≡ get_or xs i d → after ≡ fold (insert_key nat_cmp) before (f x)
+    → fold (insert_key nat_cmp) after (flat_map f (drop (i + 1) xs)) ≡ fold (insert_key nat_cmp) before (flat_map f (drop i xs))
+fold_more f xs i d x before after within at is =
+    let first : drop i xs ≡ get_or xs i d ∷ drop (i + 1) xs = rw add-one (drop-cons xs i d within) in
+    let rest : List ℕ = flat_map f (drop (i + 1) xs) in
+    ap (λ (set : List ℕ). fold (insert_key nat_cmp) set rest) is ∙ sym (fold-append (insert_key nat_cmp) before (f x) rest)
+    ∙ sym (ap (λ list. fold (insert_key nat_cmp) before (flat_map f list)) (first ∙ ap (λ y. y ∷ drop (i + 1) xs) (sym at)))
+
 -- adding the lines of one more group does not change the final set
 pub lines_more : (saving used : List Bool) (groups : List Group) (i : ℕ) (d group : Group) (before after : List ℕ) → i < length groups → group ≡ get_or groups i d → used ≡ saving
     → after ≡ fold (insert_key nat_cmp) before (group_saving_lines used group)
     → fold (insert_key nat_cmp) after (flat_map (group_saving_lines saving) (drop (i + 1) groups)) ≡ fold (insert_key nat_cmp) before (flat_map (group_saving_lines saving) (drop i groups))
 lines_more saving used groups i d group before after within at same is =
-    let first : drop i groups ≡ get_or groups i d ∷ drop (i + 1) groups = rw add-one (drop-cons groups i d within) in
-    let rest : List ℕ = flat_map (group_saving_lines saving) (drop (i + 1) groups) in
-    ap (λ (xs : List ℕ). fold (insert_key nat_cmp) xs rest) (is ∙ ap (λ (flags : List Bool). fold (insert_key nat_cmp) before (group_saving_lines flags group)) same)
-    ∙ sym (fold-append (insert_key nat_cmp) before (group_saving_lines saving group) rest)
-    ∙ sym (ap (λ (gs : List Group). fold (insert_key nat_cmp) before (flat_map (group_saving_lines saving) gs)) (first ∙ ap (λ (x : Group). x ∷ drop (i + 1) groups) (sym at)))
+    fold_more (group_saving_lines saving) groups i d group before after within at (is ∙ ap (λ (flags : List Bool). fold (insert_key nat_cmp) before (group_saving_lines flags group)) same)

@@ -1,17 +1,18 @@
 -- The file that Keyman's own engine plays, and its properties.
-use Rattle.std.specs.Prelude.{◌≡◌, ℕ, zero, suc, ◌+◌, ◌*◌, ◌<◌, ◌≤◌, min, Bool, true, not, nat_eq, ◌&&◌, if◌then◌else◌, List, length, slice_get, Option, Some, None, Result, Ok, Err}
+use Rattle.std.specs.Prelude.{◌≡◌, ℕ, zero, suc, ◌+◌, ◌*◌, ◌<◌, ◌≤◌, min, true, false, nat_eq, if◌then◌else◌, List, length, slice_get, Option, Some, None, Result, Ok, Err}
 use Rattle.std.specs.Option.{option_or}
 use Rattle.rule_model.specs.declared.tables.Tables.{Tables}
-use Rattle.kmx_format.specs.declared.places.TheConstants.{CHECKSUM_AT, GROUPS_AT, STORES_AT, VERSION_AT}
+use Rattle.kmx_format.specs.declared.places.TheConstants.{CHECKSUM_AT, GROUPS_AT, RULE_CONTEXT_AT, RULE_OUTPUT_AT, STORES_AT, VERSION_AT}
 use Rattle.kmx_format.specs.declared.sizes.TheConstants.{STORE_BYTES, GROUP_BYTES, RULE_BYTES}
 use Rattle.kmx_format.specs.TablesOf.{word_at, string_at, tables_of}
 use Rattle.kmx_view.specs.View.{store_count, group_count}
 use Rattle.kmx_verifier.specs.FaultOf.{IsValid}
 use Rattle.core_export.specs.Saves.{saving_line}
 use Rattle.core_export.specs.Checksum.{checksum}
+use Rattle.core_export.specs.Readable.{are_contents_pointed, are_groups_pointed, has_misread, has_nameless, is_overfull, misread_line, AreSafe, IsReadable}
 use Rattle.core_export.specs.Words.{with_word}
 use Rattle.core_export.specs.declared.errors.ExportError.{ExportError}
-use Rattle.core_export.specs.declared.errors.ExportError.TheVariants.{SavesTwice, NoZeroUnit, Entangled, Memory}
+use Rattle.core_export.specs.declared.errors.ExportError.TheVariants.{SavesTwice, Nameless, Unreadable, Overfull, NoZeroUnit, Entangled, Memory}
 
 -- ---- a zero unit of the file
 
@@ -59,12 +60,16 @@ abbrev pub pointed_stores : List ℕ → ℕ → ℕ → ℕ → List ℕ → Li
 pointed_stores bytes unit place zero out = out
 pointed_stores bytes unit place (suc count) out = pointed_stores bytes unit (place + STORE_BYTES) count (pointed bytes unit (place + 8) out)
 
--- bytes in which the contexts of a number of key records are pointed to the zero unit
+-- bytes in which the output and the context of a key record are pointed to the zero unit
+abbrev pub pointed_record : List ℕ → ℕ → ℕ → List ℕ → List ℕ
+pointed_record bytes unit place out = pointed bytes unit (place + RULE_CONTEXT_AT) (pointed bytes unit (place + RULE_OUTPUT_AT) out)
+
+-- bytes in which the outputs and contexts of a number of key records are pointed to the zero unit
 abbrev pub pointed_records : List ℕ → ℕ → ℕ → ℕ → List ℕ → List ℕ
 pointed_records bytes unit place zero out = out
-pointed_records bytes unit place (suc count) out = pointed_records bytes unit (place + RULE_BYTES) count (pointed bytes unit (place + 16) out)
+pointed_records bytes unit place (suc count) out = pointed_records bytes unit (place + RULE_BYTES) count (pointed_record bytes unit place out)
 
--- bytes in which the contexts of all key records of a number of groups are pointed to the zero unit
+-- bytes in which the outputs and contexts of all key records of a number of groups are pointed to the zero unit
 abbrev pub pointed_groups : List ℕ → ℕ → ℕ → ℕ → List ℕ → List ℕ
 pointed_groups bytes unit place zero out = out
 pointed_groups bytes unit place (suc count) out =
@@ -105,24 +110,25 @@ pub record IsInContents (bytes : List ℕ) (place count at : ℕ) : Type 0 where
   pub less : index < count
   pub inside : IsInZero bytes (place + STORE_BYTES * index + 8) at
 
--- whether a byte belongs to an offset 0 of the context of one of a number of key records
-pub record IsInContexts (bytes : List ℕ) (place count at : ℕ) : Type 0 where
+-- whether a byte belongs to an offset 0 of a field of one of a number of key records: field 12 is the output, field 16 the context
+pub record IsInRecords (bytes : List ℕ) (field place count at : ℕ) : Type 0 where
   pub index : ℕ
   pub less : index < count
-  pub inside : IsInZero bytes (place + RULE_BYTES * index + 16) at
+  pub inside : IsInZero bytes (place + RULE_BYTES * index + field) at
 
--- whether a byte belongs to an offset 0 of the context of a key record of one of a number of groups
-pub record IsInGroups (bytes : List ℕ) (place count at : ℕ) : Type 0 where
+-- whether a byte belongs to an offset 0 of a field of a key record of one of a number of groups
+pub record IsInGroups (bytes : List ℕ) (field place count at : ℕ) : Type 0 where
   pub index : ℕ
   pub less : index < count
-  pub inside : IsInContexts bytes (word_at bytes (place + GROUP_BYTES * index + 4)) (word_at bytes (place + GROUP_BYTES * index + 16)) at
+  pub inside : IsInRecords bytes field (word_at bytes (place + GROUP_BYTES * index + 4)) (word_at bytes (place + GROUP_BYTES * index + 16)) at
 
--- whether a byte of the file belongs to one of the four kinds of words
+-- whether a byte of the file belongs to one of the five kinds of words
 pub data IsReplaced (bytes : List ℕ) (at : ℕ) : Type 0 where
   InChecksum : IsInWord CHECKSUM_AT at → IsReplaced bytes at
   InVersion : IsInWord VERSION_AT at → IsReplaced bytes at
   InContent : IsInContents bytes (word_at bytes STORES_AT) (store_count bytes) at → IsReplaced bytes at
-  InContext : IsInGroups bytes (word_at bytes GROUPS_AT) (group_count bytes) at → IsReplaced bytes at
+  InOutput : IsInGroups bytes RULE_OUTPUT_AT (word_at bytes GROUPS_AT) (group_count bytes) at → IsReplaced bytes at
+  InContext : IsInGroups bytes RULE_CONTEXT_AT (word_at bytes GROUPS_AT) (group_count bytes) at → IsReplaced bytes at
 
 -- the number of bytes is unchanged, and each byte that is not replaced is that of the file
 pub record OnlyReplaced (bytes out : List ℕ) : Type 0 where
@@ -131,32 +137,17 @@ pub record OnlyReplaced (bytes out : List ℕ) : Type 0 where
 
 -- ---- the properties of the file
 
--- whether no content of a number of stores has the offset 0
-abbrev pub are_contents_pointed : List ℕ → ℕ → ℕ → Bool
-are_contents_pointed bytes place zero = true
-are_contents_pointed bytes place (suc count) = not (nat_eq (word_at bytes (place + 8)) 0) && are_contents_pointed bytes (place + STORE_BYTES) count
-
--- whether no context of a number of key records has the offset 0
-abbrev pub are_contexts_pointed : List ℕ → ℕ → ℕ → Bool
-are_contexts_pointed bytes place zero = true
-are_contexts_pointed bytes place (suc count) = not (nat_eq (word_at bytes (place + 16)) 0) && are_contexts_pointed bytes (place + RULE_BYTES) count
-
--- whether no context of the key records of a number of groups has the offset 0
-abbrev pub are_groups_pointed : List ℕ → ℕ → ℕ → Bool
-are_groups_pointed bytes place zero = true
-are_groups_pointed bytes place (suc count) =
-    are_contexts_pointed bytes (word_at bytes (place + 4)) (word_at bytes (place + 16)) && are_groups_pointed bytes (place + GROUP_BYTES) count
-
 -- tables with the version lowered to one that the engine plays
 abbrev pub with_played_version : Tables → Tables
 with_played_version tables = record tables { version = played_version tables.version }
 
--- `out` says the same as `bytes`: it is valid, has the same tables except for the version, and has no offset 0 of a content or context
+-- `out` says the same as `bytes`: it is valid, has the same tables except for the version, and has no offset 0 of a content,
+-- context or output
 pub record SaysTheSame (bytes out : List ℕ) : Type 0 where
   pub valid : IsValid out
   pub tables : tables_of out ≡ with_played_version (tables_of bytes)
   pub contents : are_contents_pointed out (word_at out STORES_AT) (store_count out) ≡ true
-  pub contexts : are_groups_pointed out (word_at out GROUPS_AT) (group_count out) ≡ true
+  pub records : are_groups_pointed out (word_at out GROUPS_AT) (group_count out) ≡ true
 
 -- all that the engine requires of a file
 pub record IsExport (bytes out : List ℕ) : Type 0 where
@@ -167,35 +158,48 @@ pub record IsExport (bytes out : List ℕ) : Type 0 where
 -- why the words of a file aren't replaced: it has no string, or its parts overlap, so that with the words replaced it would not
 -- say the same; `Memory` has no condition
 abbrev pub IsWordsError : List ℕ → ExportError → Type 0
-IsWordsError bytes (SavesTwice line) = ⊥
 IsWordsError bytes NoZeroUnit = zero_unit bytes ≡ None
 IsWordsError bytes Entangled = (unit : ℕ) × (zero_unit bytes ≡ Some unit) × (SaysTheSame bytes (exported bytes unit) → ⊥)
 IsWordsError bytes Memory = Unit {0}
+IsWordsError bytes _ = ⊥
 
 -- the result of replacing the words of a file
 abbrev pub Replaces : List ℕ → Result (List ℕ) ExportError → Type 0
 Replaces bytes (Ok out) = (unit : ℕ) × (zero_unit bytes ≡ Some unit) × (out ≡ exported bytes unit) × OnlyReplaced bytes out × IsExport bytes out
 Replaces bytes (Err error) = IsWordsError bytes error
 
--- no event may save twice, which would crash the engine
-abbrev pub SavesOnce : List ℕ → Type 0
-SavesOnce bytes = saving_line (tables_of bytes) ≡ None
+-- why tables crash the engine, the first of three reasons: an event may save twice, first at this line; a store without a name is
+-- set and reset; an item is misread, first in the record of this line, or in no record
+abbrev pub AreUnsafe : Tables → ExportError → Type 0
+AreUnsafe tables (SavesTwice line) = saving_line tables ≡ Some line
+AreUnsafe tables Nameless = (saving_line tables ≡ None) × (has_nameless tables ≡ true)
+AreUnsafe tables (Unreadable line) = (saving_line tables ≡ None) × (has_nameless tables ≡ false) × (has_misread tables ≡ true) × (line ≡ misread_line tables)
+AreUnsafe tables Memory = Unit {0}
+AreUnsafe tables _ = ⊥
 
--- why a file isn't exported: an event may save twice, first at this line, or else its words aren't replaced
+-- a file does not crash the engine once its words are replaced: its tables are safe, and the engine has space for them
+pub record IsSafe (bytes : List ℕ) : Type 0 where
+  pub tables : AreSafe (tables_of bytes)
+  pub fits : is_overfull (tables_of bytes) (length bytes) ≡ false
+
+-- why a file isn't exported: its tables crash the engine, or the engine has no space for them, or its words aren't replaced. Each
+-- reason is given only if no earlier one is true
 abbrev pub IsExportError : List ℕ → ExportError → Type 0
-IsExportError bytes (SavesTwice line) = saving_line (tables_of bytes) ≡ Some line
-IsExportError bytes NoZeroUnit = SavesOnce bytes × IsWordsError bytes NoZeroUnit
-IsExportError bytes Entangled = SavesOnce bytes × IsWordsError bytes Entangled
+IsExportError bytes (SavesTwice line) = AreUnsafe (tables_of bytes) (SavesTwice line)
+IsExportError bytes Nameless = AreUnsafe (tables_of bytes) Nameless
+IsExportError bytes (Unreadable line) = AreUnsafe (tables_of bytes) (Unreadable line)
+IsExportError bytes Overfull = AreSafe (tables_of bytes) × (is_overfull (tables_of bytes) (length bytes) ≡ true)
+IsExportError bytes NoZeroUnit = IsSafe bytes × IsWordsError bytes NoZeroUnit
+IsExportError bytes Entangled = IsSafe bytes × IsWordsError bytes Entangled
 IsExportError bytes Memory = Unit {0}
 
 -- the result of the exporter
 abbrev pub Exports : List ℕ → Result (List ℕ) ExportError → Type 0
-Exports bytes (Ok out) = SavesOnce bytes × Replaces bytes (Ok out)
+Exports bytes (Ok out) = IsSafe bytes × Replaces bytes (Ok out) × IsReadable out
 Exports bytes (Err error) = IsExportError bytes error
 
 -- what an error of a check reports: `Entangled` if the property does not hold; `Memory` has no condition
 abbrev pub Judges : Type 0 → ExportError → Type 0
-Judges holds (SavesTwice line) = ⊥
-Judges holds NoZeroUnit = ⊥
 Judges holds Entangled = holds → ⊥
 Judges holds Memory = Unit {0}
+Judges holds _ = ⊥

@@ -11,7 +11,8 @@ use Rattle.kmx_format.specs.Writable.{IsFile}
 use Rattle.rule_checker.specs.Refused.{checked}
 use Rattle.kmn_compiler.specs.Source.{CompilesTo}
 use Rattle.kmn_compiler.specs.declared.compiling.Compiled.{Compiled}
-use Rattle.core_export.specs.Export.{zero_unit, exported, SaysTheSame, IsExport}
+use Rattle.core_export.specs.Readable.{IsReadable}
+use Rattle.core_export.specs.Export.{zero_unit, exported, Exports, SaysTheSame, IsExport}
 
 -- in a file that is written from tables no parts overlap, so with its words replaced it says the same
 abbrev pub WrittenFilesAreExported : Type 0
@@ -39,3 +40,7 @@ ExportingKeepsMeaning = (bytes out : List ℕ) → SaysTheSame bytes out → (ev
 -- an exported file is exported to itself, for any zero unit
 abbrev pub ExportedFilesStay : Type 0
 ExportedFilesStay = (bytes out : List ℕ) (unit : ℕ) → All (λ byte. byte < 256) out → IsExport bytes out → exported out unit ≡ out
+
+-- each file that the exporter writes is one that the engine reads without a crash
+abbrev pub ExportsAreSafe : Type 0
+ExportsAreSafe = (bytes out : List ℕ) → Exports bytes (Ok out) → IsReadable out

@@ -6,4 +6,5 @@ pub mod Constructs
 pub mod Differences
 pub mod Found
 pub mod Laws
+pub mod Readable
 pub mod Saves

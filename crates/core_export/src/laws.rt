@@ -1,6 +1,6 @@
 //! Laws of `specs/ExportLaws`, each the contract of a function with an empty body.
 
-ghost use Rattle.core_export.specs.ExportLaws.{WrittenFilesAreExported, NamedFilesHaveZeroUnits, CompiledFilesAreExported, ExportingKeepsMeaning, ExportedFilesStay};
+ghost use Rattle.core_export.specs.ExportLaws.{WrittenFilesAreExported, NamedFilesHaveZeroUnits, CompiledFilesAreExported, ExportingKeepsMeaning, ExportedFilesStay, ExportsAreSafe};
 ghost use Rattle.core_export.specs.Laws.{NoEventSavesTwice};
 
 /// If a file is written from tables, it says the same with its words replaced. So `export` never returns `Entangled` for it.
@@ -26,6 +26,12 @@ pub fn exporting_keeps_meaning()
 /// If an exported file is exported again, it does not change.
 pub fn exported_files_stay()
     ensures { ExportedFilesStay }
+{}
+
+/// If `export` writes a file, this file does not crash Keyman's own engine.
+#[tactic(auto, using(crate::proofs::Safe::exports_are_safe))]
+pub fn exports_are_safe()
+    ensures { ExportsAreSafe }
 {}
 
 /// If `saving_line` returns no line, no event of the keyboard saves twice, for every list of events.

@@ -7,7 +7,7 @@ use Rattle.kmx_verifier.specs.declared.faults.VerifyError.TheVariants as verify
 use Rattle.core_export.specs.Export.{IsExportError}
 use Rattle.core_export.specs.declared.errors.ExportError.{ExportError}
 use Rattle.core_export.specs.declared.errors.ExportError.TheVariants as error
-use Rattle.export_run.specs.declared.reading.ExportReason.TheVariants.{File, SavesTwice, NoZeroUnit, Entangled}
+use Rattle.export_run.specs.declared.reading.ExportReason.TheVariants.{File, SavesTwice, Nameless, Unreadable, Overfull, NoZeroUnit, Entangled}
 use Rattle.export_run.specs.declared.reading.Export.{Export}
 use Rattle.export_run.specs.declared.reading.ExportStop.{ExportStop}
 use Rattle.export_run.specs.declared.reading.ExportStop.TheVariants as stop
@@ -16,6 +16,9 @@ use Rattle.export_run.specs.Reads.{Answers, States, export_stop, verify_stop}
 -- if the exporter returns an error, it is the reason why the file isn't exported
 pub stop_answered : (bytes : List ℕ) (why : ExportError) → IsExportError bytes why → Answers bytes (Err (export_stop why))
 stop_answered bytes (error.SavesTwice line) h = h
+stop_answered bytes error.Nameless h = h
+stop_answered bytes (error.Unreadable line) h = h
+stop_answered bytes error.Overfull h = h
 stop_answered bytes error.NoZeroUnit h = h
 stop_answered bytes error.Entangled h = h
 stop_answered bytes error.Memory h = h
@@ -25,6 +28,9 @@ pub states_answered : (bytes : List ℕ) (result : Result Export ExportStop) →
 states_answered bytes (Ok out) valid h = (valid, h)
 states_answered bytes (Err (stop.Refused (File fault))) valid h = absurd h
 states_answered bytes (Err (stop.Refused (SavesTwice line))) valid h = (valid, h)
+states_answered bytes (Err (stop.Refused Nameless)) valid h = (valid, h)
+states_answered bytes (Err (stop.Refused (Unreadable line))) valid h = (valid, h)
+states_answered bytes (Err (stop.Refused Overfull)) valid h = (valid, h)
 states_answered bytes (Err (stop.Refused NoZeroUnit)) valid h = (valid, h)
 states_answered bytes (Err (stop.Refused Entangled)) valid h = (valid, h)
 states_answered bytes (Err stop.ReadFault) valid h = absurd h

@@ -1,5 +1,5 @@
 -- The lines that are printed.
-use Rattle.std.specs.Prelude.{ℕ, List, [], ◌∷◌, ◌++◌, length, map, flat_map, codes}
+use Rattle.std.specs.Prelude.{ℕ, List, [], ◌∷◌, ◌++◌, length, map, flat_map, codes, Some, None}
 use Rattle.std.specs.List.{concat}
 use Rattle.std.specs.Fmt.{decimal}
 use Rattle.rule_model.specs.Lines.{joined}
@@ -8,7 +8,7 @@ use Rattle.core_export.specs.declared.construct.Construct.{Construct}
 use Rattle.core_export.specs.declared.construct.Construct.TheVariants as construct
 use Rattle.core_export.specs.declared.construct.Difference.{Difference}
 use Rattle.export_run.specs.declared.reading.ExportReason.{ExportReason}
-use Rattle.export_run.specs.declared.reading.ExportReason.TheVariants.{File, SavesTwice, NoZeroUnit, Entangled}
+use Rattle.export_run.specs.declared.reading.ExportReason.TheVariants.{File, SavesTwice, Nameless, Unreadable, Overfull, NoZeroUnit, Entangled}
 use Rattle.export_run.specs.declared.reading.Export.{Export}
 
 -- the line with the size of an export
@@ -39,5 +39,9 @@ exported_text export = exported_line (length export.bytes) ++ flat_map differs_l
 abbrev pub unexported_line : ExportReason → List ℕ
 unexported_line (File fault) = fault_line fault
 unexported_line (SavesTwice line) = concat (codes "refused K01 line " ∷ decimal line ∷ codes "\n" ∷ [])
-unexported_line NoZeroUnit = codes "refused K02\n"
-unexported_line Entangled = codes "refused K03\n"
+unexported_line Nameless = codes "refused K02\n"
+unexported_line (Unreadable (Some line)) = concat (codes "refused K03 line " ∷ decimal line ∷ codes "\n" ∷ [])
+unexported_line (Unreadable None) = codes "refused K03\n"
+unexported_line Overfull = codes "refused K04\n"
+unexported_line NoZeroUnit = codes "refused K05\n"
+unexported_line Entangled = codes "refused K06\n"

@@ -11,7 +11,7 @@ use Rattle.core_export.specs.declared.errors.ExportError.{ExportError}
 use Rattle.core_export.specs.declared.errors.ExportError.TheVariants as error
 use Rattle.keyman_words.specs.Seen.{FolderView, FolderState, seen_folder}
 use Rattle.export_run.specs.declared.reading.ExportReason.{ExportReason}
-use Rattle.export_run.specs.declared.reading.ExportReason.TheVariants.{File, SavesTwice, NoZeroUnit, Entangled}
+use Rattle.export_run.specs.declared.reading.ExportReason.TheVariants.{File, SavesTwice, Nameless, Unreadable, Overfull, NoZeroUnit, Entangled}
 use Rattle.export_run.specs.declared.reading.Export.{Export}
 use Rattle.export_run.specs.declared.reading.ExportStop.{ExportStop}
 use Rattle.export_run.specs.declared.reading.ExportStop.TheVariants as stop
@@ -24,6 +24,9 @@ IsExportOf bytes out = Exports bytes (Ok out.bytes) × (out.differences ≡ diff
 abbrev pub IsReasonOfValid : List ℕ → ExportReason → Type 0
 IsReasonOfValid bytes (File fault) = ⊥
 IsReasonOfValid bytes (SavesTwice line) = IsExportError bytes (error.SavesTwice line)
+IsReasonOfValid bytes Nameless = IsExportError bytes error.Nameless
+IsReasonOfValid bytes (Unreadable line) = IsExportError bytes (error.Unreadable line)
+IsReasonOfValid bytes Overfull = IsExportError bytes error.Overfull
 IsReasonOfValid bytes NoZeroUnit = IsExportError bytes error.NoZeroUnit
 IsReasonOfValid bytes Entangled = IsExportError bytes error.Entangled
 
@@ -31,6 +34,9 @@ IsReasonOfValid bytes Entangled = IsExportError bytes error.Entangled
 abbrev pub IsReason : List ℕ → ExportReason → Type 0
 IsReason bytes (File fault) = fault_of bytes ≡ Some fault
 IsReason bytes (SavesTwice line) = IsValid bytes × IsReasonOfValid bytes (SavesTwice line)
+IsReason bytes Nameless = IsValid bytes × IsReasonOfValid bytes Nameless
+IsReason bytes (Unreadable line) = IsValid bytes × IsReasonOfValid bytes (Unreadable line)
+IsReason bytes Overfull = IsValid bytes × IsReasonOfValid bytes Overfull
 IsReason bytes NoZeroUnit = IsValid bytes × IsReasonOfValid bytes NoZeroUnit
 IsReason bytes Entangled = IsValid bytes × IsReasonOfValid bytes Entangled
 
@@ -42,6 +48,9 @@ verify_stop verify.Memory = stop.Memory
 -- why a run stops if a valid file isn't exported
 abbrev pub export_stop : ExportError → ExportStop
 export_stop (error.SavesTwice line) = stop.Refused (SavesTwice line)
+export_stop error.Nameless = stop.Refused Nameless
+export_stop (error.Unreadable line) = stop.Refused (Unreadable line)
+export_stop error.Overfull = stop.Refused Overfull
 export_stop error.NoZeroUnit = stop.Refused NoZeroUnit
 export_stop error.Entangled = stop.Refused Entangled
 export_stop error.Memory = stop.Memory

@@ -18,6 +18,12 @@ pub enum ExportReason {
     File(Fault),
     /// An event may save twice, first at this line of the source.
     SavesTwice(u32),
+    /// A store without a name is set and reset.
+    Nameless,
+    /// The other engine misreads an item of the rules, first at this line of the source, or an item that has no line.
+    Unreadable(Option<u32>),
+    /// The other engine does not have enough space for its tables of the file.
+    Overfull,
     /// The file has no strings, so it has no zero unit to point to.
     NoZeroUnit,
     /// Parts of the file overlap.
@@ -70,6 +76,9 @@ impl From<ExportError> for ExportStop {
     fn from(error: ExportError) -> ExportStop {
         match error {
             ExportError::SavesTwice(line) => ExportStop::Refused(ExportReason::SavesTwice(line)),
+            ExportError::Nameless => ExportStop::Refused(ExportReason::Nameless),
+            ExportError::Unreadable(line) => ExportStop::Refused(ExportReason::Unreadable(line)),
+            ExportError::Overfull => ExportStop::Refused(ExportReason::Overfull),
             ExportError::NoZeroUnit => ExportStop::Refused(ExportReason::NoZeroUnit),
             ExportError::Entangled => ExportStop::Refused(ExportReason::Entangled),
             ExportError::Memory => ExportStop::Memory,

@@ -36,6 +36,74 @@ fn exported() -> [u8; 122] {
     file
 }
 
+/// Returns the file whose output has the offset 0.
+fn without_output() -> [u8; 122] {
+    let mut file = one_rule();
+    file[100] = 0;
+    file
+}
+
+/// Returns the export of that file: its output and its context point to the zero unit after the name. The checksum was computed
+/// by another program.
+fn with_empty_output() -> [u8; 122] {
+    let mut file = exported();
+    file[8..12].copy_from_slice(&[0xD0, 0x94, 0x26, 0x60]);
+    file[100] = 116;
+    file
+}
+
+/// Returns a file of one store without a name and one group, whose match output sets and resets the store.
+fn nameless() -> [u8; 116] {
+    let mut file = [0; 116];
+    file[..64].copy_from_slice(&one_rule()[..64]);
+    file[24] = 1;
+    file[32] = 64;
+    file[36] = 76;
+    file[84] = 100;
+    file[100..].copy_from_slice(&[
+        0xFF, 0xFF, 0x13, 0, 1, 0, 1, 0, 0xFF, 0xFF, 0x16, 0, 1, 0, 0, 0,
+    ]);
+    file
+}
+
+/// Returns the file whose match output resets the store and does not set it.
+fn reset_without_set() -> [u8; 116] {
+    let mut file = nameless();
+    file[84] = 108;
+    file
+}
+
+/// Returns the export of that file: the content of the store points to the zero unit after the output. The checksum was computed
+/// by another program.
+fn exported_reset() -> [u8; 116] {
+    let mut file = reset_without_set();
+    file[5] = 0x0F;
+    file[8..12].copy_from_slice(&[0x0D, 0xC1, 0x90, 0x72]);
+    file[72] = 114;
+    file
+}
+
+/// Returns a file whose two groups share four records of zeros. The tables of the other engine need 400 bytes, and it has
+/// space for 384.
+fn shared_records() -> [u8; 192] {
+    let mut file = [0; 192];
+    file[..64].copy_from_slice(&one_rule()[..64]);
+    file[28] = 2;
+    file[68] = 112;
+    file[80] = 4;
+    file[92] = 112;
+    file[104] = 4;
+    file
+}
+
+/// Returns the file whose groups share three of these records. The tables need 336 bytes, and the engine has space for 384.
+fn fewer_records() -> [u8; 192] {
+    let mut file = shared_records();
+    file[80] = 3;
+    file[104] = 3;
+    file
+}
+
 /// Returns the file whose group has neither a name nor a record, and so has no string.
 fn without_strings() -> [u8; 122] {
     let mut file = one_rule();
@@ -127,8 +195,29 @@ fn files(rt: HostRuntime) -> Result<(), Fail> {
     let alloc = rt.alloc();
     assert!(rt; file_ends(alloc, &one_rule(), 0, "exported bytes=122\n", &exported())?);
     assert!(rt; file_ends(alloc, &exported(), 0, "exported bytes=122\n", &exported())?);
-    assert!(rt; file_ends(alloc, &without_strings(), 1, "refused K02\n", b"")?);
-    assert!(rt; file_ends(alloc, &entangled(), 1, "refused K03\n", b"")?);
+    assert!(rt;
+        file_ends(
+            alloc,
+            &without_output(),
+            0,
+            "exported bytes=122\n",
+            &with_empty_output()
+        )?
+    );
+    assert!(rt; file_ends(alloc, &nameless(), 1, "refused K02\n", b"")?);
+    assert!(rt;
+        file_ends(
+            alloc,
+            &reset_without_set(),
+            0,
+            "exported bytes=116\n",
+            &exported_reset()
+        )?
+    );
+    assert!(rt; file_ends(alloc, &shared_records(), 1, "refused K04\n", b"")?);
+    assert!(rt; file_ends(alloc, &fewer_records(), 1, "refused K05\n", b"")?);
+    assert!(rt; file_ends(alloc, &without_strings(), 1, "refused K05\n", b"")?);
+    assert!(rt; file_ends(alloc, &entangled(), 1, "refused K06\n", b"")?);
     assert!(rt; file_ends(alloc, b"", 1, "refused V01 at 0\n", b"")?);
     Ok(())
 }

@@ -1,4 +1,5 @@
-//! Tests the printed lines of an export: where another engine behaves differently, and where an event may save twice.
+//! Tests the printed lines of an export: where another engine behaves differently, where an event may save twice, and where that
+//! engine misreads an item.
 
 use crate::sources::file;
 use export_run::export_run;
@@ -38,7 +39,13 @@ store(o) '1'¶H¶+ 'a' > 'b'¶+ 'b' > use(g)¶match > use(g)¶group(g)¶nomatch 
 store(o) '1'¶H¶+ 'a' > 'b'¶nomatch > save(o) save(o) ⇒ refused K01 line 4
 store(o) '1'¶H¶+ 'a' > use(main)¶+ 'b' > save(o) ⇒ 
 store(o) '1'¶H¶+ 'a' > use(main) use(main)¶+ 'b' > save(o) ⇒ refused K01 line 4
-store(o) '1'¶H¶+ 'a' > use(g)¶group(g)¶'b' > use(h)¶group(h)¶'c' > save(o) reset(o) use(h) ⇒ refused K01 line 8";
+store(o) '1'¶H¶+ 'a' > use(g)¶group(g)¶'b' > use(h)¶group(h)¶'c' > save(o) reset(o) use(h) ⇒ refused K01 line 8
+store(o) '1'¶H¶+ 'a' > save(o) save(o) U+0010 ⇒ refused K01 line 4
+H¶+ 'a' > U+0011 ⇒ 
+H¶+ 'a' > 'b'¶+ 'b' > 'x' U+0010¶+ 'c' > U+0010 ⇒ refused K03 line 4
+H¶'x' U+0010 + 'a' > 'b' ⇒ refused K03 line 3
+H¶+ 'a' > 'b'¶nomatch > U+0010 ⇒ refused K03
+store(v) 'b' U+0010¶H¶any(v) + 'a' > 'b' ⇒ refused K03";
 
 /// Returns the text that a run with the arguments `in out` prints over a folder in which `in` is that file.
 fn printed(alloc: Global, file: Seq<u8>) -> Result<Seq<u8>, Fail> {

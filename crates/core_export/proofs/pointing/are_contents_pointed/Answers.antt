@@ -1,6 +1,6 @@
 use Rattle.std.proofs.Common.{◌+◌, ◌*◌, Bool, ap}
 use Rattle.std.specs.Prelude.{◌&&◌}
-use Rattle.core_export.specs.Export.{are_contents_pointed}
+use Rattle.core_export.specs.Readable.{are_contents_pointed}
 use Rattle.core_export.proofs.Steps.{one_more, some}
 use Rattle.core_export.proofs.pointing.are_contents_pointed.Goals as goal
 

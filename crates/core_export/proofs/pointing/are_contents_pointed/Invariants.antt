@@ -1,5 +1,5 @@
 use Rattle.std.proofs.Common.{◌≡◌, ◌+◌, ◌-◌, ◌*◌}
-use Rattle.core_export.specs.Export.{are_contents_pointed}
+use Rattle.core_export.specs.Readable.{are_contents_pointed}
 use Rattle.core_export.proofs.pointing.are_contents_pointed.Given as goal
 
 abbrev pub invariant-loop-i : goal.invariant-loop-i

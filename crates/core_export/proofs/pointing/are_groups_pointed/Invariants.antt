@@ -1,5 +1,5 @@
 use Rattle.std.proofs.Common.{◌≡◌, ◌+◌, ◌-◌, ◌*◌}
-use Rattle.core_export.specs.Export.{are_groups_pointed}
+use Rattle.core_export.specs.Readable.{are_groups_pointed}
 use Rattle.core_export.proofs.pointing.are_groups_pointed.Given as goal
 
 abbrev pub invariant-loop-i : goal.invariant-loop-i

@@ -6,6 +6,6 @@ use Rattle.core_export.proofs.pointing.point_records.Goals as goal
 pub loop-i-preserved : goal.loop-i-preserved
 loop-i-preserved c =
     let left : List ℕ → ℕ → ℕ → List ℕ = λ out place count. pointed_records c.args.bytes.now c.args.unit place count out in
-    one_more 20 (left c.loop-i.out) (left c.point.new.out) c.args.place c.args.count c.loop-i.i _ c.loop-i-test.true
-    (λ rest. ap (λ (out : List ℕ). left out (c.args.place + 20 * c.loop-i.i + 20) rest) (sym c.point.ensures))
+    one_more 20 (left c.loop-i.out) (left c.point_record.new.out) c.args.place c.args.count c.loop-i.i _ c.loop-i-test.true
+    (λ rest. ap (λ (out : List ℕ). left out (c.args.place + 20 * c.loop-i.i + 20) rest) (sym c.point_record.ensures))
     c.loop-i.invariant
