@@ -55,10 +55,13 @@ fn with_empty_output() -> [u8; 122] {
 /// Returns a file of one store without a name and one group, whose match output sets and resets the store.
 fn nameless() -> [u8; 116] {
     let mut file = [0; 116];
-    file[..64].copy_from_slice(&one_rule()[..64]);
+    file[0..4].copy_from_slice(&[0x4B, 0x58, 0x54, 0x53]);
+    file[5] = 0x11;
     file[24] = 1;
+    file[28] = 1;
     file[32] = 64;
     file[36] = 76;
+    file[40..44].copy_from_slice(&[0xFF, 0xFF, 0xFF, 0xFF]);
     file[84] = 100;
     file[100..].copy_from_slice(&[
         0xFF, 0xFF, 0x13, 0, 1, 0, 1, 0, 0xFF, 0xFF, 0x16, 0, 1, 0, 0, 0,
@@ -87,8 +90,11 @@ fn exported_reset() -> [u8; 116] {
 /// space for 384.
 fn shared_records() -> [u8; 192] {
     let mut file = [0; 192];
-    file[..64].copy_from_slice(&one_rule()[..64]);
+    file[0..4].copy_from_slice(&[0x4B, 0x58, 0x54, 0x53]);
+    file[5] = 0x11;
     file[28] = 2;
+    file[36] = 64;
+    file[40..44].copy_from_slice(&[0xFF, 0xFF, 0xFF, 0xFF]);
     file[68] = 112;
     file[80] = 4;
     file[92] = 112;
