@@ -59,3 +59,4 @@ pub mod WrittenNames
 pub mod WrittenOut
 pub mod WrittenPrograms
 pub mod Texts
+pub mod ValueCauses

@@ -12,3 +12,4 @@ pub mod Reasons
 pub mod Unspelled
 pub mod Written
 pub mod RoundTrips
+pub mod ValueCauses

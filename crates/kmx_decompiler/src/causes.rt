@@ -1,16 +1,16 @@
 //! Tests which keys, elements, items and contexts no source can express.
 
-ghost use Rattle.std.specs.Prelude.{◌≡◌, filter_map, option_to_list, slice_get};
+ghost use Rattle.std.specs.Prelude.{◌≡◌, option_to_list, slice_get};
 ghost use Rattle.std.specs.List.{list_any};
-ghost use Rattle.rule_model.specs.Tab.{element_char};
 ghost use Rattle.decompile_program.specs.WrittenOut.{has_key_name};
-ghost use Rattle.kmx_decompiler.specs.Causes.{has_unspelled_value, have_both_quotes, is_system_store, is_unspelled_context, is_unspelled_element, is_unspelled_key, is_unspelled_output, is_unspelled_pattern, is_unspelled_value, names_system_store};
+ghost use Rattle.kmx_decompiler.specs.Causes.{has_unspelled_value, is_system_store, is_unspelled_context, is_unspelled_element, is_unspelled_key, is_unspelled_output, is_unspelled_pattern, names_system_store};
 
 use crate::items::{
-    are_inner, are_shift_flags, has_no_character, is_far_mark, is_far_output, is_far_pattern,
-    is_nameable, nul_count, output_value, pattern_value, stands_behind_match,
+    are_shift_flags, is_far_mark, is_far_output, is_far_pattern, is_nameable, nul_count,
+    output_value, pattern_value, stands_behind_match,
 };
-use decompile_program::{Called, has_character, named_by_output, named_by_pattern};
+use crate::value_causes::JudgedNames;
+use decompile_program::{Called, named_by_output, named_by_pattern};
 use kmn_base::{Element, RuleKey};
 use rule_model::{Out, Pat};
 
@@ -52,20 +52,6 @@ pub(crate) fn is_unspelled_key(names: &Called<'_>, key: &RuleKey) -> bool
     }
 }
 
-/// Returns whether both kinds of quote are among the elements.
-fn have_both_quotes(elements: &[Element]) -> bool
-    ensures { result ≡ have_both_quotes (filter_map element_char elements.now) }
-{
-    has_character(elements, '"') && has_character(elements, '\'')
-}
-
-/// Returns whether elements are not a value that a source can have.
-fn is_unspelled_value(elements: &[Element]) -> bool
-    ensures { result ≡ is_unspelled_value elements.now }
-{
-    has_no_character(elements) || !are_inner(elements) || have_both_quotes(elements)
-}
-
 /// Returns whether the store of a number has a system id.
 fn is_system_store(names: &Called<'_>, number: u32) -> bool
     ensures { result ≡ is_system_store (slice_get names.now.elements number) }
@@ -87,35 +73,35 @@ fn names_system_store(names: &Called<'_>, store: Option<u32>) -> bool
 }
 
 /// Returns whether the value of an item, if any, has no spelling.
-fn has_unspelled_value(names: &Called<'_>, value: Option<u32>) -> bool
+fn has_unspelled_value(names: &JudgedNames<'_>, value: Option<u32>) -> bool
     ensures { result ≡ has_unspelled_value names.now (option_to_list value) }
 {
     match value {
-        Some(value) => is_unspelled_value(names.value(value)),
+        Some(value) => names.is_unspelled_value(value),
         None => false,
     }
 }
 
 /// Returns whether an item of a context has no spelling.
-fn is_unspelled_pattern(names: &Called<'_>, pattern: &Pat) -> bool
+fn is_unspelled_pattern(names: &JudgedNames<'_>, pattern: &Pat) -> bool
     ensures { result ≡ is_unspelled_pattern names.now pattern.now }
 {
     is_far_pattern(pattern)
-        || names_system_store(names, named_by_pattern(pattern))
+        || names_system_store(names.called(), named_by_pattern(pattern))
         || has_unspelled_value(names, pattern_value(pattern))
 }
 
 /// Returns whether an item of an output has no spelling.
-fn is_unspelled_output(names: &Called<'_>, output: &Out) -> bool
+fn is_unspelled_output(names: &JudgedNames<'_>, output: &Out) -> bool
     ensures { result ≡ is_unspelled_output names.now output.now }
 {
     is_far_output(output)
-        || names_system_store(names, named_by_output(output))
+        || names_system_store(names.called(), named_by_output(output))
         || has_unspelled_value(names, output_value(output))
 }
 
 /// Returns whether at least one item of an output has no spelling.
-pub(crate) fn are_unspelled_outputs(names: &Called<'_>, outputs: &[Out]) -> bool
+pub(crate) fn are_unspelled_outputs(names: &JudgedNames<'_>, outputs: &[Out]) -> bool
     ensures { result ≡ list_any (is_unspelled_output names.now) outputs.now }
 {
     outputs
@@ -124,7 +110,7 @@ pub(crate) fn are_unspelled_outputs(names: &Called<'_>, outputs: &[Out]) -> bool
 }
 
 /// Returns whether at least one item of a context has no spelling.
-fn are_unspelled_patterns(names: &Called<'_>, context: &[Pat]) -> bool
+fn are_unspelled_patterns(names: &JudgedNames<'_>, context: &[Pat]) -> bool
     ensures { result ≡ list_any (is_unspelled_pattern names.now) context.now }
 {
     context
@@ -133,7 +119,7 @@ fn are_unspelled_patterns(names: &Called<'_>, context: &[Pat]) -> bool
 }
 
 /// Returns whether a context has no spelling.
-pub(crate) fn is_unspelled_context(names: &Called<'_>, context: &[Pat]) -> bool
+pub(crate) fn is_unspelled_context(names: &JudgedNames<'_>, context: &[Pat]) -> bool
     ensures { result ≡ is_unspelled_context names.now context.now }
 {
     are_unspelled_patterns(names, context) || stands_behind_match(context) || 1 < nul_count(context)

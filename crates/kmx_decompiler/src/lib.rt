@@ -26,6 +26,7 @@ mod places;
 mod refusals;
 mod round_trips;
 mod store_causes;
+mod value_causes;
 mod values;
 
 pub use decompiling::decompile;

@@ -14,6 +14,7 @@ ghost use Rattle.kmx_decompiler.specs.RecordPlaces.{HaveNearRecords};
 
 use crate::causes::{are_unspelled_outputs, is_unspelled_context, is_unspelled_key};
 use crate::store_causes::{NumberedStore, is_unspelled_store};
+use crate::value_causes::JudgedNames;
 use decompile_program::Called;
 use indexed_tables::IndexedTables;
 use kmn_base::Memory;
@@ -42,11 +43,11 @@ fn lesser(least: Option<u32>, place: u32, cause: bool) -> Option<u32>
 
 /// Returns the least place so far, including the causes of a record that begins at a place.
 #[tactic(auto, using(crate::proofs::LeastPlaces::lesser_append))]
-fn in_rule(names: &Called<'_>, least: Option<u32>, place: u32, rule: &Rule) -> Option<u32>
+fn in_rule(names: &JudgedNames<'_>, least: Option<u32>, place: u32, rule: &Rule) -> Option<u32>
     requires { place + RULE_BYTES < 2 ^ 32 }
     ensures { result ≡ lesser (rule_causes names.now place (rule.now ∷ [])) least }
 {
-    let key = is_unspelled_key(names, &rule.key);
+    let key = is_unspelled_key(names.called(), &rule.key);
     let least = lesser(least, place, key);
     let outputs = are_unspelled_outputs(names, rule.output.as_slice());
     let least = lesser(least, place + RULE_OUTPUT_AT as u32, outputs);
@@ -55,7 +56,7 @@ fn in_rule(names: &Called<'_>, least: Option<u32>, place: u32, rule: &Rule) -> O
 }
 
 /// Returns the least place so far, including the causes of successive records that begin at a place.
-fn in_rules(names: &Called<'_>, least: Option<u32>, place: u32, rules: &[Rule]) -> Option<u32>
+fn in_rules(names: &JudgedNames<'_>, least: Option<u32>, place: u32, rules: &[Rule]) -> Option<u32>
     requires { place + RULE_BYTES * length rules.now < 2 ^ 32 }
     ensures { result ≡ lesser (rule_causes names.now place rules.now) least }
 {
@@ -72,7 +73,7 @@ fn in_rules(names: &Called<'_>, least: Option<u32>, place: u32, rules: &[Rule]) 
 #[tactic(auto, using(crate::proofs::LeastPlaces::lesser_append))]
 fn in_group(
     bytes: &[u8],
-    names: &Called<'_>,
+    names: &JudgedNames<'_>,
     least: Option<u32>,
     place: u32,
     group: &Group,
@@ -92,7 +93,7 @@ fn in_group(
 /// Returns the least place so far, including the causes of groups whose records begin at a place.
 fn in_groups(
     bytes: &[u8],
-    names: &Called<'_>,
+    names: &JudgedNames<'_>,
     least: Option<u32>,
     place: u32,
     groups: &[Group],
@@ -176,5 +177,6 @@ pub(crate) fn least_cause(
     let least = in_stores(alloc, indexed, names, stores, tables.stores.as_slice())?;
     let groups = word_at(bytes, GROUPS_AT);
     let all = tables.groups.as_slice();
-    Ok(in_groups(bytes, names, least, groups, all))
+    let judged = JudgedNames::new(alloc, names)?;
+    Ok(in_groups(bytes, &judged, least, groups, all))
 }
