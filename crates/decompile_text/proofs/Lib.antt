@@ -9,3 +9,4 @@ pub mod OneByOne
 pub mod Puts
 pub mod StoreTexts
 pub mod WholeTexts
+pub mod ValueSizes

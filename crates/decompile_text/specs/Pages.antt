@@ -1,13 +1,12 @@
 -- A page with more text.
-use Rattle.std.specs.Prelude.{◌≡◌, ℕ, ◌+◌, nat_lt, if◌then◌else◌, List, [], ◌∷◌, ◌++◌, length}
-use Rattle.kmn_base.specs.declared.limits.TheConstants.{TEXT_BYTES}
+use Rattle.std.specs.Prelude.{◌≡◌, ℕ, ◌+◌, if◌then◌else◌, List, [], ◌∷◌, ◌++◌, length}
 use Rattle.decompile_text.specs.declared.page.Page.{Page}
 
--- the page with more bytes: the text, which is empty if it is beyond the limit, and the size
+-- the page with more bytes: the size counts them, and the text has them if the page keeps its text
 unfoldable pub with_text : Page → List ℕ → Page
 with_text page [] = page
 with_text page (byte ∷ bytes) = record page {
-  text = if nat_lt TEXT_BYTES (page.size + length (byte ∷ bytes)) then [] else page.text ++ byte ∷ bytes;
+  text = if page.keeps_text then page.text ++ byte ∷ bytes else page.text;
   size = page.size + length (byte ∷ bytes);
 }
 

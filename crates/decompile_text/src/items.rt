@@ -4,13 +4,15 @@ ghost use Rattle.std.specs.Prelude.{◌≡◌, ◌++◌, ◌∷◌, [], map, bit
 ghost use Rattle.std.specs.Fmt.{decimal};
 ghost use Rattle.kmn_base.specs.declared.keys.TheConstants.{VIRTUAL_KEY};
 ghost use Rattle.virtual_keys.specs.Keys.{shift_flags};
+ghost use Rattle.rule_model.specs.Tab.{elements_of};
 ghost use Rattle.kmn_parser.specs.Items.{option_name};
 ghost use Rattle.decompile_text.specs.Pages.{with_text};
 ghost use Rattle.decompile_text.specs.OneByOne.{with_flag_words};
 ghost use Rattle.decompile_text.specs.Texts.{call_text, index_text, compared_text, flag_text, virtual_text, element_text, pattern_text, output_text, key_text};
 
-use crate::characters::{put_character, put_quoted};
+use crate::characters::put_character;
 use crate::page::Page;
+use crate::values::{SizedNames, put_value};
 use decompile_program::Called;
 use kmn_base::keys::VIRTUAL_KEY;
 use kmn_base::{Element, Memory, RuleKey};
@@ -83,20 +85,21 @@ fn put_sign(page: &mut Page, sign: &[u8]) -> Result<(), Memory>
     page.put(b" ")
 }
 
-/// Appends a comparison or an assignment: a word, and in parentheses a name, an operator and a value.
+/// Appends a comparison or an assignment: a word, and in parentheses a name, an operator and the value of a store.
 #[tactic(auto, using(crate::proofs::Puts::compared_is))]
 fn put_compared(
     page: &mut Page,
     word: &[u8],
     name: &[u8],
     sign: &[u8],
-    value: &[Element],
+    names: &SizedNames<'_>,
+    value: u32,
 ) -> Result<(), Memory>
-    ensures { OnOk result (page.new ≡ with_text page.old (compared_text word.now name.now sign.now value.now)) }
+    ensures { OnOk result (page.new ≡ with_text page.old (compared_text word.now name.now sign.now (elements_of names.now.elements value))) }
 {
     put_opened(page, word, name)?;
     put_sign(page, sign)?;
-    put_quoted(page, value)?;
+    put_value(page, names, value)?;
     page.put(b")")
 }
 
@@ -163,27 +166,32 @@ pub(crate) fn put_element(
 
 /// Appends an item of a context.
 #[tactic(auto, using(crate::proofs::MoreText::with_text_append, crate::proofs::MoreText::with_no_text), unfolding(crate::specs::Texts::pattern_text, crate::specs::Texts::quoted_text))]
-pub(crate) fn put_pattern(page: &mut Page, names: &Called<'_>, pattern: &Pat) -> Result<(), Memory>
+pub(crate) fn put_pattern(
+    page: &mut Page,
+    names: &SizedNames<'_>,
+    pattern: &Pat,
+) -> Result<(), Memory>
     ensures { OnOk result (page.new ≡ with_text page.old (pattern_text names.now pattern.now)) }
 {
+    let called = names.called();
     match pattern {
         Pat::Char(c) => put_character(page, *c as u32),
         Pat::Mark(mark) => put_numbered(page, b"dk", u32::from(*mark)),
-        Pat::Any(store) => put_call(page, b"any", names.store(*store)),
-        Pat::NotAny(store) => put_call(page, b"notany", names.store(*store)),
-        Pat::Index(store, offset) => put_index(page, names.store(*store), *offset),
+        Pat::Any(store) => put_call(page, b"any", called.store(*store)),
+        Pat::NotAny(store) => put_call(page, b"notany", called.store(*store)),
+        Pat::Index(store, offset) => put_index(page, called.store(*store), *offset),
         Pat::ContextAt(offset) => put_numbered(page, b"context", *offset),
         Pat::Equal(store, value) => {
-            put_compared(page, b"if", names.store(*store), b"=", names.value(*value))
+            put_compared(page, b"if", called.store(*store), b"=", names, *value)
         }
         Pat::Unequal(store, value) => {
-            put_compared(page, b"if", names.store(*store), b"!=", names.value(*value))
+            put_compared(page, b"if", called.store(*store), b"!=", names, *value)
         }
         Pat::SystemEqual(id, value) => {
-            put_compared(page, b"if", option_name(*id), b"=", names.value(*value))
+            put_compared(page, b"if", option_name(*id), b"=", names, *value)
         }
         Pat::SystemUnequal(id, value) => {
-            put_compared(page, b"if", option_name(*id), b"!=", names.value(*value))
+            put_compared(page, b"if", option_name(*id), b"!=", names, *value)
         }
         Pat::Nul => page.put(b"nul"),
     }
@@ -191,23 +199,28 @@ pub(crate) fn put_pattern(page: &mut Page, names: &Called<'_>, pattern: &Pat) ->
 
 /// Appends an item of an output.
 #[tactic(auto, using(crate::proofs::MoreText::with_text_append, crate::proofs::MoreText::with_no_text), unfolding(crate::specs::Texts::output_text, crate::specs::Texts::quoted_text))]
-pub(crate) fn put_output(page: &mut Page, names: &Called<'_>, output: &Out) -> Result<(), Memory>
+pub(crate) fn put_output(
+    page: &mut Page,
+    names: &SizedNames<'_>,
+    output: &Out,
+) -> Result<(), Memory>
     ensures { OnOk result (page.new ≡ with_text page.old (output_text names.now output.now)) }
 {
+    let called = names.called();
     match output {
         Out::Char(c) => put_character(page, *c as u32),
         Out::Mark(mark) => put_numbered(page, b"dk", u32::from(*mark)),
-        Out::Index(store, offset) => put_index(page, names.store(*store), *offset),
+        Out::Index(store, offset) => put_index(page, called.store(*store), *offset),
         Out::Context => page.put(b"context"),
         Out::ContextAt(offset) => put_numbered(page, b"context", *offset),
-        Out::Enter(group) => put_call(page, b"use", names.group(*group)),
+        Out::Enter(group) => put_call(page, b"use", called.group(*group)),
         Out::Set(store, value) => {
-            put_compared(page, b"set", names.store(*store), b"=", names.value(*value))
+            put_compared(page, b"set", called.store(*store), b"=", names, *value)
         }
-        Out::Save(store) => put_call(page, b"save", names.store(*store)),
-        Out::Reset(store) => put_call(page, b"reset", names.store(*store)),
+        Out::Save(store) => put_call(page, b"save", called.store(*store)),
+        Out::Reset(store) => put_call(page, b"reset", called.store(*store)),
         Out::SetSystem(id, value) => {
-            put_compared(page, b"set", option_name(*id), b"=", names.value(*value))
+            put_compared(page, b"set", option_name(*id), b"=", names, *value)
         }
         Out::Nul => page.put(b"nul"),
         Out::Beep => page.put(b"beep"),

@@ -9,6 +9,7 @@ ghost use Rattle.decompile_text.specs.Texts.{outputs_text, some_outputs_text, ru
 
 use crate::items::{put_call, put_element, put_key_part, put_output, put_pattern};
 use crate::page::Page;
+use crate::values::SizedNames;
 use decompile_program::Called;
 use kmn_base::{Element, Memory};
 use kmn_parser::system_store_name;
@@ -27,7 +28,7 @@ fn put_elements(page: &mut Page, names: &Called<'_>, elements: &[Element]) -> Re
 }
 
 /// Appends the items of a context, each followed by a space.
-fn put_context(page: &mut Page, names: &Called<'_>, context: &[Pat]) -> Result<(), Memory>
+fn put_context(page: &mut Page, names: &SizedNames<'_>, context: &[Pat]) -> Result<(), Memory>
     ensures { OnOk result (page.new ≡ with_context names.now page.old context.now) }
 {
     for pattern in context {
@@ -38,7 +39,7 @@ fn put_context(page: &mut Page, names: &Called<'_>, context: &[Pat]) -> Result<(
 }
 
 /// Appends the items of an output, each preceded by a space.
-fn put_outputs(page: &mut Page, names: &Called<'_>, outputs: &[Out]) -> Result<(), Memory>
+fn put_outputs(page: &mut Page, names: &SizedNames<'_>, outputs: &[Out]) -> Result<(), Memory>
     ensures { OnOk result (page.new ≡ with_outputs names.now page.old outputs.now) }
 {
     for output in outputs {
@@ -50,7 +51,7 @@ fn put_outputs(page: &mut Page, names: &Called<'_>, outputs: &[Out]) -> Result<(
 
 /// Appends the output of a record, or `nul` if the output is empty.
 #[tactic(auto, using(crate::proofs::MoreText::with_text_append, crate::proofs::MoreText::with_no_text, crate::proofs::OneByOne::elements_are, crate::proofs::OneByOne::context_is, crate::proofs::OneByOne::outputs_are, crate::proofs::OneByOne::rules_are))]
-fn put_some_outputs(page: &mut Page, names: &Called<'_>, outputs: &[Out]) -> Result<(), Memory>
+fn put_some_outputs(page: &mut Page, names: &SizedNames<'_>, outputs: &[Out]) -> Result<(), Memory>
     ensures { OnOk result (page.new ≡ with_text page.old (some_outputs_text names.now outputs.now)) }
 {
     if outputs.is_empty() {
@@ -62,18 +63,18 @@ fn put_some_outputs(page: &mut Page, names: &Called<'_>, outputs: &[Out]) -> Res
 
 /// Appends the line of a record.
 #[tactic(auto, using(crate::proofs::MoreText::with_text_append, crate::proofs::MoreText::with_no_text, crate::proofs::OneByOne::elements_are, crate::proofs::OneByOne::context_is, crate::proofs::OneByOne::outputs_are, crate::proofs::OneByOne::rules_are), unfolding(crate::specs::Texts::rule_text))]
-fn put_rule(page: &mut Page, names: &Called<'_>, rule: &Rule) -> Result<(), Memory>
+fn put_rule(page: &mut Page, names: &SizedNames<'_>, rule: &Rule) -> Result<(), Memory>
     ensures { OnOk result (page.new ≡ with_text page.old (rule_text names.now rule.now)) }
 {
     put_context(page, names, rule.context.as_slice())?;
-    put_key_part(page, names, &rule.key)?;
+    put_key_part(page, names.called(), &rule.key)?;
     page.put(b">")?;
     put_some_outputs(page, names, rule.output.as_slice())?;
     page.put(b"\n")
 }
 
 /// Appends the lines of records.
-fn put_rules(page: &mut Page, names: &Called<'_>, rules: &[Rule]) -> Result<(), Memory>
+fn put_rules(page: &mut Page, names: &SizedNames<'_>, rules: &[Rule]) -> Result<(), Memory>
     ensures { OnOk result (page.new ≡ with_rules names.now page.old rules.now) }
 {
     for rule in rules {
@@ -86,7 +87,7 @@ fn put_rules(page: &mut Page, names: &Called<'_>, rules: &[Rule]) -> Result<(), 
 #[tactic(auto, using(crate::proofs::MoreText::with_text_append, crate::proofs::OneByOne::outputs_are))]
 fn put_some_statement(
     page: &mut Page,
-    names: &Called<'_>,
+    names: &SizedNames<'_>,
     word: &[u8],
     outputs: &[Out],
 ) -> Result<(), Memory>
@@ -102,7 +103,7 @@ fn put_some_statement(
 #[tactic(auto, using(crate::proofs::MoreText::with_no_text))]
 fn put_statement(
     page: &mut Page,
-    names: &Called<'_>,
+    names: &SizedNames<'_>,
     word: &[u8],
     outputs: &[Out],
 ) -> Result<(), Memory>
@@ -123,7 +124,12 @@ fn keys_part(using_keys: bool) -> &'static [u8]
 
 /// Appends the lines of a group that has this name.
 #[tactic(auto, using(crate::proofs::MoreText::with_text_append, crate::proofs::MoreText::with_no_text, crate::proofs::OneByOne::elements_are, crate::proofs::OneByOne::context_is, crate::proofs::OneByOne::outputs_are, crate::proofs::OneByOne::rules_are), unfolding(crate::specs::Texts::group_text))]
-fn put_group(page: &mut Page, names: &Called<'_>, name: &[u8], group: &Group) -> Result<(), Memory>
+fn put_group(
+    page: &mut Page,
+    names: &SizedNames<'_>,
+    name: &[u8],
+    group: &Group,
+) -> Result<(), Memory>
     ensures { OnOk result (page.new ≡ with_text page.old (group_text names.now name.now group.now)) }
 {
     put_call(page, b"group", name)?;
@@ -136,13 +142,14 @@ fn put_group(page: &mut Page, names: &Called<'_>, name: &[u8], group: &Group) ->
 /// Appends the lines of the groups.
 pub(crate) fn put_groups(
     page: &mut Page,
-    names: &Called<'_>,
+    names: &SizedNames<'_>,
     groups: &[Group],
 ) -> Result<(), Memory>
     ensures { OnOk result (page.new ≡ with_groups names.now 0 page.old groups.now) }
 {
+    let called = names.called();
     for (number, group) in groups.iter().enumerate() {
-        put_group(page, names, names.group_at(number), group)?;
+        put_group(page, names, called.group_at(number), group)?;
     }
     Ok(())
 }

@@ -1,7 +1,7 @@
 //! Writes the whole text of tables.
 
-ghost use Rattle.std.specs.Prelude.{◌≡◌, ◌≤◌, ◌++◌, [], false, length, nat_lt, true, unwrap_or, slice_get, if◌then◌else◌, IfOk, OnOk};
-ghost use Rattle.kmn_base.specs.declared.limits.TheConstants.{KEY_NAMES, TEXT_BYTES};
+ghost use Rattle.std.specs.Prelude.{◌≡◌, ◌≤◌, ◌++◌, [], length, unwrap_or, slice_get, if◌then◌else◌, IfOk, OnOk};
+ghost use Rattle.kmn_base.specs.declared.limits.TheConstants.{KEY_NAMES};
 ghost use Rattle.rule_model.specs.Tab.{tab_dictionary};
 ghost use Rattle.kmn_parser.specs.Programs.{program_text};
 ghost use Rattle.decompile_program.specs.Back.{back, names_for, free_stores, mark_stores, key_stores};
@@ -11,7 +11,8 @@ ghost use Rattle.decompile_text.specs.Whole.{front_text, tables_text, IsFront};
 use crate::front::{put_key_store, put_mark_store, put_version};
 use crate::lines::{put_begins, put_groups, put_stores};
 use crate::page::Page;
-use decompile_program::{Called, greatest_mark, own_keys};
+use crate::values::SizedNames;
+use decompile_program::{greatest_mark, own_keys};
 use indexed_tables::IndexedTables;
 use kmn_base::{Memory, Text};
 use rule_model::Tables;
@@ -97,7 +98,7 @@ fn put_front(page: &mut Page, front: &Front, tables: &Tables, free: &[Text]) -> 
 fn put_tables(
     page: &mut Page,
     front: &Front,
-    names: &Called<'_>,
+    names: &SizedNames<'_>,
     tables: &Tables,
     free: &[Text],
 ) -> Result<(), Memory>
@@ -106,29 +107,45 @@ fn put_tables(
     requires names { names.now ≡ names_for tables.now }
     ensures { OnOk result (page.new ≡ with_text page.old (tables_text tables.now)) }
 {
+    let called = names.called();
     put_front(page, front, tables, free)?;
-    put_stores(page, names, tables.stores.as_slice())?;
-    put_begins(page, names, tables.start_unicode, tables.start_ansi)?;
+    put_stores(page, called, tables.stores.as_slice())?;
+    put_begins(page, called, tables.start_unicode, tables.start_ansi)?;
     put_groups(page, names, tables.groups.as_slice())
 }
 
-/// Returns the text of tables with its size in bytes. If the size is above the limit of a text, the page has the size but no text.
-#[tactic(auto, using(crate::proofs::FrontTexts::text_of_tables, crate::proofs::MoreText::page_size, crate::proofs::MoreText::page_text, crate::proofs::MoreText::page_past))]
-pub fn page_of(
+/// Returns the size of the text of tables in bytes. Does not write the text, so the time is linear in the size of the tables.
+pub fn text_size(
     alloc: Global,
     front: &Front,
-    names: &Called<'_>,
+    names: &SizedNames<'_>,
     tables: &Tables,
     free: &[Text],
-) -> Result<Page, Memory>
+) -> Result<u64, Memory>
     requires front { IsFront tables.now front.now }
     requires free { free.now ≡ free_stores tables.now }
     requires names { names.now ≡ names_for tables.now }
-    ensures size { IfOk result (λ page. page.size ≡ length (program_text (back tables.now))) }
-    ensures text { IfOk result (λ page. nat_lt TEXT_BYTES page.size ≡ false → page.text ≡ program_text (back tables.now)) }
-    ensures past { IfOk result (λ page. nat_lt TEXT_BYTES page.size ≡ true → page.text ≡ []) }
+    ensures { IfOk result (λ size. size ≡ length (program_text (back tables.now))) }
 {
-    let mut page = Page::new(alloc);
+    let mut page = Page::new(alloc, false);
     put_tables(&mut page, front, names, tables, free)?;
-    Ok(page)
+    Ok(page.size)
+}
+
+/// Returns the text of tables. Does not limit the text: a caller asks `text_size` before.
+pub fn text_of(
+    alloc: Global,
+    front: &Front,
+    names: &SizedNames<'_>,
+    tables: &Tables,
+    free: &[Text],
+) -> Result<Text, Memory>
+    requires front { IsFront tables.now front.now }
+    requires free { free.now ≡ free_stores tables.now }
+    requires names { names.now ≡ names_for tables.now }
+    ensures { IfOk result (λ text. text ≡ program_text (back tables.now)) }
+{
+    let mut page = Page::new(alloc, true);
+    put_tables(&mut page, front, names, tables, free)?;
+    Ok(page.text)
 }

@@ -19,7 +19,7 @@ use crate::order::disorder;
 use crate::places::least_cause;
 use crate::refusals::DecompileError;
 use decompile_program::{Called, called_by, free_stores};
-use decompile_text::{Front, front_count, front_of, page_of};
+use decompile_text::{Front, SizedNames, front_count, front_of, text_of, text_size};
 use indexed_tables::IndexedTables;
 use kmn_base::Text;
 use kmn_base::limits::TEXT_BYTES;
@@ -47,14 +47,15 @@ fn text_within(
     ensures within { OnOk result (excess (back tables.now) ≡ None) }
     ensures refused { IfErr result (λ error. IsRefusal error (λ why. excess (back tables.now) ≡ Some why)) }
 {
-    let page = page_of(alloc, front, names, tables, free)?;
-    if (TEXT_BYTES as u64) < page.size {
-        return Err(DecompileError::Refused(NoSpelling::TooLarge { size: page.size }));
+    let sized = SizedNames::new(alloc, names)?;
+    let size = text_size(alloc, front, &sized, tables, free)?;
+    if (TEXT_BYTES as u64) < size {
+        return Err(DecompileError::Refused(NoSpelling::TooLarge { size }));
     }
     let counts = count_all(alloc, front, names, tables)?;
     match passed(counts) {
         Some(why) => Err(DecompileError::Refused(why)),
-        None => Ok(page.text),
+        None => Ok(text_of(alloc, front, &sized, tables, free)?),
     }
 }
 

@@ -1,30 +1,17 @@
-use Rattle.std.proofs.Common.{arith}
-use Rattle.kmx_decompiler.proofs.Refusing.{larger_text, text_within}
+use Rattle.std.proofs.Common.{ℕ, sym, ap, ◌∙◌}
+use Rattle.std.proofs.lemmas.Bool.{le-ltb}
+use Rattle.kmn_base.specs.declared.limits.TheConstants.{TEXT_BYTES}
+use Rattle.rule_model.specs.declared.program.Program.{Program}
+use Rattle.decompile_program.specs.Back.{back}
+use Rattle.kmx_decompiler.specs.Excess.{element_count}
+use Rattle.kmx_decompiler.specs.Refusals.{too_many}
+use Rattle.kmx_decompiler.proofs.Refusing.{text_within}
 use Rattle.kmx_decompiler.proofs.decompiling.text_within.Goals as goal
 
-pub returns-then-page-clause-text : goal.returns-then-page-clause-text
-returns-then-page-clause-text c = grind (arith, larger_text, text_within)
-
-pub returns-then-page-clause-within : goal.returns-then-page-clause-within
-returns-then-page-clause-within c = grind (arith, larger_text, text_within)
-
-pub returns-then-page-clause-refused : goal.returns-then-page-clause-refused
-returns-then-page-clause-refused c = grind (arith, larger_text, text_within)
-
-pub returns-in-Some-clause-text : goal.returns-in-Some-clause-text
-returns-in-Some-clause-text c = grind (arith, larger_text, text_within)
-
-pub returns-in-Some-clause-within : goal.returns-in-Some-clause-within
-returns-in-Some-clause-within c = grind (arith, larger_text, text_within)
-
 pub returns-in-Some-clause-refused : goal.returns-in-Some-clause-refused
-returns-in-Some-clause-refused c = grind (arith, larger_text, text_within)
-
-pub returns-in-None-clause-text : goal.returns-in-None-clause-text
-returns-in-None-clause-text c = grind (arith, larger_text, text_within)
-
-pub returns-in-None-clause-within : goal.returns-in-None-clause-within
-returns-in-None-clause-within c = grind (arith, larger_text, text_within)
-
-pub returns-in-None-clause-refused : goal.returns-in-None-clause-refused
-returns-in-None-clause-refused c = grind (arith, larger_text, text_within)
+returns-in-Some-clause-refused c =
+    let program : Program = back c.args.tables.now in
+    text_within program c.in_ok-size.size c.in_ok-size.ensures (le-ltb TEXT_BYTES c.in_ok-size.size c.if-size.false)
+    ∙ ap (λ (stores : ℕ). too_many stores (element_count program)) (sym c.in_ok-counts.ensures.stores)
+    ∙ ap (too_many c.in_ok-counts.counts.stores) (sym c.in_ok-counts.ensures.elements)
+    ∙ sym c.passed.ensures ∙ c.in-Some.is
