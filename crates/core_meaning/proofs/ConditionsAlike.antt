@@ -1,4 +1,4 @@
--- Conditions are true in Keyman's own engine exactly where they are in this product, if both try them alike.
+-- Conditions are true in Keyman's own engine if and only if they are in this product, if both test them in the same way.
 use Rattle.std.specs.Prelude.{◌≡◌, ℕ, Bool, true, false, not, ◌&&◌, ◌||◌, List, [], ◌∷◌, Option, Some, unwrap_or, slice_get}
 use Rattle.std.specs.List.{list_all, list_any}
 use Rattle.std.specs.Option.{option_map_or}

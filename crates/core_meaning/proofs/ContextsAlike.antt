@@ -1,4 +1,4 @@
--- Contexts match in Keyman's own engine as in this product, if each of their items is compared alike.
+-- Contexts match in Keyman's own engine as in this product, if each of their items is compared in the same way.
 use Rattle.std.specs.Prelude.{◌≡◌, ℕ, zero, suc, ◌+◌, ◌<◌, Bool, true, false, not, ◌&&◌, cond, if◌then◌else◌, List, [], ◌∷◌, ◌++◌, length, map, take, filter_map, count_by, slice_get, unwrap_or, is_some, option_and_then, Option, Some, None}
 use Rattle.std.specs.Option.{option_map_or}
 use Rattle.std.specs.List.{list_all, cons_option}
@@ -138,7 +138,7 @@ left_with_condition content stores rest text met item left =
     subst (λ (s : List Item). Left content stores rest text (catches_of met ++ nothing_caught ∷ []) (places_of met ++ 0 ∷ []) s) (append-nil (seen_of met))
     (left_with content stores rest text met (met_condition item) [] refl left)
 
--- an item that both compare with the next item of the text, with the same answer
+-- an item that both compare with the next item of the text, with the same result
 left_behind : (content : Content) (stores : List Store) (rest : List Pat) (text : List Item) (met : List Met) (m : Met) (x : Item) (here there : Bool) → here ≡ there → m.catch.item ≡ Some x
     → (here ≡ true → LeftOf content stores rest text (met ++ m ∷ []))
     → FindsAlike (if here then catches_from content (catches_of met ++ m.catch ∷ []) (map (tab_pattern stores) rest) text else None)
@@ -165,7 +165,7 @@ condition_met item compared not_any =
       compared = λ told. absurd (false_true (sym compared ∙ told));
     }
 
--- an item of a context that is no `any`
+-- an item of a context that is not an `any`
 item_met : (item : Pat) (x : Item) (found : ℕ) → (IsAnyItem (Some item) → ⊥) → IsMet (met_item item x None found)
 item_met item x found not_any =
     record {

@@ -22,7 +22,7 @@ use Rattle.core_meaning.specs.ContextLaws.{is_compared, IsAlike, AreAlike, Finds
 use Rattle.core_meaning.proofs.ContextsAlike.{contexts_match_alike}
 use Rattle.core_meaning.proofs.ConditionsAlike.{conditions_are_alike}
 
--- an item that is compared alike is no `nul`, and is compared here exactly where it is there
+-- an item that is compared in the same way is not a `nul`, and is compared here exactly where it is there
 no_nul : (others : List Pat) (item : Pat) → IsAlike others item → is_nul item ≡ false
 no_nul others (pattern.Char c) alike = refl
 no_nul others (pattern.Mark m) alike = refl
@@ -82,7 +82,7 @@ same_conditions : (kb : CoreKeyboard) (content : Content) (stores : List Store) 
 same_conditions kb content stores [] alike = refl
 same_conditions kb content stores (item ∷ context) alike = λ i. conditions_are_alike kb content stores item alike.0 i && same_conditions kb content stores context alike.1 i
 
--- the text has room for n items exactly where the window has, if it is long enough
+-- the text has n items exactly where the window has, if it is long enough
 test_of : (a b : ℕ) → a ≤ b → nat_le a b ≡ true
 test_of a b fits = grind (arith, leb_tells)
 
@@ -111,7 +111,7 @@ count_of_last n window fits = length-drop (length window - n) window ∙ back (l
 fits_of : (a b : ℕ) → nat_le a b ≡ true → a ≤ b
 fits_of a b told = grind (arith, leb_tells)
 
--- both hold by the same conditions and the same room, and then match alike
+-- both hold by the same conditions and the same length of the text, and then match in the same way
 by_tests : (conditions room : Bool) (here : Option (List Catch)) (there : Tried) → (room ≡ true → FindsAlike here there)
     → FindsAlike (if conditions && room then here else None) (if (room && true) && conditions then there else (false, []))
 by_tests true true here there alike = alike refl

@@ -28,7 +28,7 @@ abbrev pub NamesAny : List Pat → ℕ → Type 0
 NamesAny items zero = ⊥
 NamesAny items (suc before) = IsAnyItem (slice_get items before)
 
--- whether an item of a context is no condition
+-- whether an item of a context is not a condition
 abbrev pub is_compared : Pat → Bool
 is_compared item = not (is_condition item)
 
@@ -37,15 +37,15 @@ abbrev pub NamesCompared : List Pat → ℕ → Type 0
 NamesCompared items zero = ⊥
 NamesCompared items (suc before) = (before < length items) × (list_all is_compared (take (suc before) items) ≡ true)
 
--- an item of a context that both compare alike after others: an `index` names an `any` before it, a `context` an item before it, with
--- no condition up to that, and it is no `nul`
+-- an item of a context that both compare in the same way after others: an `index` names an `any` before it, a `context` an item before
+-- it, with no condition up to that, and the item is not a `nul`
 abbrev pub IsAlike : List Pat → Pat → Type 0
 IsAlike others (pattern.Index store offset) = NamesAny others offset
 IsAlike others (pattern.ContextAt offset) = NamesCompared others offset
 IsAlike others pattern.Nul = ⊥
 IsAlike others _ = Unit {0}
 
--- items of a context that both compare alike after others
+-- items of a context that both compare in the same way after others
 abbrev pub AreAlike : List Pat → List Pat → Type 0
 AreAlike others [] = Unit {0}
 AreAlike others (item ∷ items) = IsAlike others item × AreAlike (others ++ item ∷ []) items
@@ -56,7 +56,7 @@ FindsAlike None tried = tried.0 ≡ false
 FindsAlike (Some catches) tried =
     (tried.0 ≡ true) × ((offset place : ℕ) → place_caught catches offset ≡ Some place → place_found tried.1 offset ≡ place)
 
--- items of a context that both compare alike match the same items of a text, where there are as many of these as are compared
+-- items of a context that both compare in the same way match the same items of a text, if there are as many of these as are compared
 abbrev pub ContextsMatchAlike : Type 0
 ContextsMatchAlike =
     (content : Content) (stores : List Store) (context : List Pat) (text : List Item) → AreAlike [] context → length text ≡ count_by is_compared context
@@ -66,7 +66,7 @@ ContextsMatchAlike =
 abbrev pub stated_platform : List Element
 stated_platform = map element.Char (codes "windows desktop hardware native")
 
--- a value store has the elements of the file, as each store that is no option does
+-- a value store has the elements of the file, as each store that is not an option does
 abbrev pub HasItsElements : Content → List Store → ℕ → Type 0
 HasItsElements content stores value = content (Numbered value) ≡ elements_of stores value
 
@@ -77,7 +77,7 @@ pub record IsOnPlatform (content : Content) (stores : List Store) (id value : �
   pub elements : HasItsElements content stores value
   pub words : has_empty_word (elements_of stores value) ≡ false
 
--- a condition that both try alike: its value is not an option, and a system option is the platform
+-- a condition that both test in the same way: its value is not an option, and a system option is the platform
 abbrev pub IsTriedAlike : Content → List Store → Pat → Type 0
 IsTriedAlike content stores (pattern.Equal store value) = HasItsElements content stores value
 IsTriedAlike content stores (pattern.Unequal store value) = HasItsElements content stores value
@@ -98,7 +98,7 @@ AreTriedAlike content stores (item ∷ items) = IsTriedAlike content stores item
 abbrev pub IsLongEnough : List Pat → (before window : List Item) → Type 0
 IsLongEnough context before window = (count_by is_compared context ≤ length window) ⊎ (before ≡ [])
 
--- what a context catches of the end of a text in this product, where its conditions are true and the text has room for it
+-- what a context catches of the end of a text in this product, if its conditions are true and the text is long enough for it
 abbrev pub caught_of : Content → List Pattern → List Item → Option (List Catch)
 caught_of content context left =
     if list_all (is_true content) context && has_room context left
