@@ -1,4 +1,4 @@
--- A text in UTF-8 is decoded, and any other is nothing.
+-- A text in UTF-8 is decoded; any other text has no characters.
 use Rattle.std.proofs.Common.{◌≡◌, ℕ, List, [], ap, refl, Bool, true, false, if◌then◌else◌}
 use Rattle.std.specs.Prelude.{IsUtf8, chars}
 use Rattle.std.specs.Str.{is_utf8}

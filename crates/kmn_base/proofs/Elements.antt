@@ -1,4 +1,4 @@
--- What stands at the places of a list, and what holds of its elements.
+-- Items of a list by position, and properties of all elements of a list.
 use Rattle.std.proofs.Common.{◌≡◌, ◌≢◌, ℕ, zero, suc, ◌+◌, ◌<◌, ◌≤◌, ◌||◌, Bool, true, List, [], ◌∷◌, ◌++◌, flat_map, length, drop, get_or, set, drop-cons, add-one, refl, ap, sym, ◌∙◌, subst, arith, Option, Some, None}
 use Rattle.std.specs.Prelude.{All, slice_get}
 use Rattle.std.specs.List.{AllByRecursion, cons_option, list_all, list_any}
@@ -36,7 +36,7 @@ module _ {X : Type 0} where
   length-cons_option None xs = omega arith
   length-cons_option (Some x) xs = omega arith
 
-  -- what holds of all elements holds of the one at a place
+  -- if a property is true for all elements, it is true for the element at each position
   pub AllByRecursion_at : (P : X → Type 0) (xs : List X) (k : ℕ) (x : X) → AllByRecursion P xs → slice_get xs k ≡ Some x → P x
   AllByRecursion_at P [] k x h at = absurd (none-some x at)
   AllByRecursion_at P (y ∷ xs) zero x h at = subst P (same_Some y x at) h.0

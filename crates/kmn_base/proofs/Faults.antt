@@ -1,4 +1,4 @@
--- At each place of bytes stands exactly one of: the end, an item, a fault.
+-- At each position of bytes there is exactly one of: the end, an item, a fault.
 use Rattle.std.proofs.Common.{◌≡◌, ℕ, ◌+◌, ◌*◌, ◌/◌, ◌%◌, true, false, Some, None, List, [], ◌∷◌, ◌++◌, length, take, refl, ◌∙◌, ap, inl, inr, arith, lit<}
 use Rattle.std.specs.Prelude.{nat_eq, nat_lt}
 use Rattle.std.specs.List.{AllByRecursion, list_any}
@@ -27,7 +27,7 @@ operands_fault-units code operands bytes =
     = ap (take (length operands)) (whole_units-unit_bytes operands bytes) ∙ take_at operands (whole_units bytes) (length operands) refl in
     cond-false _ _ _ enough ∙ ap (operand_fault code) front
 
--- an item with a sentinel is no fault, where the count of its operands is its code's and they have the form
+-- an item with a sentinel is not a fault if it has as many operands as its code requires and they have the required form
 fault_at-coded : (code : ℕ) (operands rest : List ℕ) → operand_count code ≡ Some (length operands) → operand_fault code operands ≡ None
     → fault_at (unit_bytes (0xFFFF ∷ code ∷ operands) ++ rest) ≡ None
 fault_at-coded code operands rest count form =
@@ -42,7 +42,7 @@ none_is_zero (a ∷ operands) h =
     let others = none_is_zero operands h.1 in
     rw (first, others)
 
--- operands that are not 0 have the form, but those of a virtual key and of a comparison
+-- operands that are not 0 have the required form, except the operands of a virtual key and of a comparison
 operand_fault-plain : (code : ℕ) (operands : List ℕ) → AllByRecursion IsOperand operands → nat_eq code 0x0A ≡ false → is_comparing code ≡ false → operand_fault code operands ≡ None
 operand_fault-plain code operands h no_key no_test = rw (none_is_zero operands h, no_key, no_test)
 

@@ -1,4 +1,4 @@
--- Bytes are spelled to their end in one way, or have one first place at which no item is spelled.
+-- Bytes are spelled to their end in one way, or there is one first position at which no item is spelled.
 use Rattle.std.proofs.Common.{◌≡◌, ℕ, zero, suc, ◌<◌, ◌≤◌, ◌⊎◌, Option, Some, None, List, [], ◌∷◌, ◌++◌, length, refl, sym, ◌∙◌, ap, subst, inl, inr, arith, append_assoc}
 use Rattle.std.specs.Option.{unwrap_or}
 use Rattle.std.specs.List.{All, AllByRecursion, flat_map}
@@ -15,7 +15,7 @@ use Rattle.kmn_base.proofs.Spelling.{spellings_are_prefix_free, spellings_are_sh
 use Rattle.kmn_base.proofs.Faults.{spelled_item_is_no_fault}
 use Rattle.kmn_base.proofs.StandingItems.{no_fault_is_end_or_item}
 
--- two items spelled at the beginning of the same bytes are one
+-- if two items are spelled at the beginning of the same bytes, they are equal
 pub one_item_at_front : (i j : UnitItem) (a b : List ℕ) → IsSpellable i → IsSpellable j → unit_bytes (spelling i) ++ a ≡ unit_bytes (spelling j) ++ b → i ≡ j
 one_item_at_front i j a b h k e =
     spellings_are_prefix_free i j (whole_units a) (whole_units b) h k
@@ -35,12 +35,12 @@ a_fault_begins_with_none bytes fault is item rest h e =
     let no_fault : fault_at bytes ≡ None = ap fault_at e ∙ spelled_item_is_no_fault item rest h in
     cc
 
--- the bytes of an item, and then those of the others
+-- the bytes of a list of items are the bytes of the first item, followed by the bytes of the others
 pub spelled-cons : (i : UnitItem) (items : List UnitItem) (rest : List ℕ)
     → unit_bytes (flat_map spelling (i ∷ items)) ++ rest ≡ unit_bytes (spelling i) ++ (unit_bytes (flat_map spelling items) ++ rest)
 spelled-cons i items rest = ap (λ bs. bs ++ rest) (unit_bytes-append (spelling i) (flat_map spelling items)) ∙ append_assoc (unit_bytes (spelling i)) (unit_bytes (flat_map spelling items)) rest
 
--- two ways to read the same bytes as far as they are spelled are one
+-- if the same bytes are read in two ways as far as they are spelled, the two ways are equal
 pub read_one_way : (items others : List UnitItem) (a b : List ℕ) → AllByRecursion IsSpellable items → AllByRecursion IsSpellable others
     → unit_bytes (flat_map spelling items) ++ a ≡ unit_bytes (flat_map spelling others) ++ b → BeginsWithNone a → BeginsWithNone b → (items ≡ others) × (a ≡ b)
 unfolding BeginsWithNone
@@ -80,7 +80,7 @@ spelled_through_is_not_bad bytes bad h k =
     let ends : fault_at [] ≡ Some (bad.kind, bad.code) = ap fault_at same.1 ∙ k.fault in
     cc
 
--- what is spelled to the end or bad behind an item is so with the item
+-- if the rest after an item is spelled to the end or has a fault, the same is true with the item before it
 spelled_behind : (item : UnitItem) (rest : List ℕ) → IsSpellable item → IsSpelledThrough rest → IsSpelledThrough (unit_bytes (spelling item) ++ rest)
 spelled_behind item rest h through = record {
   items = item ∷ through.items;
@@ -102,7 +102,7 @@ bad_behind item rest h (bad, is) = (
   },
 )
 
--- bytes are spelled to their end or bad somewhere
+-- whether bytes are spelled to their end or have a fault
 Outcome : List ℕ → Type 0
 Outcome bytes = IsSpelledThrough bytes ⊎ ((bad : BadUnits) × IsBadAt bytes bad)
 
@@ -129,7 +129,7 @@ at_the_end : (bytes : List ℕ) → bytes ≡ [] → Outcome bytes
 unfolding Outcome
 at_the_end bytes e = inl (record { items = []; spellable = All-nil IsSpellable; spelled = e })
 
--- what stands behind the first item is shorter
+-- the rest after the first item is shorter
 outcome_from : (bytes : List ℕ) (fault : Option (BadKind × ℕ)) → fault_at bytes ≡ fault → All (λ byte. byte < 256) bytes
     → ((rest : List ℕ) → length rest < length bytes → All (λ byte. byte < 256) rest → Outcome rest) → Outcome bytes
 outcome_from bytes (Some (kind, code)) e h shorter = bad_here bytes kind code e

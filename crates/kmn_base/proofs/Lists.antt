@@ -9,7 +9,7 @@ use Rattle.kmn_base.specs.declared.items.Item.TheVariants.{Char, Mark}
 use Rattle.kmn_base.specs.Lists.{characters, is_mark, without_last, window, IsSound, put}
 use Rattle.kmn_base.specs.Laws.{PutIsSound, TakingKeepsSoundness, WindowOfPut, CharactersOfPutChar, CharactersOfPutMark}
 
--- a list is what the last n leave, and the last n
+-- a list is the list without its last n items, followed by these items
 pub without_last-append-last : {X : Type 0} (n : ℕ) (xs : List X) → without_last n xs ++ drop (length xs - n) xs ≡ xs
 without_last-append-last n xs = take-append-drop (length xs - n) xs
 
@@ -25,7 +25,7 @@ characters-map (c ∷ text) = ap (λ cs. c ∷ cs) (characters-map text)
 pub unmarked : (text : List ℕ) → All (λ item. is_mark item ≡ false) (map Char text)
 unmarked text = All-map (λ item. is_mark item ≡ false) Char text (λ k d h. refl)
 
--- a list without marks is its characters
+-- a list without marks consists of its characters
 pub map-characters : (xs : List Item) → All (λ item. is_mark item ≡ false) xs → map Char (characters xs) ≡ xs
 map-characters [] h = refl
 map-characters (Char c ∷ xs) h = ap (λ items. Char c ∷ items) (map-characters xs (All-tail (λ item. is_mark item ≡ false) (Char c) xs h))
@@ -37,11 +37,11 @@ length-window xs = length-drop (length xs - 64) xs ∙ omega arith
 pub window_short : (xs : List Item) → length xs ≤ 64 → window xs ≡ xs
 window_short xs h = let none : length xs - 64 ≡ 0 = omega arith in rw none
 
--- the window of a list that ends with 64 items is these
+-- if a list ends with 64 items, they are its window
 pub window_at : (front kept : List Item) → length kept ≡ 64 → window (front ++ kept) ≡ kept
 window_at front kept h = drop_at front kept (length (front ++ kept) - 64) (omega (arith, length-append front kept))
 
--- what is appended moves the window along
+-- appending moves the window along
 pub window-append : (xs ys : List Item) → window (xs ++ ys) ≡ window (window xs ++ ys)
 window-append xs ys =
     let a : ℕ = length xs - 64 in
@@ -53,7 +53,7 @@ window-append xs ys =
     = simp (length-append, length-drop) (omega arith) in
     cc
 
--- items without marks and then at most 64 items are a sound list
+-- items without marks, followed by at most 64 items, are a sound list
 pub IsSound_from_front : (front kept : List Item) → All (λ item. is_mark item ≡ false) front → length kept ≤ 64 → IsSound (front ++ kept)
 IsSound_from_front front kept h few =
     let within : length (front ++ kept) - 64 ≤ length front = omega (arith, length-append front kept) in
@@ -73,7 +73,7 @@ taking_keeps_soundness n items h =
     ∙ sym (take-take (length (without_last n items) - 64) (length items - 64) items (omega arith)) in
     All-same (λ item. is_mark item ≡ false) _ _ front (All-take (λ item. is_mark item ≡ false) _ (without_last 64 items) h)
 
--- nothing is forgotten while there are at most 64 items
+-- while there are at most 64 items, no item is forgotten
 pub put_short : (items : List Item) (item : Item) → length items < 64 → put items item ≡ items ++ item ∷ []
 put_short items item h =
     let few : length (items ++ item ∷ []) ≤ 64 = omega (arith, length-append items (item ∷ [])) in

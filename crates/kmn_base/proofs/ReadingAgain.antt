@@ -11,11 +11,11 @@ use Rattle.kmn_base.specs.Lists.{characters, without_last, window, IsSound, stil
 use Rattle.kmn_base.specs.Laws.{ReadingAgainNeedsTheWindow, ReadingAgainIsSound, ReadingAgainGivesTheText, ReadingAgainTheSameText}
 use Rattle.kmn_base.proofs.Lists.{characters-append, characters-map, unmarked, map-characters, without_last-append-last, length-window, IsSound_from_front}
 
--- before the last n stands the front
+-- the list without its last n items is the front
 pub without_last_at : {X : Type 0} (front back : List X) (n : ℕ) → length back ≡ n → without_last n (front ++ back) ≡ front
 without_last_at front back n h = take_at front back (length (front ++ back) - n) (omega (arith, length-append front back))
 
--- the characters still stand: the text ends with them, and it is known what stands before them
+-- if the characters are still there, the text ends with them, and the text before them is known
 pub still_stands-true : (kept : List Item) (text : List ℕ) → still_stands kept text ≡ true → without_last (length (characters kept)) text ++ characters kept ≡ text
 still_stands-true kept text h =
     let at : ℕ = length text - length (characters kept) in

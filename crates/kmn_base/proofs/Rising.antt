@@ -1,8 +1,8 @@
--- Lists of numbers that rise stay so where a number above all is put at their end.
+-- A rising list of numbers still rises after a larger number is appended.
 use Rattle.std.proofs.Common.{◌≡◌, ℕ, ◌+◌, ◌==◌, ◌<◌, ◌≤◌, if◌then◌else◌, List, [], ◌∷◌, ◌++◌, refl, arith}
 use Rattle.kmn_base.specs.Rising.{AllAbove, Rises, times}
 
--- each number is below another
+-- each number of a list is below another number
 abbrev pub AllBelow : ℕ → List ℕ → Type 0
 AllBelow high [] = Unit {0}
 AllBelow high (n ∷ ns) = (n < high) × AllBelow high ns
@@ -27,7 +27,7 @@ pub AllAbove-push : (low n : ℕ) (ns : List ℕ) → low < n → AllAbove low n
 AllAbove-push low n [] lt above = (lt, tt)
 AllAbove-push low n (m ∷ ms) lt (here, rest) = (here, AllAbove-push low n ms lt rest)
 
--- a number above all may be put last
+-- a number above all others can be appended
 pub Rises-push : (n : ℕ) (ns : List ℕ) → AllBelow n ns → Rises ns → Rises (ns ++ n ∷ [])
 Rises-push n [] below rises = (tt, tt)
 Rises-push n (m ∷ ms) (here, below) (above, rises) = (AllAbove-push m n ms here above, Rises-push n ms below rises)
@@ -36,7 +36,7 @@ pub times-push : (n m : ℕ) (ms : List ℕ) → times n (ms ++ m ∷ []) ≡ ti
 times-push n m [] = omega arith
 times-push n m (k ∷ ks) = let rest = times-push n m ks in omega (arith, rest)
 
--- a number above all stands nowhere
+-- a number above all numbers of a list is not in the list
 pub times-none : (n : ℕ) (ns : List ℕ) → AllBelow n ns → times n ns ≡ 0
 times-none n [] below = refl
 times-none n (m ∷ ms) (here, below) = let rest = times-none n ms below in grind (arith, here, rest)

@@ -1,4 +1,4 @@
--- Numbers, each once, rising: they rise, and each number of the list is among them.
+-- The sorted list of distinct numbers: it rises, and it contains each number of the list.
 use Rattle.std.proofs.Common.{◌≡◌, ℕ, zero, suc, ◌+◌, ◌<◌, ◌||◌, ◌⊎◌, inl, inr, List, [], ◌∷◌, length, Contains, refl, sym, subst, arith, Ordering, Less, Equal, Greater}
 use Rattle.std.specs.Prelude.{nat_eq, slice_index, slice_index_or}
 use Rattle.std.specs.List.{fold, list_any}
@@ -11,7 +11,7 @@ use Rattle.std.proofs.lemmas.Cmp.{ranked}
 use Rattle.std.proofs.lemmas.List.Elements.{Contains-append_right}
 use Rattle.kmn_base.specs.Rising.{AllAbove, Rises, is_among, rising}
 
--- a number compares equal to itself alone
+-- a number compares equal only to itself
 at_is : (n m : ℕ) → is_at (nat_cmp n) m ≡ nat_eq n m
 at_is n m = grind (arith, nat_tests)
 

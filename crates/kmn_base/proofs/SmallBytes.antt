@@ -4,7 +4,7 @@ use Rattle.std.specs.List.{All, AllByRecursion}
 use Rattle.std.proofs.lemmas.List.Elements.{All-nil, All-cons, All-head, All-tail, All-from_get_or}
 use Rattle.kmn_base.specs.Spelling.{unit_bytes, whole_units}
 
--- all of them are bytes
+-- all numbers of a list are bytes
 abbrev pub AreBytes : List ℕ → Type 0
 AreBytes = All (λ byte. byte < 256)
 
@@ -17,7 +17,7 @@ byte_small [] h i = lit< tt
 byte_small (byte ∷ bytes) h zero = All-head (λ b. b < 256) byte bytes h
 byte_small (byte ∷ bytes) h (suc i) = byte_small bytes (All-tail (λ b. b < 256) byte bytes h) i
 
--- all of them are UTF-16 units
+-- all numbers of a list are UTF-16 units
 abbrev pub AreUnits : List ℕ → Type 0
 AreUnits = All (λ unit. unit < 65536)
 

@@ -1,4 +1,4 @@
--- Where bytes have no fault they end or begin with an item.
+-- If bytes have no fault, they end or begin with an item.
 use Rattle.std.proofs.Common.{◌≡◌, ℕ, ◌+◌, ◌-◌, ◌*◌, ◌/◌, ◌%◌, ◌^◌, ◌<◌, ◌≤◌, Bool, true, false, cond, not, ◌||◌, ◌⊎◌, Option, Some, None, List, [], ◌∷◌, ◌++◌, length, take, refl, sym, ◌∙◌, ap, subst, inl, inr, arith}
 use Rattle.std.specs.Prelude.{nat_eq, nat_lt, nat_le, if◌then◌else◌}
 use Rattle.std.specs.List.{All, AllByRecursion, list_any}
@@ -14,13 +14,13 @@ use Rattle.kmn_base.specs.Laws.{NoFaultIsEndOrItem}
 use Rattle.kmn_base.specs.Spelling.{spelling, IsOperand, IsSpellable, unit_bytes, whole_units, BeginsWithItem, is_high_surrogate, is_low_surrogate, operand_count, operand_fault, end_fault, operands_fault, without_code, code_fault, sentinel_fault, pair_fault, unit_fault}
 use Rattle.kmn_base.proofs.UnitBytes.{unit_bytes_joined, BeginsWithUnits, begins_with_units}
 
--- an item has this spelling
+-- whether some item has this spelling
 record IsSpelled (units : List ℕ) : Type 0 where
   item : UnitItem
   spellable : IsSpellable item
   spelled : spelling item ≡ units
 
--- the codes by how many operands they have
+-- the codes, grouped by the number of their operands
 abbrev none_codes : List ℕ
 none_codes = 0x03 ∷ 0x04 ∷ 0x06 ∷ 0x07 ∷ []
 
@@ -33,7 +33,7 @@ two_codes = 0x02 ∷ 0x13 ∷ 0x18 ∷ []
 abbrev three_codes : List ℕ
 three_codes = 0x0A ∷ 0x14 ∷ 0x17 ∷ []
 
--- what holds of each number of a list holds of one that the test finds in it
+-- if a property is true for each number of a list, it is true for a number that the test finds in the list
 pub listed : (P : ℕ → Type 0) (codes : List ℕ) (code : ℕ) → AllByRecursion P codes → list_any (nat_eq code) codes ≡ true → P code
 listed P [] code h e = absurd (cc)
 listed P (c ∷ codes) code h e = elim (cases_Bool (nat_eq code c)) [
@@ -91,12 +91,12 @@ two_operands code (a ∷ b ∷ []) e l h = listed (λ n. IsSpelled (0xFFFF ∷ n
 ) e
 two_operands code (a ∷ b ∷ c ∷ operands) e l h = absurd (omega arith)
 
--- which of two counts was given
+-- which of two counts was returned
 some_if : (b : Bool) (k : ℕ) (o : Option ℕ) (n : ℕ) → cond b (Some k) o ≡ Some n → ((b ≡ true) × (k ≡ n)) ⊎ (o ≡ Some n)
 some_if true k o n e = inl (refl, (cc))
 some_if false k o n e = inr e
 
--- what a test that answers None found
+-- if a test that returns a value when it succeeds returns None, it failed, and so did the rest
 none_if : {X : Type 0} (b : Bool) (x : X) (o : Option X) → cond b (Some x) o ≡ None → (b ≡ false) × (o ≡ None)
 none_if true x o e = absurd (cc)
 none_if false x o e = (refl, e)
@@ -138,14 +138,14 @@ three_operands : (code : ℕ) (operands : List ℕ) → list_any (nat_eq code) t
 three_operands code operands e l h form = listed (λ n. operand_fault n operands ≡ None → IsSpelled (0xFFFF ∷ n ∷ operands)) three_codes code
     (key_operands operands l h, (test_operands operands l h, (system_operands operands l h, tt))) e form
 
--- operands of 16 bits, none of which is 0
+-- operands are units of 16 bits and not 0
 operands_of : (operands : List ℕ) → AllByRecursion (λ unit. unit < 2 ^ 16) operands → list_any (nat_eq 0) operands ≡ false → AllByRecursion IsOperand operands
 operands_of [] h e = tt
 operands_of (a ∷ operands) h e =
     let parts = or_parts (nat_eq 0 a) (list_any (nat_eq 0) operands) e in
     ((omega (arith, eqb-false 0 a parts.0), h.0), operands_of operands h.1 parts.1)
 
--- the operands of a code, as many as it asks for and in its form, make an item
+-- operands of a code form an item if their number and their form are those that the code requires
 item_of_operands : (code n : ℕ) (operands : List ℕ) → operand_count code ≡ Some n → length operands ≡ n → AllByRecursion (λ unit. unit < 2 ^ 16) operands
     → operand_fault code operands ≡ None → IsSpelled (0xFFFF ∷ code ∷ operands)
 item_of_operands code n operands count l small form =
@@ -169,7 +169,7 @@ without_code-none : (o : Option BadKind) → without_code o ≡ None → o ≡ N
 without_code-none None e = refl
 without_code-none (Some kind) e = absurd (cc)
 
--- an item stands where its units begin the bytes
+-- if units are the beginning of the bytes, the bytes begin with their item
 standing : (units bytes rest : List ℕ) → bytes ≡ unit_bytes units ++ rest → IsSpelled units → BeginsWithItem bytes
 standing units bytes rest e found = record {
   item = found.item;
@@ -214,7 +214,7 @@ pair_char high low a b c d =
       spelled = cond-false (nat_lt code 0x1_0000) _ _ (le-ltb code 0x1_0000 above) ∙ cc (first, second);
     }
 
--- what a test, false where its answer is None, leaves
+-- if a test that continues only when it succeeds returns None, it succeeded, and the rest is None
 none_unless : {X : Type 0} (b : Bool) (o : Option X) (x : X) → cond b o (Some x) ≡ None → (b ≡ true) × (o ≡ None)
 none_unless true o x e = (refl, e)
 none_unless false o x e = absurd (cc)
@@ -242,7 +242,7 @@ lone_char unit below no_sentinel no_zero no_high no_low = record {
   spelled = cond-true (nat_lt unit 0x1_0000) _ _ (lt-ltb unit 0x1_0000 below);
 }
 
--- what is wrong with a unit that is no sentinel
+-- the fault of a unit that is not a sentinel
 abbrev low_fault : ℕ → Option (BadKind × ℕ)
 low_fault unit = if is_low_surrogate unit then Some (U1, 0) else None
 

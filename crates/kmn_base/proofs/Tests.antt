@@ -1,4 +1,4 @@
--- Where two tests lead, one behind the other.
+-- The result of two nested `if`s: the second test fails, or both succeed.
 use Rattle.std.proofs.Common.{◌≡◌, Bool, true, false, not, if◌then◌else◌, refl}
 
 pub second_fails : {X : Type 0} (long sound : Bool) (a b c : X) → long ≡ false → ¬ (sound ≡ true) → (if long then a else (if not sound then b else c)) ≡ b

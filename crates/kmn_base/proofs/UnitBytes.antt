@@ -26,7 +26,7 @@ unit_low low high h = omega arith
 pub unit_high : (low high : ℕ) → low < 256 → (low + 256 * high) / 256 ≡ high
 unit_high low high h = omega arith
 
--- the bytes of a unit that was put together from bytes
+-- the bytes of a unit that is joined from two bytes
 pub unit_bytes_joined : (low high : ℕ) (us : List ℕ) → low < 256 → unit_bytes ((low + 256 * high) ∷ us) ≡ low ∷ high ∷ unit_bytes us
 unit_bytes_joined low high us h =
     let first = unit_low low high h in

@@ -1,4 +1,4 @@
--- The definitions at examples that were worked out by hand.
+-- The definitions applied to examples that were worked out by hand.
 use Rattle.std.proofs.Common.{◌≡◌, ℕ, Some, List, [], ◌∷◌, ◌++◌, map, replicate, refl, arith}
 use Rattle.std.proofs.lemmas.List.Elements.{All-from_recursion}
 use Rattle.kmn_base.specs.declared.items.Item.{Item}
@@ -16,7 +16,7 @@ wide_characters = refl
 no_end_of_key : fault_at (unit_bytes (0xFFFF ∷ 0x0A ∷ 0x4000 ∷ 0x41 ∷ 0x11 ∷ [])) ≡ Some (U4, 0)
 no_end_of_key = refl
 
--- a character, and then a code that no item has
+-- a character, followed by a code that no item has
 unlisted_code : IsBadAt (unit_bytes (0x61 ∷ 0xFFFF ∷ 0x09 ∷ [])) (record { kind = U2; at = 2; code = 9 })
 unlisted_code = record {
   items = unit.Char 0x61 ∷ [];
@@ -27,7 +27,7 @@ unlisted_code = record {
   fault = refl;
 }
 
--- each kind of fault at its own place
+-- each kind of fault at its own position
 no_partner : fault_at (unit_bytes (0xD83D ∷ 0x61 ∷ [])) ≡ Some (U1, 0)
 no_partner = refl
 
@@ -49,7 +49,7 @@ ends_in_a_unit = refl
 neither_equal_nor_unequal : fault_at (unit_bytes (0xFFFF ∷ 0x14 ∷ 0x01 ∷ 0x07 ∷ 0x01 ∷ [])) ≡ Some (U5, 0)
 neither_equal_nor_unequal = refl
 
--- a deadkey before 63 letters stands, and before 64 it is forgotten
+-- a mark before 63 letters is kept, and a mark before 64 letters is forgotten
 letters : ℕ → List Item
 letters n = replicate n (Char 0x61)
 
@@ -61,18 +61,18 @@ forgotten_mark : put (Mark 1 ∷ letters 63) (Char 0x61) ≡ letters 64
 unfolding letters
 forgotten_mark = refl
 
--- the caret at the start, and back behind the letter: the deadkey is gone
+-- the caret moves to the start and back after the letter: the mark is gone
 caret_away : read_again (Char 0x78 ∷ Mark 1 ∷ []) [] ≡ []
 caret_away = refl
 
 caret_back : read_again [] (0x78 ∷ []) ≡ Char 0x78 ∷ []
 caret_back = refl
 
--- three letters before a short context: the deadkey is gone
+-- three letters before a short text: the mark is gone
 before_a_short_context : read_again (Char 0x78 ∷ Mark 1 ∷ []) (replicate 3 0x79 ++ 0x78 ∷ []) ≡ map Char (replicate 3 0x79 ++ 0x78 ∷ [])
 before_a_short_context = refl
 
--- a hundred letters before a full window: the deadkey stands
+-- a hundred letters before a full window: the mark is kept
 before_a_full_window : read_again (replicate 70 (Char 0x78) ++ Mark 1 ∷ []) (replicate 100 0x79 ++ replicate 70 0x78)
     ≡ replicate 100 (Char 0x79) ++ replicate 70 (Char 0x78) ++ Mark 1 ∷ []
 before_a_full_window = refl

@@ -1,11 +1,11 @@
--- The kinds of bytes that sources and scripts are made of.
+-- The kinds of bytes in sources and scripts.
 use Rattle.std.specs.Prelude.{ℕ, ◌-◌, ◌==◌, nat_le, Bool, ◌&&◌, ◌||◌, if◌then◌else◌, Option, None, Some}
 
--- a blank is a space or a tab
+-- whether a byte is a blank: a space or a tab
 abbrev pub is_blank : ℕ → Bool
 is_blank byte = (byte == 32) || (byte == 9)
 
--- a quote is " or '
+-- whether a byte is a quote: " or '
 abbrev pub is_quote : ℕ → Bool
 is_quote byte = (byte == 34) || (byte == 39)
 

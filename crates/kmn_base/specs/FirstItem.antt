@@ -1,4 +1,4 @@
--- The item that units begin with, read from the front.
+-- The item at the beginning of units, read from the front.
 use Rattle.std.specs.Prelude.{ℕ, nat_eq, if◌then◌else◌, List, [], ◌∷◌, Option, Some, None}
 use Rattle.std.specs.Char.Utf16.{surrogate_pair_char}
 use Rattle.kmn_base.specs.declared.units.UnitItem.{UnitItem}
@@ -6,7 +6,7 @@ use Rattle.kmn_base.specs.declared.units.UnitItem.TheVariants.{Char, Any, Index,
 use Rattle.kmn_base.specs.declared.units.TheConstants.{SENTINEL}
 use Rattle.kmn_base.specs.Spelling.{is_high_surrogate}
 
--- an item of one operand, of two, of three, which are the first of the units
+-- an item with one, two or three operands, which are the first units
 abbrev pub with_one : (ℕ → UnitItem) → List ℕ → Option UnitItem
 with_one item [] = None
 with_one item (a ∷ units) = Some (item a)
@@ -22,7 +22,7 @@ with_three item (a ∷ []) = None
 with_three item (a ∷ b ∷ []) = None
 with_three item (a ∷ b ∷ c ∷ units) = Some (item a b c)
 
--- the item of a code, whose operands are the first of the units
+-- the item of a code, whose operands are the first units
 abbrev pub coded_item : ℕ → List ℕ → Option UnitItem
 coded_item code units =
     if nat_eq code 0x01 then with_one Any units
@@ -44,7 +44,7 @@ coded_item code units =
     else if nat_eq code 0x18 then with_two SetSystem units
     else None
 
--- the item behind a sentinel
+-- the item after a sentinel
 abbrev pub item_behind_sentinel : List ℕ → Option UnitItem
 item_behind_sentinel [] = None
 item_behind_sentinel (code ∷ units) = coded_item code units
@@ -54,7 +54,7 @@ abbrev pub paired_item : ℕ → List ℕ → Option UnitItem
 paired_item high [] = None
 paired_item high (low ∷ units) = Some (Char (surrogate_pair_char high low))
 
--- the item that units begin with, where no fault is at them
+-- the item at the beginning of units, if there is no fault at them
 abbrev pub first_item : List ℕ → Option UnitItem
 first_item [] = None
 first_item (unit ∷ units) =

@@ -1,5 +1,5 @@
--- The laws of the text before the caret: what putting, taking and reading again keep. The laws of spelling: one spelling
--- each, and at each place exactly one of the end, an item, a fault.
+-- The laws of the text before the caret: what putting, taking and reading again preserve. The laws of spelling: each item has one
+-- spelling, and at each position there is exactly one of the end, an item, a fault.
 use Rattle.std.specs.Prelude.{◌≡◌, ℕ, ◌^◌, ◌<◌, ◌≤◌, ◌⊎◌, List, [], ◌∷◌, ◌++◌, length, All, None}
 use Rattle.kmn_base.specs.declared.items.Item.{Item}
 use Rattle.kmn_base.specs.declared.items.Item.TheVariants.{Char, Mark}
@@ -8,39 +8,39 @@ use Rattle.kmn_base.specs.declared.units.BadUnits.{BadUnits}
 use Rattle.kmn_base.specs.Lists.{characters, without_last, window, IsSound, put, read_again}
 use Rattle.kmn_base.specs.Spelling.{spelling, IsSpellable, Spells, unit_bytes, BeginsWithItem, fault_at, IsBadAt, IsSpelledThrough}
 
--- after a put each mark stands in the window, whatever stood before
+-- after a put, each mark is in the window, whatever the list was before
 abbrev pub PutIsSound : Type 0
 PutIsSound = (items : List Item) (item : Item) → IsSound (put items item)
 
--- what is left of a sound list after its last items were taken is sound
+-- if the last items of a sound list are taken, the rest is sound
 abbrev pub TakingKeepsSoundness : Type 0
 TakingKeepsSoundness = (n : ℕ) (items : List Item) → IsSound items → IsSound (without_last n items)
 
--- the window after a put depends on the window before it alone
+-- the window after a put depends only on the window before it
 abbrev pub WindowOfPut : Type 0
 WindowOfPut = (items : List Item) (item : Item) → window (put items item) ≡ window (window items ++ item ∷ [])
 
--- a put character comes behind the characters that stood before
+-- a put character comes after the characters that were there before
 abbrev pub CharactersOfPutChar : Type 0
 CharactersOfPutChar = (items : List Item) (c : ℕ) → characters (put items (Char c)) ≡ characters items ++ c ∷ []
 
--- a put mark changes no character
+-- a put mark does not change the characters
 abbrev pub CharactersOfPutMark : Type 0
 CharactersOfPutMark = (items : List Item) (m : ℕ) → characters (put items (Mark m)) ≡ characters items
 
--- reading again needs to know the window of the old list and the new text alone
+-- reading again depends only on the window of the old list and on the new text
 abbrev pub ReadingAgainNeedsTheWindow : Type 0
 ReadingAgainNeedsTheWindow = (a b : List Item) (text : List ℕ) → window a ≡ window b → read_again a text ≡ read_again b text
 
--- what was read again is sound, whatever stood before
+-- a list that was read again is sound, whatever the list was before
 abbrev pub ReadingAgainIsSound : Type 0
 ReadingAgainIsSound = (items : List Item) (text : List ℕ) → IsSound (read_again items text)
 
--- what was read again has the characters of the text
+-- a list that was read again has the characters of the text
 abbrev pub ReadingAgainGivesTheText : Type 0
 ReadingAgainGivesTheText = (items : List Item) (text : List ℕ) → characters (read_again items text) ≡ text
 
--- reading a sound list's own text again changes nothing
+-- reading a sound list's own text again does not change the list
 abbrev pub ReadingAgainTheSameText : Type 0
 ReadingAgainTheSameText = (items : List Item) → IsSound items → read_again items (characters items) ≡ items
 
@@ -56,11 +56,11 @@ SpellingsAreShort = (item : UnitItem) → (0 < length (spelling item)) × (lengt
 abbrev pub SpellingsAreUnits : Type 0
 SpellingsAreUnits = (item : UnitItem) → IsSpellable item → All (λ unit. (0 < unit) × (unit < 2 ^ 16)) (spelling item)
 
--- where an item is spelled there is no fault, whatever follows
+-- if an item is spelled, there is no fault, whatever follows
 abbrev pub SpelledItemIsNoFault : Type 0
 SpelledItemIsNoFault = (item : UnitItem) (rest : List ℕ) → IsSpellable item → fault_at (unit_bytes (spelling item) ++ rest) ≡ None
 
--- where there is no fault the bytes end or an item is spelled
+-- if there is no fault, the bytes end or an item is spelled
 abbrev pub NoFaultIsEndOrItem : Type 0
 NoFaultIsEndOrItem = (bytes : List ℕ) → All (λ byte. byte < 256) bytes → fault_at bytes ≡ None → (bytes ≡ []) ⊎ BeginsWithItem bytes
 
@@ -68,14 +68,14 @@ NoFaultIsEndOrItem = (bytes : List ℕ) → All (λ byte. byte < 256) bytes → 
 abbrev pub UnitsSpellOneList : Type 0
 UnitsSpellOneList = (units : List ℕ) (items others : List UnitItem) → Spells units items → Spells units others → items ≡ others
 
--- bytes have at most one first place at which no item is spelled
+-- there is at most one first position of bytes at which no item is spelled
 abbrev pub FirstFaultIsOne : Type 0
 FirstFaultIsOne = (bytes : List ℕ) (bad other : BadUnits) → IsBadAt bytes bad → IsBadAt bytes other → bad ≡ other
 
--- bytes are spelled to their end or have a first place at which no item is spelled
+-- bytes are spelled to their end or have a first position at which no item is spelled
 abbrev pub SpelledThroughOrBad : Type 0
 SpelledThroughOrBad = (bytes : List ℕ) → All (λ byte. byte < 256) bytes → IsSpelledThrough bytes ⊎ ((bad : BadUnits) × IsBadAt bytes bad)
 
--- bytes that are spelled to their end have no place at which no item is spelled
+-- bytes that are spelled to their end have no position at which no item is spelled
 abbrev pub SpelledThroughIsNotBad : Type 0
 SpelledThroughIsNotBad = (bytes : List ℕ) (bad : BadUnits) → IsSpelledThrough bytes → IsBadAt bytes bad → ⊥

@@ -1,4 +1,4 @@
--- The text before the caret: its characters, the window in which marks live, and how it is put, taken and read again.
+-- The text before the caret: its characters, the window in which marks are kept, and how it is put, taken and read again.
 use Rattle.std.specs.Prelude.{◌≡◌, ℕ, ◌-◌, Bool, true, false, ◌&&◌, ◌||◌, nat_eq, if◌then◌else◌, List, [], ◌∷◌, ◌++◌, length, take, drop, map, All}
 use Rattle.std.specs.List.{ends_with}
 use Rattle.kmn_base.specs.declared.items.Item.{Item}
@@ -16,27 +16,27 @@ abbrev pub is_mark : Item → Bool
 is_mark (Char c) = false
 is_mark (Mark m) = true
 
--- all but the last n
+-- a list without its last n items
 abbrev pub without_last : {X : Type 0} → ℕ → List X → List X
 without_last n xs = take (length xs - n) xs
 
--- the last items, as many as the engine caches, or all where there are fewer
+-- the last items, as many as the engine caches, or all items if there are fewer
 abbrev pub window : List Item → List Item
 window items = drop (length items - WINDOW_ITEMS) items
 
--- each mark stands among these last items
+-- each mark is among these last items
 abbrev pub IsSound : List Item → Type 0
 IsSound items = All (λ item. is_mark item ≡ false) (without_last WINDOW_ITEMS items)
 
--- an item is put at the end, and each mark that is then before the window is forgotten
+-- appends an item, then forgets each mark that is no longer in the window
 abbrev pub put : List Item → Item → List Item
 put items item = map Char (characters (without_last WINDOW_ITEMS (items ++ item ∷ []))) ++ window (items ++ item ∷ [])
 
--- the last items of the old text still stand at the end of the new one, and it is known what stands before them
+-- whether the new text ends with the last items of the old one, and the text before them is known
 abbrev pub still_stands : List Item → List ℕ → Bool
 still_stands kept text = ends_with nat_eq text (characters kept) && (nat_eq (length kept) WINDOW_ITEMS || nat_eq (length text) (length (characters kept)))
 
--- the text read again: the marks of the window keep their places where its characters still stand, else none is left
+-- the text read again: the marks of the window keep their positions if its characters are still there, else no mark is kept
 abbrev pub read_again : List Item → List ℕ → List Item
 read_again items text =
     let kept = window items in

@@ -1,4 +1,4 @@
--- The one spelling of each item of a compiled string, in UTF-16 units, and the first place at which none stands.
+-- The spelling of each item of a compiled string, in UTF-16 units, and the first position at which no item is spelled.
 use Rattle.std.specs.Prelude.{◌≡◌, ◌≢◌, ℕ, ◌+◌, ◌-◌, ◌*◌, ◌/◌, ◌%◌, ◌^◌, ◌<◌, ◌⊎◌, Bool, ◌&&◌, ◌||◌, not, nat_eq, nat_lt, nat_le, if◌then◌else◌, List, [], ◌∷◌, ◌++◌, length, take, slice_index, flat_map, Option, Some, None, All}
 use Rattle.std.specs.List.{list_any}
 use Rattle.std.specs.Char.{IsScalar}
@@ -9,11 +9,11 @@ use Rattle.kmn_base.specs.declared.units.BadKind.{BadKind}
 use Rattle.kmn_base.specs.declared.units.BadKind.TheVariants.{U1, U2, U3, U4, U5, U6}
 use Rattle.kmn_base.specs.declared.units.BadUnits.{BadUnits}
 
--- the units of a character: one, or past U+FFFF a surrogate pair
+-- the units of a character: one unit, or a surrogate pair if the character is above U+FFFF
 abbrev pub char_units : ℕ → List ℕ
 char_units c = if nat_lt c 0x1_0000 then c ∷ [] else (0xD800 + (c - 0x1_0000) / 0x400) ∷ (0xDC00 + (c - 0x1_0000) % 0x400) ∷ []
 
--- the units of an item: of a character its own, else the sentinel, the code and the operands
+-- the units of an item: the units of a character, else the sentinel, the code and the operands
 abbrev pub spelling : UnitItem → List ℕ
 spelling (Char c) = char_units c
 spelling (Any store) = SENTINEL ∷ 0x01 ∷ store ∷ []
@@ -34,7 +34,7 @@ spelling (Reset store) = SENTINEL ∷ 0x16 ∷ store ∷ []
 spelling (SystemTest system comparison value) = SENTINEL ∷ 0x17 ∷ system ∷ comparison ∷ value ∷ []
 spelling (SetSystem system value) = SENTINEL ∷ 0x18 ∷ system ∷ value ∷ []
 
--- whether a code is no character of a keyboard: U+0000 ends a compiled string, and U+FFFF is its sentinel
+-- whether a code is not a character of a keyboard: U+0000 ends a compiled string, and U+FFFF is its sentinel
 abbrev pub is_forbidden : ℕ → Bool
 is_forbidden c = nat_eq c 0 || nat_eq c SENTINEL
 
@@ -72,14 +72,14 @@ pub record Spells (units : List ℕ) (items : List UnitItem) : Type 0 where
 abbrev pub unit_bytes : List ℕ → List ℕ
 unit_bytes = flat_map (λ unit. (unit % 256) ∷ (unit / 256) ∷ [])
 
--- an item stands where the bytes begin
+-- bytes begin with the spelling of an item
 pub record BeginsWithItem (bytes : List ℕ) : Type 0 where
   pub item : UnitItem
   pub rest : List ℕ
   pub spellable : IsSpellable item
   pub parts : bytes ≡ unit_bytes (spelling item) ++ rest
 
--- the whole units of bytes; a last single byte is left away
+-- the whole units of bytes, without a last single byte
 abbrev pub whole_units : List ℕ → List ℕ
 whole_units [] = []
 whole_units (low ∷ []) = []
@@ -91,7 +91,7 @@ is_high_surrogate unit = nat_le 0xD800 unit && nat_lt unit 0xDC00
 abbrev pub is_low_surrogate : ℕ → Bool
 is_low_surrogate unit = nat_le 0xDC00 unit && nat_lt unit 0xE000
 
--- how many operands the item of a code has; None for a code that no item has
+-- the number of operands of a code's item; None if no item has the code
 abbrev pub operand_count : ℕ → Option ℕ
 operand_count code =
     if list_any (nat_eq code) (0x03 ∷ 0x04 ∷ 0x06 ∷ 0x07 ∷ []) then Some 0
@@ -100,11 +100,11 @@ operand_count code =
     else if list_any (nat_eq code) (0x0A ∷ 0x14 ∷ 0x17 ∷ []) then Some 3
     else None
 
--- whether a code is that of an item that compares
+-- whether a code belongs to an item that compares
 abbrev pub is_comparing : ℕ → Bool
 is_comparing code = nat_eq code 0x14 || nat_eq code 0x17
 
--- whether the operands of an item have the form that its code asks for, and if not, why
+-- why the operands of an item do not have the form that its code requires; None if they have it
 abbrev pub operand_fault : ℕ → List ℕ → Option BadKind
 operand_fault code operands =
     if list_any (nat_eq 0) operands then Some U3
@@ -112,17 +112,17 @@ operand_fault code operands =
     else if is_comparing code && not (nat_eq (slice_index operands 1) 1 || nat_eq (slice_index operands 1) 2) then Some U5
     else None
 
--- the bytes end inside an item: after whole units, or after the first byte of one
+-- the fault of bytes that end inside an item: after whole units, or after the first byte of a unit
 abbrev pub end_fault : List ℕ → BadKind
 end_fault bytes = if nat_eq (length bytes % 2) 0 then U3 else U6
 
--- what is wrong with the operands that the bytes begin with
+-- the fault of the operands at the beginning of the bytes
 abbrev pub operands_fault : ℕ → ℕ → List ℕ → Option BadKind
 operands_fault code count bytes =
     if nat_lt (length bytes) (2 * count) then Some (end_fault bytes)
     else operand_fault code (take count (whole_units bytes))
 
--- a fault with the code that it names, which is 0 but for an unlisted code
+-- a fault with the code that it names; 0 for each fault but an unlisted code
 abbrev pub without_code : Option BadKind → Option (BadKind × ℕ)
 without_code None = None
 without_code (Some kind) = Some (kind, 0)
@@ -131,12 +131,12 @@ abbrev pub code_fault : ℕ → List ℕ → Option ℕ → Option (BadKind × �
 code_fault code bytes None = Some (U2, code)
 code_fault code bytes (Some count) = without_code (operands_fault code count bytes)
 
--- what is wrong behind a sentinel
+-- the fault after a sentinel
 abbrev pub sentinel_fault : List ℕ → Option (BadKind × ℕ)
 sentinel_fault (low ∷ high ∷ bytes) = code_fault (low + 256 * high) bytes (operand_count (low + 256 * high))
 sentinel_fault bytes = Some (end_fault bytes, 0)
 
--- what is wrong behind a high surrogate, where a low one has to follow
+-- the fault after a high surrogate, which a low surrogate must follow
 abbrev pub pair_fault : List ℕ → Option (BadKind × ℕ)
 pair_fault [] = Some (U1, 0)
 pair_fault (low ∷ []) = Some (U6, 0)
@@ -150,13 +150,13 @@ unit_fault unit bytes =
     else if is_low_surrogate unit then Some (U1, 0)
     else None
 
--- why the bytes begin with no item, with the unlisted code or 0; None at the end and where an item stands
+-- why bytes do not begin with an item, with the unlisted code or 0; None at the end and if there is an item
 abbrev pub fault_at : List ℕ → Option (BadKind × ℕ)
 fault_at [] = None
 fault_at (low ∷ []) = Some (U6, 0)
 fault_at (low ∷ high ∷ bytes) = unit_fault (low + 256 * high) bytes
 
--- the first place at which no item is spelled: spelled items stand before it, and a fault at it
+-- the first position at which no item is spelled: spelled items precede it, and there is a fault at it
 pub record IsBadAt (bytes : List ℕ) (bad : BadUnits) : Type 0 where
   pub items : List UnitItem
   pub rest : List ℕ

@@ -1,4 +1,4 @@
--- The limits, the shift flags and the sentinel as numbers. Definitions use the constants of the code, so these say what they are.
+-- The limits, the shift flags and the sentinel as numbers. Definitions use the constants of the code, so these state their values.
 use Rattle.std.specs.Prelude.{◌≡◌}
 use Rattle.kmn_base.specs.declared.limits.TheConstants.{TEXT_BYTES, FILE_BYTES, PICTURE_BYTES, CONTEXT_ITEMS, OUTPUT_ITEMS, STORE_ELEMENTS, ALL_ELEMENTS, STORES, GROUPS, RECORDS, KEY_NAMES, DEADKEYS, SOURCE_NAME_CHARS, FILE_NAME_UNITS, SCRIPT_EVENTS, SCRIPT_STRING_CHARS, SHADOW_RECORDS, LOAD_RULES, FIELDS, TEXT_CHARS, TEXT_CHARS_AT_KEY, EVENT_ENTRIES, EVENT_PUTS, WINDOW_ITEMS}
 use Rattle.kmn_base.specs.declared.keys.TheConstants.{SHIFT_FLAGS, LEFT_CONTROL, RIGHT_CONTROL, LEFT_ALT, RIGHT_ALT, SHIFT, EITHER_CONTROL, EITHER_ALT, CAPS, NO_CAPS, VIRTUAL_KEY}

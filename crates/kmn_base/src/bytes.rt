@@ -1,23 +1,23 @@
-//! The kinds of bytes that sources and scripts are made of.
+//! The kinds of bytes in sources and scripts.
 
 ghost use Rattle.std.specs.Prelude.{◌≡◌, ◌<◌, IfSome};
 ghost use Rattle.kmn_base.specs.Bytes.{is_blank, is_quote, hex_digit};
 
-/// Whether a byte is a space or a tab.
+/// Returns whether a byte is a space or a tab.
 pub fn is_blank(byte: u8) -> bool
     ensures { result ≡ is_blank byte }
 {
     byte == b' ' || byte == b'\t'
 }
 
-/// Whether a byte is a single or a double quote.
+/// Returns whether a byte is a single or a double quote.
 pub fn is_quote(byte: u8) -> bool
     ensures { result ≡ is_quote byte }
 {
     byte == b'"' || byte == b'\''
 }
 
-/// The value of a hexadecimal digit, in either case.
+/// Returns the value of a hexadecimal digit, in either case.
 pub fn hex_digit(byte: u8) -> Option<u32>
     ensures value { result ≡ hex_digit byte }
     ensures below { IfSome result (λ value. value < 16) }

@@ -3,9 +3,9 @@ ghost use Rattle.kmn_base.specs.CodeTexts.{code_text};
 
 use std::fmt;
 
-/// The named rules. L and S are faults of a source's form, C of its meaning, V of a compiled file, P of a script, X of
-/// a file that can't be decompiled, T of a touch layout, G of what a made load and a search for dead rules take, H of a script
-/// for many fields, E of an event.
+/// The named rules. L and S are faults of a source's form, C of its meaning, V of a compiled keyboard, P of a script, X of a
+/// file that can't be decompiled, T of a touch layout. G are limits of a made load and of a search for dead rules, H faults of
+/// a script for many fields, E of an event.
 #[derive(Clone, Copy, PartialEq, Eq)]
 pub enum Code {
     L01,
@@ -92,7 +92,7 @@ pub enum Code {
     E2,
 }
 
-/// The name of a code's variant.
+/// Expands to the name of a code's variant.
 macro_rules! variant_name {
     ($code:expr; $($variant:ident)*) => {
         match $code {
@@ -102,7 +102,7 @@ macro_rules! variant_name {
 }
 
 impl Code {
-    /// The code as the refusal lines print it.
+    /// Returns the code as the refusal lines print it.
     pub fn text(self) -> &'static [u8]
         ensures { result.now ≡ code_text self }
     {
@@ -132,7 +132,7 @@ impl fmt::Display for Code {
     }
 }
 
-/// The name, as a derived one gives it, by way of `name`, which is proved once for both.
+/// Writes the name that a derived implementation writes. It uses `name`, which is proved once for both.
 impl fmt::Debug for Code {
     ghost use Rattle.std.specs.Prelude.{Some};
 

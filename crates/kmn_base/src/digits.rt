@@ -1,10 +1,10 @@
-//! Numbers that words write in some base.
+//! Numbers written in words in some base.
 
 ghost use Rattle.std.specs.Prelude.{◌≡◌, ◌≤◌};
 ghost use Rattle.std.specs.Char.{digit_value, is_digit};
 ghost use Rattle.kmn_base.specs.Digits.{are_digits, with_digit, bounded_value};
 
-/// Whether a byte is a digit of a base, in either case.
+/// Returns whether a byte is a digit of a base, in either case.
 pub fn is_digit(byte: u8, base: u32) -> bool
     requires least { 2 ≤ base }
     requires most { base ≤ 16 }
@@ -13,7 +13,7 @@ pub fn is_digit(byte: u8, base: u32) -> bool
     char::from(byte).is_digit(base)
 }
 
-/// Whether all bytes are digits of a base.
+/// Returns whether all bytes are digits of a base.
 pub fn are_digits(base: u32, text: &[u8]) -> bool
     requires least { 2 ≤ base }
     requires most { base ≤ 16 }
@@ -22,7 +22,7 @@ pub fn are_digits(base: u32, text: &[u8]) -> bool
     text.iter().all(|byte| is_digit(*byte, base))
 }
 
-/// The value of a digit or a letter, 36 for any other byte.
+/// Returns the value of a digit or a letter, and 36 for any other byte.
 fn digit_value(byte: u8) -> u32
     ensures value { result ≡ digit_value byte }
     ensures most { result ≤ 36 }
@@ -35,7 +35,7 @@ fn digit_value(byte: u8) -> u32
     }
 }
 
-/// The number with one more digit, or a bound where it is larger.
+/// Returns a number with another digit appended, or a bound if the number is larger.
 fn with_digit(bound: u32, base: u32, value: u32, byte: u8) -> u32
     requires { base ≤ 16 }
     ensures value { result ≡ with_digit bound base value byte }
@@ -44,7 +44,7 @@ fn with_digit(bound: u32, base: u32, value: u32, byte: u8) -> u32
     larger.min(u64::from(bound)) as u32
 }
 
-/// The number that digits write, or a bound where it is larger.
+/// Returns the number that digits denote, or a bound if the number is larger.
 pub fn bounded_value(bound: u32, base: u32, digits: &[u8]) -> u32
     requires { base ≤ 16 }
     ensures { result ≡ bounded_value bound base digits.now }

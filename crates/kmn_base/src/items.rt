@@ -2,7 +2,7 @@ ghost use Rattle.std.specs.Prelude.{◌≡◌, ◌≤◌, length};
 ghost use Rattle.std.specs.List.{suffix_len};
 ghost use Rattle.kmn_base.specs.Lists.{is_mark};
 
-/// What stands before the caret: a character, or a mark that a deadkey left and that no application sees.
+/// An item before the caret: a character, or a mark (a deadkey in the item list), which applications do not see.
 #[derive(Clone, Copy, Debug, PartialEq, Eq)]
 pub enum Item {
     Char(char),
@@ -10,7 +10,7 @@ pub enum Item {
     Mark(u16),
 }
 
-/// Only arrays of a fixed capacity ask for this value, which no definition uses.
+/// Only arrays of a fixed capacity need this value; no definition uses it.
 impl Default for Item {
     ghost use Rattle.std.specs.Prelude.{◌≡◌};
     ghost use Rattle.kmn_base.specs.declared.items.Item.TheVariants.{Char};
@@ -22,24 +22,24 @@ impl Default for Item {
     }
 }
 
-/// One element of a store: a character, a deadkey's mark, or a virtual key, which equals no item.
+/// One element of a store: a character, a deadkey's mark, or a virtual key, which is never equal to an item.
 #[derive(Clone, Copy, Debug, PartialEq, Eq)]
 pub enum Element {
     Char(char),
     /// The number of the deadkey, from 1.
     Mark(u16),
-    /// Shift flags as the file has them, and the key's code.
+    /// Shift flags as in the file, and the key's code.
     Key { flags: u16, code: u16 },
 }
 
-/// Whether an item is a mark.
+/// Returns whether an item is a mark.
 fn is_mark(item: Item) -> bool
     ensures { result ≡ is_mark item }
 {
     matches!(item, Item::Mark(_))
 }
 
-/// How many marks stand at the end of items.
+/// Returns the number of marks at the end of the items.
 pub fn end_marks(items: &[Item]) -> usize
     ensures value { result ≡ suffix_len is_mark items.now }
     ensures within { result ≤ length items.now }

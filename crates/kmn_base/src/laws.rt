@@ -3,55 +3,55 @@
 ghost use Rattle.kmn_base.specs.Laws.{PutIsSound, TakingKeepsSoundness, WindowOfPut, CharactersOfPutChar, CharactersOfPutMark, ReadingAgainNeedsTheWindow, ReadingAgainIsSound, ReadingAgainGivesTheText, ReadingAgainTheSameText, SpellingsArePrefixFree, SpellingsAreShort, SpellingsAreUnits, SpelledItemIsNoFault, NoFaultIsEndOrItem, UnitsSpellOneList, FirstFaultIsOne, SpelledThroughOrBad, SpelledThroughIsNotBad};
 ghost use Rattle.kmn_base.specs.Stated.{LimitsAreAsStated, ShiftFlagsAreAsStated, SignsAreAsStated};
 
-/// After a put each mark stands among the last 64 items, whatever stood before.
+/// After a put, each mark is among the last 64 items, whatever the list was before.
 #[tactic(auto, using(crate::proofs::Lists::put_is_sound))]
 pub fn put_is_sound()
     ensures { PutIsSound }
 {}
 
-/// What is left of a sound list after its last items were taken is sound.
+/// If the last items of a sound list are taken, the rest is sound.
 #[tactic(auto, using(crate::proofs::Lists::taking_keeps_soundness))]
 pub fn taking_keeps_soundness()
     ensures { TakingKeepsSoundness }
 {}
 
-/// The window after a put is the window of the old window and the item: what stands further back is not needed.
+/// The window after a put is the window of the old window and the item: items further back are not needed.
 #[tactic(auto, using(crate::proofs::Lists::window_of_put))]
 pub fn window_of_put()
     ensures { WindowOfPut }
 {}
 
-/// A put character comes behind the characters that stood before, none of which is forgotten.
+/// A put character comes after the characters that were there before, and none of these is forgotten.
 #[tactic(auto, using(crate::proofs::Lists::characters_of_put_char))]
 pub fn characters_of_put_char()
     ensures { CharactersOfPutChar }
 {}
 
-/// A put mark changes no character.
+/// A put mark does not change the characters.
 #[tactic(auto, using(crate::proofs::Lists::characters_of_put_mark))]
 pub fn characters_of_put_mark()
     ensures { CharactersOfPutMark }
 {}
 
-/// Reading again needs to know the window of the old list and the new text alone.
+/// Reading again depends only on the window of the old list and on the new text.
 #[tactic(auto, using(crate::proofs::ReadingAgain::reading_again_needs_the_window))]
 pub fn reading_again_needs_the_window()
     ensures { ReadingAgainNeedsTheWindow }
 {}
 
-/// What was read again is sound, whatever stood before.
+/// A list that was read again is sound, whatever the list was before.
 #[tactic(auto, using(crate::proofs::ReadingAgain::reading_again_is_sound))]
 pub fn reading_again_is_sound()
     ensures { ReadingAgainIsSound }
 {}
 
-/// What was read again has the characters of the text.
+/// A list that was read again has the characters of the text.
 #[tactic(auto, using(crate::proofs::ReadingAgain::reading_again_gives_the_text))]
 pub fn reading_again_gives_the_text()
     ensures { ReadingAgainGivesTheText }
 {}
 
-/// Reading a sound list's own text again changes nothing.
+/// Reading a sound list's own text again does not change the list.
 #[tactic(auto, using(crate::proofs::ReadingAgain::reading_again_the_same_text))]
 pub fn reading_again_the_same_text()
     ensures { ReadingAgainTheSameText }
@@ -75,14 +75,13 @@ pub fn spellings_are_units()
     ensures { SpellingsAreUnits }
 {}
 
-/// At each place stands exactly one of the end, an item and a fault: where an item is spelled there is no fault,
-/// whatever follows.
+/// At each position there is exactly one of the end, an item and a fault: if an item is spelled, there is no fault, whatever follows.
 #[tactic(auto, using(crate::proofs::Faults::spelled_item_is_no_fault))]
 pub fn spelled_item_is_no_fault()
     ensures { SpelledItemIsNoFault }
 {}
 
-/// Where there is no fault the bytes end or an item is spelled.
+/// If there is no fault, the bytes end or an item is spelled.
 #[tactic(auto, using(crate::proofs::StandingItems::no_fault_is_end_or_item))]
 pub fn no_fault_is_end_or_item()
     ensures { NoFaultIsEndOrItem }
@@ -94,18 +93,18 @@ pub fn units_spell_one_list()
     ensures { UnitsSpellOneList }
 {}
 
-/// Bytes have at most one first place at which no item is spelled.
+/// There is at most one first position of bytes at which no item is spelled.
 pub fn first_fault_is_one()
     ensures { FirstFaultIsOne }
 {}
 
-/// Bytes are spelled to their end or have a first place at which no item is spelled.
+/// Bytes are spelled to their end or have a first position at which no item is spelled.
 #[tactic(auto, using(crate::proofs::FirstFaults::spelled_through_or_bad))]
 pub fn spelled_through_or_bad()
     ensures { SpelledThroughOrBad }
 {}
 
-/// Bytes that are spelled to their end have no place at which no item is spelled.
+/// Bytes that are spelled to their end have no position at which no item is spelled.
 pub fn spelled_through_is_not_bad()
     ensures { SpelledThroughIsNotBad }
 {}
@@ -120,7 +119,7 @@ pub fn shift_flags_are_as_stated()
     ensures { ShiftFlagsAreAsStated }
 {}
 
-/// The sentinel is the unit that the format states, and no character has the number that stands for none.
+/// The sentinel is the unit that the format states, and no character has the number that denotes "no character".
 pub fn signs_are_as_stated()
     ensures { SignsAreAsStated }
 {}

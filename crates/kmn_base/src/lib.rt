@@ -1,12 +1,11 @@
-//! The types that every layer of the compiler and the engine speaks of, and the words that several layers share.
+//! Defines the types and the terms that all layers of the compiler and the engine share.
 //!
-//! It stands on std and `thiserror` alone. `specs/Lists` has the words for the text before the caret (characters,
-//! window, soundness, put, take, reading again), `specs/Spelling` the one spelling of each item of a compiled string;
-//! `laws` says what holds of both. `specs/Names`, `specs/Bytes`, `specs/Digits`, `specs/Texts` and `specs/Rising` have
-//! the words for names, bytes, numbers in words, texts and rising lists, and `specs/Answers` says what code answers that
-//! may refuse or want for memory. The layer above uses `Seq`, which contracts see as its list, `LineSet`, which they
-//! see as its lines, rising, `slices`, `names`, `bytes`, `digits`, `texts`, the flags of `keys`, `limits`, `end_marks` of
-//! items, and plain data.
+//! Depends only on std and `thiserror`. `specs/Lists` defines the text before the caret (characters, window, soundness, put,
+//! take, reading again), and `specs/Spelling` defines the one spelling of each item of a compiled string; `laws` proves the
+//! properties of both. `specs/Names`, `specs/Bytes`, `specs/Digits`, `specs/Texts` and `specs/Rising` define names, bytes,
+//! numbers in words, texts and rising lists. `specs/Answers` states the result of code that may refuse or run out of memory.
+//! The layers above use `Seq`, which contracts model as its list, `LineSet`, which they model as its sorted lines, `slices`,
+//! `names`, `bytes`, `digits`, `texts`, the flags of `keys`, `limits`, `end_marks` of items, and plain data.
 #![tactic(auto)]
 
 pub mod bytes;

@@ -9,7 +9,7 @@ use std::alloc::Global;
 use std::collections::BTreeSet;
 use std::marker::Model;
 
-/// Lines of a source, each once. Contracts see them as the list of them, rising.
+/// A set of source lines. Contracts model it as the sorted list of its lines.
 #[derive(Drop)]
 pub struct LineSet {
     lines: BTreeSet<u32>,
@@ -24,7 +24,7 @@ impl Model for LineSet {
 }
 
 impl LineSet {
-    /// No lines.
+    /// Creates an empty set.
     pub fn new(alloc: Global) -> LineSet
         ensures { result ≡ [] }
     {
@@ -33,7 +33,7 @@ impl LineSet {
         }
     }
 
-    /// With one line more, or the same lines where it is among them.
+    /// Adds a line. If the set already contains it, the set is unchanged. Errors: `Memory` if an allocation fails.
     pub fn add(&mut self, line: u32) -> Result<(), Memory>
         ensures { OnOk result (self.new ≡ insert_key nat_cmp self.old line) }
     {
@@ -41,7 +41,7 @@ impl LineSet {
         Ok(())
     }
 
-    /// With the lines of another.
+    /// Adds the lines of another set. Errors: `Memory` if an allocation fails.
     pub fn add_all(&mut self, other: &LineSet) -> Result<(), Memory>
         ensures { OnOk result (self.new ≡ fold (insert_key nat_cmp) self.old other.now) }
     {
@@ -51,7 +51,7 @@ impl LineSet {
         Ok(())
     }
 
-    /// Whether a line is among them.
+    /// Returns whether the set contains a line.
     #[tactic(auto, using(crate::proofs::RisingLines::among_is))]
     pub fn has(&self, line: u32) -> bool
         ensures { result ≡ is_among line self.now }
@@ -59,14 +59,14 @@ impl LineSet {
         self.lines.contains(&line)
     }
 
-    /// The first of them.
+    /// Returns the lowest line.
     pub fn first(&self) -> Option<u32>
         ensures { result ≡ slice_get self.now 0 }
     {
         self.lines.first().copied()
     }
 
-    /// All of them.
+    /// Returns all lines, sorted. Errors: `Memory` if an allocation fails.
     pub fn listed(&self, alloc: Global) -> Result<Seq<u32>, Memory>
         ensures { IfOk result (λ list. list ≡ self.now) }
     {
@@ -78,7 +78,7 @@ impl LineSet {
     }
 }
 
-/// Lines of a source, each once, rising.
+/// Returns the distinct lines of a list, sorted. Errors: `Memory` if an allocation fails.
 pub fn rising_lines(alloc: Global, lines: &[u32]) -> Result<Seq<u32>, Memory>
     ensures { IfOk result (λ list. list ≡ rising lines.now) }
 {

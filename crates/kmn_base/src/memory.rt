@@ -1,6 +1,6 @@
 use std::alloc::{AllocError, AllocFailed};
 
-/// Want of memory. It is merged with no other fault, and no contract ties it to a cause.
+/// The program ran out of memory. This is not merged with any fault, and no contract states when it happens.
 #[derive(Clone, Copy, Debug, PartialEq, Eq)]
 pub struct Memory;
 

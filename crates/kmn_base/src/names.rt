@@ -7,7 +7,7 @@ ghost use Rattle.kmn_base.specs.Names.{same_name, named_in};
 use crate::memory::Memory;
 use std::alloc::Global;
 
-/// Whether two names are the same, without ASCII case. Other letters are compared as they stand.
+/// Returns whether two names are equal without ASCII case. Other letters compare exactly.
 #[tactic(auto, unfolding(crate::specs::Names::same_name))]
 pub fn same_name(known: &[u8], name: &[u8]) -> bool
     ensures { result ≡ same_name known.now name.now }
@@ -15,7 +15,7 @@ pub fn same_name(known: &[u8], name: &[u8]) -> bool
     known.eq_ignore_ascii_case(name)
 }
 
-/// A name in lower case.
+/// Returns a name in lower case. Errors: `Memory` if an allocation fails.
 pub fn in_lower_case(alloc: Global, name: &[u8]) -> Result<Vec<u8>, Memory>
     ensures { IfOk result (λ copy. copy.items ≡ str_to_ascii_lowercase name.now) }
 {
@@ -24,7 +24,7 @@ pub fn in_lower_case(alloc: Global, name: &[u8]) -> Result<Vec<u8>, Memory>
     Ok(copy)
 }
 
-/// What a table has for a name: the value of its first row with that name.
+/// Returns the value of a table's first entry with a name.
 pub fn named_in<T: Copy>(table: &[(&str, T)], name: &[u8]) -> Option<T>
     ensures { result ≡ named_in (map (λ row. (row.0.now, row.1)) table.now) name.now }
 {

@@ -13,7 +13,7 @@ pub struct Refusal {
 pub enum CompileError {
     #[error("refused {} line {}", .0.code, .0.line)]
     Refused(Refusal),
-    /// The picture or the file would pass its limit; the size is in bytes.
+    /// The bitmap or the file would exceed its limit. `size` is its size in bytes.
     #[error("refused {code} size {size}")]
     TooLarge { code: Code, size: u64 },
     #[error("out of memory")]

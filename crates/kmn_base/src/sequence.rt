@@ -4,7 +4,7 @@ use crate::Memory;
 use std::alloc::Global;
 use std::marker::Model;
 
-/// A growing list on the heap, which contracts see as the list of its items. It promises nothing of spare room.
+/// A growing list on the heap. Contracts model it as the list of its items and promise no spare room.
 #[derive(Drop)]
 pub struct Seq<T> {
     items: Vec<T>,
@@ -25,7 +25,7 @@ impl<T> Seq<T> {
     ghost use Rattle.std.specs.Borrow.{sem};
     ghost use Rattle.kmn_base.specs.Lending.{LendsItems};
 
-    /// An empty list, which takes no memory yet.
+    /// Creates an empty list. Does not allocate.
     pub fn new(alloc: Global) -> Seq<T>
         ensures { result ≡ [] }
     {
@@ -34,14 +34,14 @@ impl<T> Seq<T> {
         }
     }
 
-    /// The items of a vector as a list.
+    /// Creates a list from the items of a vector.
     pub fn from_vec(items: Vec<T>) -> Seq<T>
         ensures { result ≡ items.items }
     {
         Seq { items }
     }
 
-    /// Appends an item, or hands it back for want of memory.
+    /// Appends an item. Errors: returns the item if an allocation fails.
     pub fn push(&mut self, item: T) -> Result<(), T>
         ensures { MatchResult result (λ _. self.new ≡ self.old ++ item ∷ []) (λ back. (back ≡ item) × (self.new ≡ self.old)) }
     {
@@ -51,35 +51,35 @@ impl<T> Seq<T> {
         }
     }
 
-    /// Takes the last item off.
+    /// Removes the last item and returns it.
     pub fn pop(&mut self) -> Option<T>
         ensures { MatchOption result ((self.old ≡ []) × (self.new ≡ [])) (λ last. self.old ≡ self.new ++ last ∷ []) }
     {
         self.items.pop()
     }
 
-    /// How many items the list has.
+    /// Returns the number of items.
     pub fn len(&self) -> usize
         ensures { result ≡ length self.now }
     {
         self.items.len()
     }
 
-    /// Whether the list has no item.
+    /// Returns whether the list is empty.
     pub fn is_empty(&self) -> bool
         ensures { result ≡ (length self.now == 0) }
     {
         self.items.is_empty()
     }
 
-    /// The items.
+    /// Returns the items as a slice.
     pub fn as_slice(&self) -> &[T]
         ensures { result.now ≡ self.now }
     {
         self.items.as_slice()
     }
 
-    /// The items, to be written: what stands in the slice in the end is what the list then has.
+    /// Returns the items as a mutable slice. The list then has the items that the slice has when the borrow ends.
     pub fn as_mut_slice(&mut self) -> &mut [T]
         ensures* writes_back { sem 𝓛 (LendsItems T.row self.entry result) }
         ensures value { result.now ≡ self.old }
@@ -91,7 +91,7 @@ impl<T> Seq<T> {
 impl Seq<u8> {
     ghost use Rattle.std.specs.String.{string_bytes};
 
-    /// The bytes of a string.
+    /// Creates a text from the bytes of a string.
     pub fn from_string(string: String) -> Text
         ensures { result ≡ string_bytes string }
     {
@@ -100,7 +100,7 @@ impl Seq<u8> {
 }
 
 impl<T: Drop> Seq<T> {
-    /// Appends an item, which is dropped for want of memory.
+    /// Appends an item. Errors: `Memory` if an allocation fails; the item is then dropped.
     pub fn add(&mut self, item: T) -> Result<(), Memory>
         ensures { MatchResult result (λ _. self.new ≡ self.old ++ item ∷ []) (λ _. self.new ≡ self.old) }
     {
@@ -108,7 +108,7 @@ impl<T: Drop> Seq<T> {
         Ok(())
     }
 
-    /// Appends the items of another list, or nothing for want of memory.
+    /// Appends the items of another list. Errors: `Memory` if an allocation fails; the list is then unchanged.
     pub fn append(&mut self, other: Seq<T>) -> Result<(), Memory>
         ensures { MatchResult result (λ _. self.new ≡ self.old ++ other) (λ _. self.new ≡ self.old) }
     {
@@ -117,7 +117,7 @@ impl<T: Drop> Seq<T> {
         Ok(())
     }
 
-    /// Puts an item in the place of another, which is dropped.
+    /// Replaces the item at an index and drops the old item.
     pub fn set(&mut self, index: usize, item: T)
         requires { index < length self.old }
         ensures { self.new ≡ slice_set self.old index item }
@@ -127,14 +127,14 @@ impl<T: Drop> Seq<T> {
 }
 
 impl<T: Copy> Seq<T> {
-    /// A list with the same items.
+    /// Returns a copy of the list. Errors: `Memory` if an allocation fails.
     pub fn copy(&self, alloc: Global) -> Result<Seq<T>, Memory>
         ensures { IfOk result (λ copy. copy ≡ self.now) }
     {
         Seq::from_slice(alloc, self.as_slice())
     }
 
-    /// A list with the items of a slice.
+    /// Creates a list with the items of a slice. Errors: `Memory` if an allocation fails.
     pub fn from_slice(alloc: Global, items: &[T]) -> Result<Seq<T>, Memory>
         ensures { IfOk result (λ copy. copy ≡ items.now) }
     {
@@ -143,7 +143,7 @@ impl<T: Copy> Seq<T> {
         })
     }
 
-    /// Appends the items of a slice, or nothing for want of memory.
+    /// Appends the items of a slice. Errors: `Memory` if an allocation fails; the list is then unchanged.
     pub fn extend_from_slice(&mut self, items: &[T]) -> Result<(), Memory>
         ensures { MatchResult result (λ _. self.new ≡ self.old ++ items.now) (λ _. self.new ≡ self.old) }
     {

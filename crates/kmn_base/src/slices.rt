@@ -1,15 +1,15 @@
-//! Parts of slices. No count is out of range: past the end stands nothing.
+//! Parts of slices. A count past the end is allowed.
 
 ghost use Rattle.std.specs.Prelude.{◌≡◌, take, drop};
 
-/// All but the first `count` items; none where there are no more.
+/// Returns the items after the first `count`, or an empty slice if there are not more.
 pub fn behind<T>(items: &[T], count: usize) -> &[T]
     ensures { result.now ≡ drop count items.now }
 {
     items.get(count..).unwrap_or(&[])
 }
 
-/// The first `count` items, or all where there are fewer.
+/// Returns the first `count` items, or all if there are fewer.
 pub fn before<T>(items: &[T], count: usize) -> &[T]
     ensures { result.now ≡ take count items.now }
 {

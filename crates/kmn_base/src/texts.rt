@@ -10,17 +10,18 @@ use crate::slices::behind;
 use crate::units::SENTINEL;
 use std::alloc::Global;
 
-/// More than any character's code.
+/// A number above the code of each character.
 pub const NO_CHARACTER: u32 = 0x11_0000;
 
-/// Whether a code is no character of a keyboard: U+0000, which ends a compiled string, or U+FFFF, which is its sentinel.
+/// Returns whether a code is not a character of a keyboard: U+0000, which ends a compiled string, or U+FFFF, which is its sentinel.
 pub fn is_forbidden(code: u32) -> bool
     ensures { result ≡ is_forbidden code }
 {
     code == 0 || code == u32::from(SENTINEL)
 }
 
-/// How many bytes a first U+FEFF takes, which marks the order of bytes and is no part of the text: 3, or 0 where there is none.
+/// Returns the size in bytes of a byte order mark (U+FEFF) at the start of a text, which is not part of the text: 3, or 0 if
+/// there is none.
 pub fn mark_size(bytes: &[u8]) -> usize
     ensures is { result ≡ mark_size bytes.now }
     ensures within { result ≤ length bytes.now }
@@ -32,7 +33,7 @@ pub fn mark_size(bytes: &[u8]) -> usize
     }
 }
 
-/// A text without a first U+FEFF.
+/// Returns a text without a byte order mark at its start.
 pub fn without_mark(bytes: &[u8]) -> &[u8]
     ensures is { result.now ≡ without_mark bytes.now }
     ensures within { length result.now ≤ length bytes.now }
@@ -40,7 +41,7 @@ pub fn without_mark(bytes: &[u8]) -> &[u8]
     behind(bytes, mark_size(bytes))
 }
 
-/// How many characters a text has.
+/// Returns the number of characters of a text.
 pub fn character_count(text: &[u8]) -> usize
     ensures { result ≡ character_count text.now }
 {
@@ -49,14 +50,14 @@ pub fn character_count(text: &[u8]) -> usize
         .count()
 }
 
-/// The characters of a text.
+/// Returns the characters of a text. Errors: `Memory` if an allocation fails.
 fn characters(alloc: Global, text: &str) -> Result<Seq<char>, Memory>
     ensures { IfOk result (λ characters. characters ≡ chars text.now) }
 {
     Ok(Seq::from_vec(text.chars().collect(alloc)?))
 }
 
-/// The characters of a text in UTF-8; none where it isn't UTF-8.
+/// Returns the characters of a text in UTF-8, or none if the text is not UTF-8. Errors: `Memory` if an allocation fails.
 #[tactic(auto, using(crate::proofs::DecodedTexts::decoded_text, crate::proofs::DecodedTexts::decoded_other))]
 pub fn decoded(alloc: Global, text: &[u8]) -> Result<Seq<char>, Memory>
     ensures { IfOk result (λ characters. characters ≡ decoded text.now) }

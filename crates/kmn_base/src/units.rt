@@ -1,7 +1,7 @@
-/// The unit before the code of each item that is no character.
+/// The unit before the code of each item that is not a character.
 pub const SENTINEL: u16 = 0xFFFF;
 
-/// One item of a compiled string. Store and group numbers count from 1 here, as they are spelled; so do offsets.
+/// One item of a compiled string. Store and group numbers count from 1 here, as they are spelled. Offsets also count from 1.
 #[derive(Clone, Copy, Debug)]
 pub enum UnitItem {
     Char(char),
@@ -24,21 +24,21 @@ pub enum UnitItem {
     Test(u16, u16, u16),
     Save(u16),
     Reset(u16),
-    /// System id, 1 for unequal or 2 for equal, and value store. The id counts from 1, too.
+    /// System id, 1 for unequal or 2 for equal, and value store. The id also counts from 1.
     SystemTest(u16, u16, u16),
     /// System id and value store.
     SetSystem(u16, u16),
 }
 
-/// Why no item is spelled at a place.
+/// Why no item is spelled at a position.
 #[derive(Clone, Copy, Debug)]
 pub enum BadKind {
     /// An unpaired surrogate.
     U1,
     /// A code that no item has.
     U2,
-    /// The bytes end after whole units inside an item with a sentinel, or a zero unit stands at an item or inside one
-    /// with a sentinel.
+    /// The bytes end after whole units inside an item with a sentinel, or a zero unit is at the position of an item or inside
+    /// an item with a sentinel.
     U3,
     /// No `0x10` after a virtual key.
     U4,
@@ -48,7 +48,7 @@ pub enum BadKind {
     U6,
 }
 
-/// The first place, in bytes, at which no item is spelled. `code` is the unlisted code of `U2`, else 0.
+/// The first position, in bytes, at which no item is spelled. `code` is the unlisted code of `U2`, else 0.
 #[derive(Clone, Copy)]
 pub struct BadUnits {
     pub kind: BadKind,

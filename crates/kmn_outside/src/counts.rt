@@ -1,7 +1,7 @@
 ghost use Rattle.std.specs.Prelude.{◌≡◌};
 ghost use Rattle.kmn_outside.specs.Memory.{is_due};
 
-/// Whether the call after so many has its number in the list.
+/// Returns whether the call after the first `made` calls has its number in the list.
 pub(crate) fn is_due(fails: &[u32], made: usize) -> bool
     ensures { result ≡ is_due fails.now made }
 {

@@ -11,7 +11,7 @@ use std::io::{self, ErrorKind, Read};
 use std::marker::Model;
 use std::rt::Files;
 
-/// The folder of real files: a name is a path. Contracts see it as its count of faults and tell nothing of its files.
+/// The folder of real files: a name is a path. Contracts model it as its count of faults and state nothing about its files.
 #[derive(Drop)]
 pub struct DiskFolder<R: Files> {
     runtime: R,
@@ -27,7 +27,7 @@ impl<R: Files> Model for DiskFolder<R> {
 }
 
 impl<R: Files> DiskFolder<R> {
-    /// The files that the runtime reaches. No fault has come yet.
+    /// Creates the folder of the files that the runtime reaches, with no faults.
     pub fn new(runtime: R) -> DiskFolder<R>
         ensures { result ≡ 0 }
     {
@@ -46,7 +46,7 @@ impl<R: Files> Folder for DiskFolder<R> {
 
     ghost faults = { λ faults. faults };
 
-    /// Reads no more than one byte past the limit. Each error of the system is a fault, but for want of memory.
+    /// Reads at most one byte past the limit. Each error of the system is a fault, unless an allocation fails.
     fn read(&mut self, alloc: Global, name: &[u8], limit: usize) -> Result<Seq<u8>, ReadError>
         ensures counts { ReadCounts self.old self.new result }
         ensures limited { IsLimited limit result }
@@ -59,8 +59,8 @@ impl<R: Files> Folder for DiskFolder<R> {
         answer
     }
 
-    /// Puts the bytes in place of the file at once, so that it has all of them or stays as it was; what is no regular file takes them as
-    /// they come. Each error is a fault, want of memory for a name beside the file too.
+    /// Replaces the file with these bytes atomically: the file has all of them or is unchanged. A file that is not regular
+    /// receives the bytes directly. Each error is a fault, also if an allocation for the name of the new file fails.
     fn write(&mut self, alloc: Global, name: &[u8], bytes: &[u8]) -> Result<(), WriteError>
         ensures counts { WriteCounts self.old self.new result }
         ensures memory { result ≢ Err WriteError.Memory }
@@ -76,7 +76,7 @@ impl<R: Files> Folder for DiskFolder<R> {
     }
 }
 
-/// The bytes of a file. A name is a path where it is UTF-8, and else no file has it.
+/// Reads the bytes of a file. A name is a path if it is UTF-8; otherwise no file has it.
 fn read_file<R: Files>(
     runtime: &R,
     alloc: Global,
@@ -97,7 +97,7 @@ fn read_file<R: Files>(
     }
 }
 
-/// The first bytes of a file, as many as a count at most.
+/// Reads the first bytes of a file, at most `count`.
 fn first_bytes<R: Files>(
     runtime: &R,
     alloc: Global,

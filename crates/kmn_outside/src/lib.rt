@@ -1,10 +1,11 @@
-//! What lies outside the program: a folder of files and a sink for text, as traits that say what they read, write and
-//! count, with fakes in memory and adapters over real files and writers.
+//! Defines traits for what is outside the program, a folder of files and a sink for text, with fakes in memory and adapters
+//! over real files and writers.
 //!
-//! It stands on `kmn_base` and `thiserror`. The layer above uses the traits `Folder` and `Sink`: an answer of a fault
-//! comes only where the count of faults rose, a read keeps to its limit, and where folder and sink tell their contents,
-//! each call says what it read or wrote. `MemoryFolder` and `MemorySink` tell all, and say which of their calls fail.
-//! `DiskFolder` and `StreamSink` tell nothing of bytes, which no proof can see outside.
+//! Depends on `kmn_base` and `thiserror`. The layers above use the traits `Folder` and `Sink`, whose contracts state what a
+//! call reads, writes and counts. A call reports a fault only if the count of faults rises, and a read keeps to its limit. If a
+//! folder or a sink exposes its contents, the contract of each call states what it read or wrote. `MemoryFolder` and
+//! `MemorySink` expose all their contents, and the calls with given numbers fail. `DiskFolder` and `StreamSink` expose no
+//! bytes, which no proof can see outside.
 #![tactic(auto)]
 
 mod counts;

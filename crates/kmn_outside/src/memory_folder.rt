@@ -10,7 +10,7 @@ use kmn_base::{Memory, Seq, Text};
 use std::alloc::Global;
 use std::marker::Model;
 
-/// A folder that keeps its files, lists its calls, and whose calls fail where they are told to.
+/// A folder that keeps its files and lists its calls. The calls with the given numbers fail.
 pub struct MemoryFolder {
     files: Seq<(Text, Seq<u8>)>,
     fails: Seq<u32>,
@@ -18,7 +18,7 @@ pub struct MemoryFolder {
     faults: u64,
 }
 
-/// One call in proofs, where a derived drop is written out in each exit.
+/// One call in proofs. A derived drop would be written out in each exit.
 impl Drop for MemoryFolder {
     fn drop(self) {
         let MemoryFolder {
@@ -39,8 +39,8 @@ impl Model for MemoryFolder {
 }
 
 impl MemoryFolder {
-    /// A folder of these files, of distinct names. `fails` lists the calls that fail, counted from 1 without those that
-    /// wanted memory.
+    /// Creates a folder of these files, whose names are distinct. `fails` lists the calls that fail, counted from 1. Calls that
+    /// ran out of memory do not count.
     pub fn new(alloc: Global, files: Seq<(Text, Seq<u8>)>, fails: Seq<u32>) -> MemoryFolder
         requires { IsTrue (are_distinct files) }
         ensures given { All (λ file. file_of result.files file.0 ≡ Some file.1) files }
@@ -54,7 +54,7 @@ impl MemoryFolder {
         }
     }
 
-    /// The file of a name. It is no call.
+    /// Returns the file of a name. This is not counted as a call.
     pub fn file(&self, name: &[u8]) -> Option<&[u8]>
         ensures { option_map (λ bytes. bytes.now) result ≡ file_of self.now.files name.now }
     {
@@ -65,14 +65,14 @@ impl MemoryFolder {
             .map(|file| file.1.as_slice())
     }
 
-    /// The calls so far, in order.
+    /// Returns the calls so far, in order.
     pub fn calls(&self) -> &[Call]
         ensures { result.now ≡ self.now.calls }
     {
         self.calls.as_slice()
     }
 
-    /// What a read answers, before it is listed.
+    /// Returns the result of a read, before the call is listed.
     fn answer(&self, alloc: Global, name: &[u8], limit: usize) -> Result<Seq<u8>, ReadError>
         ensures { result ≢ Err ReadError.Memory → result ≡ read_answer self.now name.now limit }
     {
@@ -88,7 +88,7 @@ impl MemoryFolder {
         Ok(Seq::from_slice(alloc, bytes)?)
     }
 
-    /// Lists a call, or nothing for want of memory.
+    /// Appends a call to the list. Errors: `Memory` if an allocation fails; the list is then unchanged.
     fn list(
         &mut self,
         alloc: Global,
@@ -110,7 +110,8 @@ impl MemoryFolder {
         Ok(())
     }
 
-    /// Makes these bytes the file of a name and lists the call, or does neither for want of memory.
+    /// Stores these bytes as the file of a name and lists the call. Errors: `Memory` if an allocation fails; the folder is then
+    /// unchanged.
     fn put(&mut self, alloc: Global, name: &[u8], bytes: &[u8], failed: bool) -> Result<(), Memory>
         ensures { MatchResult result
             (λ _. self.new ≡ record (listed self.old (call_of name.now true failed)) { files = put_file self.old.files name.now bytes.now })
@@ -160,7 +161,7 @@ impl Folder for MemoryFolder {
         answer
     }
 
-    /// A write that fails leaves the first half of the bytes, as a disk that fills up does.
+    /// A write that fails stores the first half of the bytes, as a disk that fills up does.
     fn write(&mut self, alloc: Global, name: &[u8], bytes: &[u8]) -> Result<(), WriteError>
         ensures counts { WriteCounts self.old.faults self.new.faults result }
         ensures writes { Writes (file_of self.old.files) (file_of self.new.files) self.old.calls self.new.calls name.now bytes.now result }
@@ -176,7 +177,7 @@ impl Folder for MemoryFolder {
     }
 }
 
-/// Puts a file in the place of the one that has its name, or at the end, or nothing for want of memory.
+/// Replaces the file that has the name, or appends the file. Errors: `Memory` if an allocation fails; the files are then unchanged.
 fn put_file(files: &mut Seq<(Text, Seq<u8>)>, name: Text, bytes: Seq<u8>) -> Result<(), Memory>
     ensures { MatchResult result (λ _. files.new ≡ put_file files.old name bytes) (λ _. files.new ≡ files.old) }
 {
@@ -190,14 +191,14 @@ fn put_file(files: &mut Seq<(Text, Seq<u8>)>, name: Text, bytes: Seq<u8>) -> Res
     }
 }
 
-/// The place of the first file of a name.
+/// Returns the index of the first file with a name.
 fn place_of(files: &[(Text, Seq<u8>)], name: &[u8]) -> Option<usize>
     ensures { result ≡ position (λ file. bytes_eq name.now file.0) files.now }
 {
     files.iter().position(|file| name == file.0.as_slice())
 }
 
-/// Appends a call for which room was made.
+/// Appends a call. The list has capacity for it.
 fn push_in_room(calls: &mut Vec<Call>, call: Call)
     requires { vec_len calls.old < vec_capacity calls.old }
     ensures { calls.new.items ≡ calls.old.items ++ call ∷ [] }

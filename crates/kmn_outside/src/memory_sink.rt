@@ -8,7 +8,7 @@ use kmn_base::Seq;
 use std::alloc::Global;
 use std::marker::Model;
 
-/// A sink that keeps what was written, and whose calls fail where they are told to.
+/// A sink that keeps the written bytes. The calls with the given numbers fail.
 pub struct MemorySink {
     written: Seq<u8>,
     fails: Seq<u32>,
@@ -16,7 +16,7 @@ pub struct MemorySink {
     faults: u64,
 }
 
-/// One call in proofs, where a derived drop is written out in each exit.
+/// One call in proofs. A derived drop would be written out in each exit.
 impl Drop for MemorySink {
     fn drop(self) {
         let MemorySink {
@@ -37,7 +37,7 @@ impl Model for MemorySink {
 }
 
 impl MemorySink {
-    /// An empty sink. `fails` lists the calls that fail, counted from 1 without those that wanted memory.
+    /// Creates an empty sink. `fails` lists the calls that fail, counted from 1. Calls that ran out of memory do not count.
     pub fn new(alloc: Global, fails: Seq<u32>) -> MemorySink
         ensures { result ≡ record { written = []; fails = fails; made = 0; faults = 0 } }
     {
@@ -49,7 +49,7 @@ impl MemorySink {
         }
     }
 
-    /// All bytes that were written.
+    /// Returns all bytes written so far.
     pub fn written(&self) -> &[u8]
         ensures { result.now ≡ self.now.written }
     {
@@ -66,7 +66,7 @@ impl Sink for MemorySink {
 
     ghost faults = { λ sink. sink.faults };
 
-    /// Takes the whole piece at each call that doesn't fail.
+    /// Accepts the whole piece at each call that doesn't fail.
     fn put(&mut self, bytes: &[u8]) -> Result<usize, WriteError>
         ensures counts { WriteCounts self.old.faults self.new.faults result }
         ensures takes { IfOk result (λ count. (count ≤ length bytes.now) × (0 < length bytes.now → 0 < count)) }

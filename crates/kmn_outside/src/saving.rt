@@ -1,4 +1,5 @@
-//! A file that has its new bytes whole or stays as it was: they are written beside it, and take its place at once.
+//! Saves a file atomically: it has all its new bytes or is unchanged. The bytes are written to a new file in the same folder,
+//! which then replaces the old one.
 
 use std::alloc::Global;
 use std::fs::{self, File, OpenFile, OpenOptions, Permissions};
@@ -6,10 +7,11 @@ use std::io::{self, ErrorKind, Write};
 use std::path::{Path, PathBuf};
 use std::rt::Files;
 
-/// How many names beside a file are tried for its new bytes.
+/// The number of names that are tried for the new file.
 const NEW_NAMES: u32 = 16;
 
-/// Puts bytes in place of a file: a link is followed, and what is no regular file, as a device or a pipe, takes them as they come.
+/// Replaces a file with these bytes. A link is followed. A file that is not regular, such as a device or a pipe, receives the
+/// bytes directly.
 pub(crate) fn save<R: Files>(
     runtime: &R,
     alloc: Global,
@@ -29,7 +31,7 @@ pub(crate) fn save<R: Files>(
     }
 }
 
-/// Puts bytes in place of the file that a link leads to. A link that leads nowhere is written through, which makes its file.
+/// Replaces the file that a link leads to. If the link leads nowhere, it is written through, which creates its file.
 fn save_linked<R: Files>(runtime: &R, alloc: Global, path: &str, bytes: &[u8]) -> io::Result<()> {
     let Ok(target) = runtime.canonicalize(alloc, path) else {
         return fs::write(runtime, path, bytes);
@@ -48,8 +50,8 @@ fn save_linked<R: Files>(runtime: &R, alloc: Global, path: &str, bytes: &[u8]) -
     }
 }
 
-/// Puts bytes in place of a regular file, which has these permissions, or of none. In a folder where no other file may be made they
-/// are written into it.
+/// Replaces a regular file, which has these permissions, or creates it. If the folder allows no new files, the bytes are
+/// written into the old file.
 fn replace<R: Files>(
     runtime: &R,
     alloc: Global,
@@ -58,7 +60,7 @@ fn replace<R: Files>(
     permissions: Option<Permissions>,
 ) -> io::Result<()> {
     if permissions.is_some() {
-        // Who may not write the file doesn't replace it either.
+        // A caller who may not write the file may not replace it either.
         OpenOptions::new().write(true).open(runtime, path)?;
     }
     for number in 0..NEW_NAMES {
@@ -72,13 +74,13 @@ fn replace<R: Files>(
     fs::write(runtime, path, bytes)
 }
 
-/// A name in the folder of a file, short enough wherever the file's own is.
+/// Returns a name in the folder of a file. It is short enough whenever the file's own name is.
 fn name_beside(alloc: Global, path: &str, number: u32) -> io::Result<PathBuf<Global>> {
     let name = format!(in alloc; ".keyman-{number}.new")?;
     Ok(Path::new(path).with_file_name(alloc, name.as_str())?)
 }
 
-/// Fills a new file and gives it its place; after a fault it is taken away.
+/// Fills a new file and moves it to the path. After a fault the new file is removed.
 fn put_in_place<R: Files>(
     runtime: &R,
     file: R::File,
@@ -96,7 +98,7 @@ fn put_in_place<R: Files>(
     }
 }
 
-/// Writes all bytes, to the disk too: some systems tell only then that it is full.
+/// Writes all bytes, to the disk too: some systems report only then that the disk is full.
 fn fill<F: Write + OpenFile + Drop>(
     mut file: F,
     bytes: &[u8],

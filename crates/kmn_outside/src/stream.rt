@@ -5,7 +5,7 @@ use crate::{Sink, WriteError};
 use std::io::{self, Write};
 use std::marker::Model;
 
-/// A sink over a writer, such as standard output. Contracts see it as its count of faults and tell nothing of the bytes.
+/// A sink over a writer, such as standard output. Contracts model it as its count of faults and state nothing about the bytes.
 #[derive(Drop)]
 pub struct StreamSink<W: Write> {
     writer: W,
@@ -21,7 +21,7 @@ impl<W: Write> Model for StreamSink<W> {
 }
 
 impl<W: Write> StreamSink<W> {
-    /// A sink over the writer. No fault has come yet.
+    /// Creates a sink over a writer, with no faults.
     pub fn new(writer: W) -> StreamSink<W>
         ensures { result ≡ 0 }
     {
@@ -38,7 +38,7 @@ impl<W: Write> Sink for StreamSink<W> {
 
     ghost faults = { λ faults. faults };
 
-    /// Flushes what it took, so that a piece that was taken is out. Taking nothing of a piece that has bytes is a fault.
+    /// Flushes the accepted bytes, so that they are out when the call returns. Accepting no byte of a piece that has bytes is a fault.
     fn put(&mut self, bytes: &[u8]) -> Result<usize, WriteError>
         ensures counts { WriteCounts self.old self.new result }
         ensures takes { IfOk result (λ count. (count ≤ length bytes.now) × (0 < length bytes.now → 0 < count)) }
@@ -58,7 +58,7 @@ impl<W: Write> Sink for StreamSink<W> {
     }
 }
 
-/// Writes the first part of a piece and flushes it.
+/// Writes the first part of a piece and flushes it. Returns the number of bytes.
 fn write_through<W: Write>(writer: &mut W, bytes: &[u8]) -> io::Result<usize>
     ensures { IfOk result (λ count. count ≤ length bytes.now) }
 {

@@ -10,7 +10,7 @@ use thiserror::Error;
 pub enum ReadError {
     #[error("the file can't be read")]
     Failed,
-    /// The file is longer than the limit; the number is the limit and one.
+    /// The file is longer than the limit. The number is one more than the limit.
     #[error("the file has {0} bytes or more")]
     Over(u64),
     #[error("out of memory")]
@@ -48,7 +48,7 @@ impl From<Memory> for WriteError {
     }
 }
 
-/// A call of a folder: the name that it asked for, whether it was a write, and whether it failed.
+/// A call of a folder: the requested name, whether it was a write, and whether it failed.
 #[derive(Drop)]
 pub struct Call {
     pub name: Text,
@@ -56,43 +56,43 @@ pub struct Call {
     pub failed: bool,
 }
 
-/// A place that holds files by name.
+/// A store of files by name.
 pub trait Folder {
     ghost use Rattle.kmn_outside.specs.declared.traits.Call.{Call};
 
-    /// Whether it tells its files and its calls.
+    /// Whether the folder exposes its files and its calls.
     ghost told: { Self → Bool };
-    /// The file of each name, None where there is none.
+    /// The file of each name, or None if there is none.
     ghost files: { Self → (List ℕ → Option (List ℕ)) };
-    /// The calls so far that didn't want for memory, in order.
+    /// The calls so far that did not run out of memory, in order.
     ghost calls: { Self → List Call };
-    /// How many faults came, standing still at the end of a 64-bit number.
+    /// The number of faults so far, which saturates at the maximum of 64 bits.
     ghost faults: { Self → ℕ };
 
-    /// Reads a whole file of at most `limit` bytes. No file is over the greatest limit.
+    /// Reads a whole file of at most `limit` bytes. No file is longer than the greatest limit.
     fn read(&mut self, alloc: Global, name: &[u8], limit: usize) -> Result<Seq<u8>, ReadError>
         ensures counts { ReadCounts (faults self.old) (faults self.new) result }
         ensures limited { IsLimited limit result }
         ensures told { told self.new ≡ told self.old }
         ensures reads { IsTrue (told self.old) → Reads (files self.old) (files self.new) (calls self.old) (calls self.new) name.now limit result };
 
-    /// Makes these bytes the file of a name.
+    /// Stores these bytes as the file of a name.
     fn write(&mut self, alloc: Global, name: &[u8], bytes: &[u8]) -> Result<(), WriteError>
         ensures counts { WriteCounts (faults self.old) (faults self.new) result }
         ensures told { told self.new ≡ told self.old }
         ensures writes { IsTrue (told self.old) → Writes (files self.old) (files self.new) (calls self.old) (calls self.new) name.now bytes.now result };
 }
 
-/// A place that bytes are written to, one after the other.
+/// A sink to which pieces of bytes are written in order.
 pub trait Sink {
-    /// Whether it tells what was written.
+    /// Whether the sink exposes the written bytes.
     ghost told: { Self → Bool };
     /// All bytes written so far.
     ghost written: { Self → List ℕ };
-    /// How many faults came, standing still at the end of a 64-bit number.
+    /// The number of faults so far, which saturates at the maximum of 64 bits.
     ghost faults: { Self → ℕ };
 
-    /// Writes a piece, or the first part of it, and answers how many bytes it took.
+    /// Writes a piece, or the first part of it, and returns the number of accepted bytes.
     fn put(&mut self, bytes: &[u8]) -> Result<usize, WriteError>
         ensures counts { WriteCounts (faults self.old) (faults self.new) result }
         ensures takes { IfOk result (λ count. (count ≤ length bytes.now) × (0 < length bytes.now → 0 < count)) }

@@ -1,4 +1,4 @@
--- What a put of a file leaves: the bytes under the name, and every other file.
+-- The folder after a file is put: the bytes under the name, and each other file.
 use Rattle.std.proofs.Common.{refl}
 use Rattle.kmn_outside.proofs.Files.{file_of-put, file_of-put_other}
 use Rattle.kmn_outside.proofs.memory_folder.MemoryFolderFolder.write.Goals as goal
