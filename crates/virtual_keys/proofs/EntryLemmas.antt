@@ -1,4 +1,4 @@
--- The entries of a dictionary: where a name stands, and how a new one is put.
+-- The entries of a dictionary: the position of a name, and how a new name is stored.
 use Rattle.std.proofs.Common.{◌≡◌, ℕ, ◌<◌, Bool, false, List, [], ◌∷◌, ◌++◌, map, length, Some, None, Vec, refl, sym, ap, subst, length-append, get_or, if◌then◌else◌, ◌∙◌, arith}
 use Rattle.std.proofs.lemmas.List.{map-append, length-map}
 use Rattle.std.proofs.lemmas.List.Elements.{All-head, All-tail, All-push}
@@ -17,7 +17,7 @@ use Rattle.virtual_keys.proofs.NamePlaces.{same_name-self}
 use Rattle.virtual_keys.proofs.PositionLemmas.{position-map, position-same, none_passes, position-push}
 
 module _ {A : Type 0} where
-  -- a name in lower case is found among the keys where the name is found among the names
+  -- a name in lower case is found among the keys exactly where the name is found among the names
   pub folded_place : (name : List ℕ) (entries : List (Vec ℕ A × Vec ℕ A)) → AreEntries entries
       → position (λ key. bytes_eq (str_to_ascii_lowercase name) key.items) (keys_of entries) ≡ place_in (written entries) name
   unfolding same_name
@@ -26,7 +26,7 @@ module _ {A : Type 0} where
       ∙ position-same _ (λ e. same_name name e.1.items) entries (λ k d l. ap (bytes_eq (str_to_ascii_lowercase name)) (are.folded k d l))
       ∙ sym (position-map (λ e. e.1.items) (same_name name) entries)
 
-  -- the written names are those of the values
+  -- the written names are the names of the values
   pub written-values : (entries : List (Vec ℕ A × Vec ℕ A)) → map (λ value. value.items) (values_of entries) ≡ written entries
   written-values [] = refl
   written-values (e ∷ entries) = ap (λ names. e.1.items ∷ names) (written-values entries)
@@ -34,12 +34,12 @@ module _ {A : Type 0} where
   pub length-written : (entries : List (Vec ℕ A × Vec ℕ A)) → length (written entries) ≡ length entries
   length-written entries = length-map entries (λ e. e.1.items)
 
-  -- the values of a map come in their order
+  -- the values of a map are in its order
   pub YieldsList-values : (values : List (Vec ℕ A)) → YieldsList (TakesFirst deref) (λ value. value.now.items) values (map (λ value. value.items) values)
   YieldsList-values = YieldsList-from_shown (TakesFirst deref) (λ value. value.now.items) (map (λ value. value.items))
       (λ s t k. ap (λ left. length (map (λ value. value.items) left)) k.0) (λ s x t k. ap (map (λ value. value.items)) k)
 
--- an entry whose key is none of the keys is put last
+-- an entry with a new key is appended
 insert_entry-last : {K V : Type 0} (eq : K → K → Bool) (entries : List (K × V)) (key : K) (value : V) → All (λ e. eq key e.0 ≡ false) entries → insert_entry eq entries key value ≡ entries ++ (key, value) ∷ []
 insert_entry-last eq [] key value others = refl
 insert_entry-last eq (e ∷ entries) key value others =
@@ -47,7 +47,7 @@ insert_entry-last eq (e ∷ entries) key value others =
     let rest = insert_entry-last eq entries key value (All-tail (λ e. eq key e.0 ≡ false) e entries others) in
     λ j. if here j then (e.0, value) ∷ entries else e ∷ rest j
 
--- what a map with these names has after a new name is put into it
+-- the entries of a map with these names after a new name is added
 module _ {A : Type 0} (entries : List (Vec ℕ A × Vec ℕ A)) (names : List (List ℕ)) (name : List ℕ) (key value : Vec ℕ A) (are : AreEntries entries)
     (are_names : written entries ≡ names) (new : place_in names name ≡ None) (folded : key.items ≡ str_to_ascii_lowercase name) (kept : value.items ≡ name) where
   appended : insert_entry (λ a b. bytes_eq a.items b.items) entries key value ≡ entries ++ (key, value) ∷ []

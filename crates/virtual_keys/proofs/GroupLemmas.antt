@@ -9,7 +9,7 @@ use Rattle.std.specs.List.{All, position, position_or_len}
 use Rattle.virtual_keys.specs.Dictionary.{groups, is_parting}
 use Rattle.virtual_keys.proofs.PositionLemmas.{not_below}
 
--- the first group ends at the first _, and the others are those of the bytes behind it
+-- the first group ends at the first _, and the other groups are those of the bytes after it
 pub groups_parted : (text : List ℕ) (at : ℕ) → position is_parting text ≡ Some at → groups text ≡ take at text ∷ groups (take (length text - (at + 1)) (drop (at + 1) text))
 groups_parted text at is =
     let found = position-Some is_parting text at 0 is in
@@ -18,7 +18,7 @@ groups_parted text at is =
     let behind : take (length text - (at + 1)) (drop (at + 1) text) ≡ drop (at + 1) text = take_all _ (drop (at + 1) text) (omega (arith, length-drop (at + 1) text)) in
     ap groups parts ∙ slice_split_at is_parting (take at text) (get_or text at 0) (drop (at + 1) text) front found.1 ∙ ap (λ l. take at text ∷ groups l) (sym behind)
 
--- where there is none, the text is the one group
+-- if there is no _, the text is the only group
 pub groups_alone : (text : List ℕ) → position is_parting text ≡ None → groups text ≡ text ∷ []
 groups_alone text is =
     let far = not_below (position_or_len is_parting text) (length text) is in

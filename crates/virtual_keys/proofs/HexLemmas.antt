@@ -1,4 +1,4 @@
--- Few hexadecimal digits write a small number.
+-- A few hexadecimal digits denote a small number.
 use Rattle.std.proofs.Common.{ℕ, ◌^◌, ◌<◌, ◌≤◌, arith, lit<}
 use Rattle.std.proofs.Math.Nat.{pow-le-pow_right}
 

@@ -1,4 +1,4 @@
--- A set of numbers, with one put in.
+-- A set of numbers with a number inserted.
 use Rattle.std.proofs.Common.{◌≡◌, ℕ, Bool, true, false, List, [], ◌∷◌, ◌++◌, sym, ap, ◌∙◌, if◌then◌else◌, arith, refl}
 use Rattle.std.specs.Prelude.{◌||◌, nat_eq}
 use Rattle.std.specs.List.{list_any}
@@ -10,7 +10,7 @@ use Rattle.indexmap.specs.IndexSet.{insert_key}
 same_number : (q n : ℕ) → nat_eq q n ≡ true → q ≡ n
 same_number q n e = grind (arith, nat_tests)
 
--- a number that is there already
+-- a number that is already in the set
 known_twice : (set : List ℕ) (n q : ℕ) (same : Bool) → nat_eq q n ≡ same → list_any (nat_eq n) set ≡ true → list_any (nat_eq q) set ≡ (list_any (nat_eq q) set || same)
 known_twice set n q true e there =
     let found : list_any (nat_eq q) set ≡ true = ap (λ k. list_any (nat_eq k) set) (same_number q n e) ∙ there in
@@ -22,6 +22,6 @@ inserted_as : (set : List ℕ) (n q : ℕ) (there : Bool) → list_any (nat_eq n
 inserted_as set n q true e = known_twice set n q (nat_eq q n) refl e
 inserted_as set n q false e = list_any-append (nat_eq q) set (n ∷ []) ∙ ap (λ b. list_any (nat_eq q) set || b) (or-false (nat_eq q n))
 
--- what is found behind an insertion
+-- membership after an insertion
 pub inserted : (set : List ℕ) (n q : ℕ) → list_any (nat_eq q) (insert_key nat_eq set n) ≡ (list_any (nat_eq q) set || nat_eq q n)
 inserted set n q = inserted_as set n q (list_any (nat_eq n) set) refl

@@ -1,4 +1,4 @@
--- The bytes of a character that is no space.
+-- The bytes of a character that is not a space.
 use Rattle.std.proofs.Common.{◌≡◌, ℕ, ◌<◌, Bool, true, false, List, [], length, get_or, refl, sym, arith, append-nil}
 use Rattle.std.specs.Prelude.{nat_eq, All}
 use Rattle.std.specs.Char.{encode_utf8}
@@ -10,7 +10,7 @@ use Rattle.std.proofs.lemmas.Str.{inside_one}
 abbrev pub HasNoSpace : List ℕ → Type 0
 HasNoSpace text = All (λ byte. nat_eq 32 byte ≡ false) text
 
--- a character that is no space has no byte that is one
+-- if a character is not a space, none of its bytes is a space
 pub bytes_of : (c : ℕ) → nat_eq c 32 ≡ false → HasNoSpace (encode_utf8 c)
 bytes_of c other = λ k d below. differ k d below (nat_eq 32 (get_or (encode_utf8 c) k d)) refl
   where

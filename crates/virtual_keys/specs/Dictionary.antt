@@ -1,4 +1,4 @@
--- Names that compare without ASCII case, the names that stand for characters, and the dictionary of a keyboard's own keys.
+-- Names that compare without ASCII case, the names that represent characters, and the dictionary of a keyboard's custom keys.
 use Rattle.std.specs.Prelude.{◌≡◌, ℕ, false, ◌+◌, ◌-◌, ◌*◌, Bool, ◌&&◌, not, nat_eq, nat_lt, nat_le, if◌then◌else◌, List, [], ◌∷◌, ◌++◌, length, take, drop, codes, fold, map, position, Option, Some, None, is_some, unwrap_or, option_map, slice_get}
 use Rattle.std.specs.List.{AllPairs, list_all, slice_split}
 use Rattle.std.specs.Str.{byte}
@@ -13,7 +13,7 @@ use Rattle.virtual_keys.specs.declared.dictionary.TheConstants.{FIRST_OWN_CODE}
 abbrev pub is_hex_digit : ℕ → Bool
 is_hex_digit byte = is_some (hex_digit byte)
 
--- the number that hexadecimal digits write
+-- the number that hexadecimal digits denote
 abbrev pub hex_value : List ℕ → ℕ
 hex_value digits = fold (λ value digit. 16 * value + unwrap_or (hex_digit digit) 0) 0 digits
 
@@ -25,20 +25,20 @@ is_nameable c = scalar c && not (is_forbidden c)
 abbrev pub is_group : List ℕ → Bool
 is_group group = nat_le 4 (length group) && nat_le (length group) 6 && list_all is_hex_digit group && is_nameable (hex_value group)
 
--- whether a byte is _, which parts groups
+-- whether a byte is _, which separates groups
 abbrev pub is_parting : ℕ → Bool
 is_parting b = nat_eq b (byte "_")
 
--- the groups of a text, which are parted by _
+-- the groups of a text, which _ separates
 abbrev pub groups : List ℕ → List (List ℕ)
 groups text = slice_split is_parting text
 
--- the characters of groups, each written by its digits; None where a group is none
+-- the characters of groups, each as its digits denote it; None if a group is not valid
 abbrev pub group_chars : List (List ℕ) → Option (List ℕ)
 group_chars parts = if list_all is_group parts then Some (map hex_value parts) else None
 
--- the characters of a name of the form U_ and groups of 4 to 6 hexadecimal digits parted by _, of at most 80 characters;
--- None for any other name
+-- the characters of a name of at most 80 characters that consists of U_ and groups of 4 to 6 hexadecimal digits separated by _; None for
+-- any other name
 unfoldable pub name_chars : List ℕ → Option (List ℕ)
 name_chars name = if nat_le (length name) SOURCE_NAME_CHARS && same_name (take 2 name) (codes "U_") then group_chars (groups (drop 2 name)) else None
 
@@ -46,7 +46,7 @@ name_chars name = if nat_le (length name) SOURCE_NAME_CHARS && same_name (take 2
 abbrev pub AreDistinct : List (List ℕ) → Type 0
 AreDistinct names = AllPairs (λ earlier later. same_name later earlier ≡ false) names
 
--- the place of a name in a list of names
+-- the index of a name in a list of names
 abbrev pub place_in : List (List ℕ) → List ℕ → Option ℕ
 place_in names name = position (same_name name) names
 
@@ -58,6 +58,6 @@ code_in names name = option_map (λ place. FIRST_OWN_CODE + place) (place_in nam
 abbrev pub name_in : List (List ℕ) → ℕ → Option (List ℕ)
 name_in names code = if nat_lt code FIRST_OWN_CODE then None else slice_get names (code - FIRST_OWN_CODE)
 
--- the list with a name, which is appended where no name of the list is the same
+-- the list with a name, which is appended if no name of the list is the same
 abbrev pub with_name : List (List ℕ) → List ℕ → List (List ℕ)
 with_name names name = if is_some (place_in names name) then names else names ++ name ∷ []

@@ -1,4 +1,4 @@
--- Which character a press gives, and which presses the key of a rule fits.
+-- The character that a press produces, and the presses that fit the key of a rule.
 use Rattle.std.specs.Prelude.{ℕ, ◌+◌, Bool, true, false, ◌&&◌, ◌||◌, not, nat_eq, nat_le, bit_and, if◌then◌else◌, List, Option, Some, None, option_map, find}
 use Rattle.std.specs.Option.{option_map_or}
 use Rattle.std.specs.Bool.{beq}
@@ -44,7 +44,7 @@ has bits bit = not (nat_eq (bit_and bits bit) 0)
 abbrev pub has_either : ℕ → ℕ → ℕ → Bool
 has_either bits left right = has bits left || has bits right
 
--- whether a code is that of one of the letter keys K_A to K_Z
+-- whether a code is the code of one of the letter keys K_A to K_Z
 abbrev pub is_letter : ℕ → Bool
 is_letter code = nat_le 65 code && nat_le code 90
 
@@ -56,8 +56,8 @@ letter code upper = if upper then code else code + 32
 abbrev pub character_in : List (ℕ × ℕ × ℕ) → ℕ → Bool → Option ℕ
 character_in table code shifted = option_map (λ row. if shifted then row.2 else row.1) (find (λ row. nat_eq row.0 code) table)
 
--- the character that a key gives on the US layout: letters are upper case with exactly one of shift and caps lock, and
--- other keys look at shift alone
+-- the character that a key produces on the US layout: letters are upper case with exactly one of shift and caps lock, and other keys
+-- depend only on shift
 abbrev pub us_character : ℕ → Bool → Bool → Option ℕ
 us_character code shifted locked = if is_letter code then Some (letter code (not (beq shifted locked))) else character_in us_characters code shifted
 
@@ -65,27 +65,27 @@ us_character code shifted locked = if is_letter code then Some (letter code (not
 abbrev pub is_plain : KeyPress → Bool
 is_plain press = not (has_either press.mods left_control right_control || has_either press.mods left_alt right_alt)
 
--- the character of a press: that of its key on the US layout, and none with control or alt held
+-- the character of a press: the character of its key on the US layout, or none with control or alt held
 unfoldable pub char_of_press : KeyPress → Option ℕ
 char_of_press press = if is_plain press then us_character press.code (has press.mods shift) (has press.mods caps) else None
 
--- control or alt: named without a side, one of its sides is held; else exactly the named sides are held
+-- whether control or alt fits: if it is named without a side, one of its sides is held; else exactly the named sides are held
 abbrev pub sides_fit : ℕ → ℕ → ℕ → ℕ → ℕ → Bool
 sides_fit either left right flags mods =
     if has flags either then has_either mods left right
     else (beq (has flags left) (has mods left) && beq (has flags right) (has mods right))
 
--- caps lock is on where the flags want it on, and off where they want it off; where they want both nothing fits
+-- whether caps lock fits: it is on if the flags require it on, and off if they require it off; if they require both, nothing fits
 abbrev pub caps_fit : ℕ → ℕ → Bool
 caps_fit flags mods = (not (has flags caps) || has mods caps) && (not (has flags no_caps) || not (has mods caps))
 
--- the held modifiers are those that the shift flags ask for
+-- whether the held modifiers are those that the shift flags require
 abbrev pub flags_fit : ℕ → ℕ → Bool
 flags_fit flags mods =
     beq (has flags shift) (has mods shift) && caps_fit flags mods && sides_fit either_control left_control right_control flags mods
     && sides_fit either_alt left_alt right_alt flags mods
 
--- whether the key of a rule fits a press: a character key fits a press that gives it, a virtual key by code and flags
+-- whether the key of a rule fits a press: a character key fits a press that produces it, a virtual key fits by code and flags
 unfoldable pub key_fits : RuleKey → KeyPress → Bool
 key_fits Any press = true
 key_fits (Char c) press = option_map_or (nat_eq c) (char_of_press press) false

@@ -1,4 +1,4 @@
--- The keys and the shift flags by name, and the characters that keys give on the US layout.
+-- The keys and the shift flags by name, and the characters that keys produce on the US layout.
 use Rattle.std.specs.Prelude.{ℕ, List, [], ◌∷◌, Option, option_map, find, codes, nat_eq}
 use Rattle.std.specs.Str.{byte}
 use Rattle.kmn_base.specs.Names.{named_in}
@@ -34,7 +34,7 @@ shift_flags =
     (codes "SHIFT", SHIFT) ∷ (codes "CTRL", EITHER_CONTROL) ∷ (codes "ALT", EITHER_ALT) ∷ (codes "CAPS", CAPS) ∷
     (codes "NCAPS", NO_CAPS) ∷ []
 
--- each key that gives a character but the letters: its code, the character that it gives, and the one with shift
+-- each key that produces a character, except the letters: its code, its character, and its character with shift
 unfoldable pub us_characters : List (ℕ × ℕ × ℕ)
 us_characters =
     (48, byte "0", byte ")") ∷ (49, byte "1", byte "!") ∷ (50, byte "2", byte "@") ∷ (51, byte "3", byte "#") ∷
@@ -52,11 +52,11 @@ us_characters =
 abbrev pub name_numbered : List (List ℕ × ℕ) → ℕ → Option (List ℕ)
 name_numbered table number = option_map (λ row. row.0) (find (λ row. nat_eq row.1 number) table)
 
--- the code of the key of a name
+-- the code of the key with a name
 abbrev pub key_code : List ℕ → Option ℕ
 key_code name = named_in key_codes name
 
--- the name of the key of a code
+-- the name of the key with a code
 abbrev pub key_name : ℕ → Option (List ℕ)
 key_name code = name_numbered key_codes code
 

@@ -1,4 +1,4 @@
-//! The codes of the keys that have a meaning of their own.
+//! The codes of the keys with a special meaning.
 
 pub const K_BKSP: u16 = 8;
 

@@ -9,21 +9,21 @@ use kmn_base::names::{in_lower_case, same_name};
 use std::alloc::Global;
 use std::marker::Model;
 
-/// The code of a dictionary's first name. Codes below are those of the keys that every keyboard has.
+/// The code of a dictionary's first name. Lower codes belong to the keys that every keyboard has.
 pub const FIRST_OWN_CODE: u16 = 256;
 
-/// Names of at most so many bytes, as all of 80 characters are, are looked up by hash. A longer one, which only files
-/// have, is compared with each, since a look-up takes no memory and so folds a name in a buffer.
+/// Names of at most this many bytes, as all names of 80 characters are, are looked up by hash. A longer name, which only files
+/// have, is compared with each name, since a look-up does not allocate and so folds a name in a buffer.
 const HASHED_BYTES: usize = 320;
 
-/// The names of a keyboard's own keys, distinct without ASCII case. Contracts see it as the list of the names, each as
-/// it was first added.
+/// The names of a keyboard's custom keys, distinct without ASCII case. Contracts model it as the list of the names, each in the
+/// form in which it was first added.
 pub struct KeyDictionary {
     alloc: Global,
     names: IndexMap<Vec<u8>, Vec<u8>>,
 }
 
-/// One call in proofs, where a derived drop is written out in each exit.
+/// One call in proofs. A derived drop would be written out in each exit.
 impl Drop for KeyDictionary {
     fn drop(self) {
         let KeyDictionary { alloc: _, names: _ } = self;
@@ -42,7 +42,7 @@ impl Model for KeyDictionary {
 }
 
 impl KeyDictionary {
-    /// A dictionary without names.
+    /// Creates a dictionary without names.
     pub fn new(alloc: Global) -> KeyDictionary
         ensures { result ≡ [] }
     {
@@ -52,14 +52,14 @@ impl KeyDictionary {
         }
     }
 
-    /// Whether no further name can be added: each code has 16 bits.
+    /// Returns whether no further name can be added: each code has 16 bits.
     pub fn is_full(&self) -> bool
         ensures { result ≡ nat_le KEY_NAMES (length self.now) }
     {
         self.names.len() >= KEY_NAMES
     }
 
-    /// Adds a name where no name is the same, and answers the code of the name.
+    /// Adds a name if it is not the same as another, and returns the code of the name. Errors: `Memory` if an allocation fails.
     #[tactic(auto, unfolding(crate::specs::Dictionary::code_in))]
     pub fn add(&mut self, name: &[u8]) -> Result<u16, Memory>
         requires { length self.old < KEY_NAMES }
@@ -74,7 +74,7 @@ impl KeyDictionary {
         Ok(FIRST_OWN_CODE + place as u16)
     }
 
-    /// The code of a name.
+    /// Returns the code of a name.
     #[tactic(auto, unfolding(crate::specs::Dictionary::code_in))]
     pub fn code_of(&self, name: &[u8]) -> Option<u16>
         ensures code { result ≡ code_in self.now name.now }
@@ -84,7 +84,7 @@ impl KeyDictionary {
         Some(FIRST_OWN_CODE + place as u16)
     }
 
-    /// The name of a code, as it was first added.
+    /// Returns the name of a code, in the form in which it was first added.
     pub fn name_at(&self, code: u16) -> Option<&[u8]>
         ensures { option_copied result ≡ name_in self.now code }
     {
@@ -93,7 +93,7 @@ impl KeyDictionary {
         Some(written.as_slice())
     }
 
-    /// Appends a new name, and answers its place.
+    /// Appends a new name and returns its index. Errors: `Memory` if an allocation fails.
     fn append(&mut self, name: &[u8]) -> Result<usize, Memory>
         requires room { length self.old < KEY_NAMES }
         requires new { place_in self.old name.now ≡ None }
@@ -109,7 +109,7 @@ impl KeyDictionary {
         Ok(place)
     }
 
-    /// The place of a name.
+    /// Returns the index of a name.
     fn place_of(&self, name: &[u8]) -> Option<usize>
         ensures place { result ≡ place_in self.now name.now }
         ensures few { IfSome result (λ place. place < KEY_NAMES) }
@@ -123,7 +123,7 @@ impl KeyDictionary {
     }
 }
 
-/// The place of a name of any length, by comparing.
+/// Returns the index of a name of any length, by comparing.
 fn compared_place(names: &IndexMap<Vec<u8>, Vec<u8>>, name: &[u8]) -> Option<usize>
     ensures { result ≡ place_in (written names.now.entries) name.now }
 {
@@ -132,7 +132,7 @@ fn compared_place(names: &IndexMap<Vec<u8>, Vec<u8>>, name: &[u8]) -> Option<usi
         .position(|known| same_name(name, known.as_slice()))
 }
 
-/// The place of a name that fits a buffer, by the hash of the name in lower case.
+/// Returns the index of a name that fits in a buffer, by the hash of the name in lower case.
 fn hashed_place(names: &IndexMap<Vec<u8>, Vec<u8>>, name: &[u8]) -> Option<usize>
     requires entries { AreEntries names.now.entries }
     requires fits { length name.now ≤ HASHED_BYTES }

@@ -2,7 +2,7 @@
 
 ghost use Rattle.virtual_keys.specs.Stated.{CodesAreAsStated};
 
-/// Each key that edits has the code of Windows, and the first name of a dictionary the code 256, as in KMX files.
+/// Each key that edits has its Windows key code, and the first name of a dictionary has the code 256, as in KMX files.
 pub fn codes_are_as_stated()
     ensures { CodesAreAsStated }
 {}

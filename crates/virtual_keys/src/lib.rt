@@ -1,13 +1,12 @@
-//! The keys of the product: their names and codes, the characters that they give on the US layout, which presses the
-//! key of a rule fits, and the names of a keyboard's own keys.
+//! Defines the keys of the product: their names and codes, the characters that they produce on the US layout, the presses that
+//! fit the key of a rule, and the names of a keyboard's custom keys.
 //!
-//! It stands on `kmn_base` for the types of keys and for comparing names, on `arrayvec` for the characters of a name
-//! and on `indexmap` for the dictionary. No look-up takes memory. The layer above asks `fits` whether a press fits the key
-//! of a rule, or `Pressed` where many keys are compared with one press, and `char_of` for a press's character, whose
-//! answers are `key_fits` and `char_of_press` of `specs/Fits`. It tests bits of shift flags by `has` and `has_either`, uses
-//! the tables of `specs/Keys`, and `KeyDictionary`, which contracts see as the list of its names by the words of
-//! `specs/Dictionary`. `codes` names the keys that edit, and `laws` says which
-//! numbers these and the first code of a dictionary are.
+//! Depends on `kmn_base` for the types of keys and for comparing names, on `arrayvec` for the characters of a name and on
+//! `indexmap` for the dictionary. Look-ups do not allocate. The layers above call `fits` to check whether a press fits the key
+//! of a rule, or `Pressed` if many keys are compared with one press, and `char_of` for the character of a press. The results
+//! are `key_fits` and `char_of_press` of `specs/Fits`. They test bits of shift flags by `has` and `has_either`, and use the
+//! tables of `specs/Keys` and `KeyDictionary`, which contracts model as the list of its names (`specs/Dictionary`). `codes`
+//! names the keys that edit, and `laws` states the numbers of these and of the first code of a dictionary.
 #![tactic(auto)]
 
 pub mod codes;

@@ -4,7 +4,7 @@ ghost use Rattle.virtual_keys.specs.Keys.{name_numbered, key_code, key_name, shi
 use crate::tables::{KEYS, MODIFIERS};
 use kmn_base::names::named_in;
 
-/// The name that a table has for a number.
+/// Returns the name that a table has for a number.
 fn name_numbered(table: &'static [(&'static str, u16)], number: u16) -> Option<&'static [u8]>
     ensures { option_map (λ name. name.now) result ≡ name_numbered (map (λ row. (row.0.now, row.1)) table.now) number }
 {
@@ -16,7 +16,7 @@ fn name_numbered(table: &'static [(&'static str, u16)], number: u16) -> Option<&
     None
 }
 
-/// The words of the shift flags, each with its flag.
+/// Returns the words of the shift flags, each with its flag.
 #[tactic(auto, unfolding(crate::specs::Keys::shift_flags))]
 pub fn modifiers() -> &'static [(&'static str, u16)]
     ensures { map (λ row. (row.0.now, row.1)) result.now ≡ shift_flags }
@@ -24,7 +24,7 @@ pub fn modifiers() -> &'static [(&'static str, u16)]
     &MODIFIERS
 }
 
-/// The code of the key of a name.
+/// Returns the code of the key with a name.
 #[tactic(auto, unfolding(crate::specs::Keys::key_codes))]
 pub fn key_named(name: &[u8]) -> Option<u16>
     ensures { result ≡ key_code name.now }
@@ -32,7 +32,7 @@ pub fn key_named(name: &[u8]) -> Option<u16>
     named_in(&KEYS, name)
 }
 
-/// The shift flag of a word.
+/// Returns the shift flag of a word.
 #[tactic(auto, unfolding(crate::specs::Keys::shift_flags))]
 pub fn modifier_named(word: &[u8]) -> Option<u16>
     ensures { result ≡ shift_flag word.now }
@@ -40,7 +40,7 @@ pub fn modifier_named(word: &[u8]) -> Option<u16>
     named_in(&MODIFIERS, word)
 }
 
-/// The name of the key of a code.
+/// Returns the name of the key with a code.
 #[tactic(auto, unfolding(crate::specs::Keys::key_codes))]
 pub fn name_of(code: u16) -> Option<&'static [u8]>
     ensures { option_map (λ name. name.now) result ≡ key_name code }

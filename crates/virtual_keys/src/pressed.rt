@@ -5,7 +5,7 @@ use crate::presses::{char_of, flags_fit};
 use kmn_base::{KeyPress, RuleKey};
 use std::marker::Model;
 
-/// A press whose character was looked up once, for the many keys that are compared with it. Contracts see the press.
+/// A press whose character was looked up once, for the many keys that are compared with it. Contracts model it as the press.
 #[derive(Drop)]
 pub struct Pressed {
     press: KeyPress,
@@ -24,7 +24,7 @@ impl Model for Pressed {
     ghost invariant = { λ pressed. pressed.given ≡ char_of_press pressed.press };
 }
 
-/// Whether the key of a rule fits a press.
+/// Returns whether the key of a rule fits a press.
 pub fn fits(key: RuleKey, press: KeyPress) -> bool
     ensures { result ≡ key_fits key press }
 {
@@ -32,7 +32,7 @@ pub fn fits(key: RuleKey, press: KeyPress) -> bool
 }
 
 impl Pressed {
-    /// A press with its character.
+    /// Looks up the character of a press.
     pub fn of(press: KeyPress) -> Pressed
         ensures { result ≡ press }
     {
@@ -42,7 +42,7 @@ impl Pressed {
         }
     }
 
-    /// Whether the key of a rule fits the press.
+    /// Returns whether the key of a rule fits the press.
     #[tactic(auto, unfolding(crate::specs::Fits::key_fits))]
     pub fn fits(&self, key: RuleKey) -> bool
         ensures { result ≡ key_fits key self.now }

@@ -9,28 +9,28 @@ use kmn_base::keys::{
     SHIFT,
 };
 
-/// Whether a bit is set.
+/// Returns whether a bit is set.
 pub fn has(bits: u32, bit: u16) -> bool
     ensures { result ≡ has bits bit }
 {
     bits & u32::from(bit) != 0
 }
 
-/// Whether one of two bits is set.
+/// Returns whether one of two bits is set.
 pub fn has_either(bits: u32, left: u16, right: u16) -> bool
     ensures { result ≡ has_either bits left right }
 {
     has(bits, left) || has(bits, right)
 }
 
-/// Whether a code is that of a letter key.
+/// Returns whether a code is the code of a letter key.
 fn is_letter(code: u16) -> bool
     ensures { result ≡ is_letter code }
 {
     (65..=90).contains(&code)
 }
 
-/// The letter of a letter key.
+/// Returns the letter of a letter key.
 fn letter(code: u16, upper: bool) -> char
     requires { IsTrue (is_letter code) }
     ensures { result ≡ letter code upper }
@@ -43,7 +43,7 @@ fn letter(code: u16, upper: bool) -> char
     }
 }
 
-/// The character that a table has for a key, with or without shift.
+/// Returns the character that a table has for a key, with or without shift.
 fn character_in(table: &[(u16, char, char)], code: u16, shifted: bool) -> Option<char>
     ensures { result ≡ character_in table.now code shifted }
 {
@@ -53,7 +53,7 @@ fn character_in(table: &[(u16, char, char)], code: u16, shifted: bool) -> Option
         .map(|row| if shifted { row.2 } else { row.1 })
 }
 
-/// The character that a key other than a letter gives on the US layout.
+/// Returns the character that a key other than a letter produces on the US layout.
 #[tactic(auto, unfolding(crate::specs::Keys::us_characters))]
 fn other_character(code: u16, shifted: bool) -> Option<char>
     ensures { result ≡ character_in us_characters code shifted }
@@ -61,7 +61,7 @@ fn other_character(code: u16, shifted: bool) -> Option<char>
     character_in(&US_CHARACTERS, code, shifted)
 }
 
-/// The character that a key gives on the US layout.
+/// Returns the character that a key produces on the US layout.
 fn us_character(code: u16, shifted: bool, locked: bool) -> Option<char>
     ensures { result ≡ us_character code shifted locked }
 {
@@ -72,7 +72,7 @@ fn us_character(code: u16, shifted: bool, locked: bool) -> Option<char>
     }
 }
 
-/// Whether neither control nor alt is held. Shift and caps lock don't matter.
+/// Returns whether neither control nor alt is held. Shift and caps lock don't matter.
 pub fn is_plain(press: KeyPress) -> bool
     ensures { result ≡ is_plain press }
 {
@@ -80,7 +80,7 @@ pub fn is_plain(press: KeyPress) -> bool
     !(has_either(mods, LEFT_CONTROL, RIGHT_CONTROL) || has_either(mods, LEFT_ALT, RIGHT_ALT))
 }
 
-/// The character that a press gives on the US layout.
+/// Returns the character that a press produces on the US layout.
 #[tactic(auto, unfolding(crate::specs::Fits::char_of_press))]
 pub fn char_of(press: KeyPress) -> Option<char>
     ensures { result ≡ char_of_press press }
@@ -92,14 +92,14 @@ pub fn char_of(press: KeyPress) -> Option<char>
     us_character(press.code, has(mods, SHIFT), has(mods, CAPS))
 }
 
-/// Whether caps lock is as the shift flags want it.
+/// Returns whether caps lock is as the shift flags require it.
 fn caps_fit(flags: u32, mods: u32) -> bool
     ensures { result ≡ caps_fit flags mods }
 {
     (!has(flags, CAPS) || has(mods, CAPS)) && (!has(flags, NO_CAPS) || !has(mods, CAPS))
 }
 
-/// Whether the held sides of control or alt are those that the shift flags want.
+/// Returns whether the held sides of control or alt are those that the shift flags require.
 fn sides_fit(either: u16, left: u16, right: u16, flags: u32, mods: u32) -> bool
     ensures { result ≡ sides_fit either left right flags mods }
 {
@@ -110,7 +110,7 @@ fn sides_fit(either: u16, left: u16, right: u16, flags: u32, mods: u32) -> bool
     }
 }
 
-/// Whether the held modifiers are those that the shift flags want.
+/// Returns whether the held modifiers are those that the shift flags require.
 pub fn flags_fit(flags: u32, mods: u32) -> bool
     ensures { result ≡ flags_fit flags mods }
 {

@@ -111,7 +111,7 @@ pub(crate) static MODIFIERS: [(&str, u16); 9] = [
     ("NCAPS", NO_CAPS),
 ];
 
-/// What each key but the letters gives on the US layout: its code, the character without shift, and the one with it.
+/// What each key except the letters produces on the US layout: its code, the character without shift, and the character with shift.
 pub(crate) static US_CHARACTERS: [(u16, char, char); 37] = [
     (48, '0', ')'),
     (49, '1', '!'),

@@ -9,7 +9,7 @@ use kmn_base::limits::SOURCE_NAME_CHARS;
 use kmn_base::names::same_name;
 use kmn_base::texts::is_forbidden;
 
-/// The number that hexadecimal digits write.
+/// Returns the number that hexadecimal digits denote.
 fn hex_value(digits: &[u8]) -> Option<u32>
     requires { length digits.now ≤ 6 }
     ensures { result ≡ (if list_all is_hex_digit digits.now then Some (hex_value digits.now) else None) }
@@ -21,7 +21,7 @@ fn hex_value(digits: &[u8]) -> Option<u32>
     Some(value)
 }
 
-/// The character of a code, where a name may have it.
+/// Returns the character of a code, if a name may have it.
 fn nameable(code: u32) -> Option<char>
     ensures { result ≡ (if is_nameable code then Some code else None) }
 {
@@ -31,7 +31,7 @@ fn nameable(code: u32) -> Option<char>
     char::from_u32(code)
 }
 
-/// The character that a group of digits writes.
+/// Returns the character that a group of digits denotes.
 fn group_char(group: &[u8]) -> Option<char>
     ensures value { SomeIff result (IsTrue (is_group group.now)) (hex_value group.now) }
     ensures size { OnSome result (4 ≤ length group.now) }
@@ -42,14 +42,14 @@ fn group_char(group: &[u8]) -> Option<char>
     nameable(hex_value(group)?)
 }
 
-/// Where the first `_` of a text stands.
+/// Returns the position of the first `_` of a text.
 fn parting(text: &[u8]) -> Option<usize>
     ensures { result ≡ position is_parting text.now }
 {
     text.iter().position(|byte| *byte == b'_')
 }
 
-/// The first group of a text, and the text behind the `_` that ends it.
+/// Returns the first group of a text, and the rest after the `_` that ends it.
 #[tactic(auto, using(crate::proofs::GroupLemmas::groups_parted, crate::proofs::GroupLemmas::groups_alone))]
 fn first_group(text: &[u8]) -> (&[u8], Option<&[u8]>)
     ensures parts { groups text.now ≡ result.0.now ∷ groups_behind (option_copied result.1) }
@@ -61,7 +61,7 @@ fn first_group(text: &[u8]) -> (&[u8], Option<&[u8]>)
     }
 }
 
-/// The characters of a text's groups.
+/// Returns the characters of a text's groups.
 fn group_chars(text: &[u8]) -> Option<ArrayVec<char, 16>>
     requires { length text.now ≤ 78 }
     ensures { option_map (λ chars. chars.items) result ≡ group_chars (groups text.now) }
@@ -76,7 +76,7 @@ fn group_chars(text: &[u8]) -> Option<ArrayVec<char, 16>>
     Some(chars)
 }
 
-/// The characters of a name that stands for characters. A name has at most 80 characters, so at most 15 groups.
+/// Returns the characters of a name that represents characters. A name has at most 80 characters, so at most 15 groups.
 #[tactic(auto, unfolding(crate::specs::Dictionary::name_chars))]
 pub fn named_chars(name: &[u8]) -> Option<ArrayVec<char, 16>>
     ensures { option_map (λ chars. chars.items) result ≡ name_chars name.now }

@@ -8,7 +8,7 @@ use Rattle.virtual_keys.proofs.unicode_names.group_chars.Given as goal
 abbrev pub decreases-loop-rest : goal.decreases-loop-rest
 decreases-loop-rest l = bytes_behind (option_copied l.rest)
 
--- each group that was read has at least four bytes and the _ behind it
+-- each group that was read has at least four bytes and is followed by a _
 abbrev pub invariant-loop-rest : goal.invariant-loop-rest
 invariant-loop-rest l = record {
   formed : list_all is_group (groups_behind (option_copied l.rest)) ≡ list_all is_group (groups l.text);
