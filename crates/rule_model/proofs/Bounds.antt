@@ -40,7 +40,7 @@ taking_adds_none n items =
     = sym (length-append (characters (take at items)) (characters (drop at items))) ∙ ap length parts in
     omega arith
 
--- no more characters than at first and than were put
+-- a state has at most as many characters as the first state and the items that were put
 abbrev Adds : ℕ → EventState → Type 0
 Adds n s = length (characters s.left) ≤ n + s.put
 
@@ -65,7 +65,7 @@ press_adds_what_it_puts kb press left current saved =
 
 -- ---- the editor's default
 
--- a state's text has at most so many characters
+-- the text of a state has at most n characters
 abbrev HasAtMost : ℕ → State → Type 0
 HasAtMost n state = length (whole_text state) ≤ n
 
@@ -126,7 +126,7 @@ setting_has_at_most : (n : ℕ) (option : Option ℕ) (value : List Element) (st
 setting_has_at_most n None value state h = h
 setting_has_at_most n (Some option) value state h = h
 
--- the text parted at a caret is all of it
+-- a text split at a position has the same length
 length-parted : (place : ℕ) (whole : List ℕ) → length (take place whole) + length (drop place whole) ≡ length whole
 length-parted place whole = sym (length-append (take place whole) (drop place whole)) ∙ ap length (take-append-drop place whole)
 
@@ -134,7 +134,7 @@ caret_has_at_most : (n place : ℕ) (state : State) → HasAtMost n state → Ha
 caret_has_at_most n place state h =
     omega (arith, length-text_becomes (take place (whole_text state)) (drop place (whole_text state)) state, length-parted place (whole_text state))
 
--- what is refused by neither of two tests passes both
+-- if neither of two tests refuses, both pass
 not_refused : (test : Bool) (code : Code) (rest : Option Code) → cond test (Some code) rest ≡ None → (test ≡ false) × (rest ≡ None)
 not_refused true code rest e = absurd (none-some code (sym e))
 not_refused false code rest e = (refl, e)

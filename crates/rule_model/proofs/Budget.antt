@@ -1,4 +1,4 @@
--- What the budget of a key event bounds.
+-- The bounds that the budget sets for a key event.
 use Rattle.std.proofs.Common.{◌<◌, refl, leb, arith}
 use Rattle.std.proofs.lemmas.Bool.{cond_both, leb-false}
 use Rattle.kmn_base.specs.declared.events.Event.{Event}

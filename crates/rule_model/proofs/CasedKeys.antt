@@ -1,4 +1,4 @@
--- A cased key fits by its two halves.
+-- A cased key fits exactly where one of its two halves fits.
 use Rattle.std.proofs.Common.{◌≡◌, ℕ, Bool, true, false, not, ◌&&◌, ◌-◌, drop, length, List, [], ◌∷◌, Option, Some, None, refl, ap, sym, ◌∙◌, if◌then◌else◌, nat_eq}
 use Rattle.std.specs.Prelude.{bit_and, bit_or, ◌||◌}
 use Rattle.std.specs.Bool.{beq}
@@ -17,21 +17,21 @@ use Rattle.rule_model.specs.CasedKeys.{small_flags, with_other_shift, large_flag
 abbrev tests : ℕ → Bool
 tests n = not (nat_eq n 0)
 
--- a bit that is set, and bits that stay
+-- a bit that is set, and bits that are unchanged
 has_set : (flags bit : ℕ) → tests bit ≡ true → has (bit_or flags bit) bit ≡ true
 has_set flags bit e = ap tests (and_or_self bit flags) ∙ e
 
 has_kept : (flags bit other : ℕ) → bit_and bit other ≡ 0 → has (bit_or flags bit) other ≡ has flags other
 has_kept flags bit other e = ap tests (and_or_apart other flags bit e)
 
--- what a mask leaves, and what it takes
+-- the bits that a mask keeps and removes
 has_masked : (flags mask bit kept : ℕ) → bit_and mask bit ≡ kept → has (bit_and flags mask) bit ≡ has flags kept
 has_masked flags mask bit kept e = ap tests (and_assoc bit flags mask ∙ ap (bit_and flags) e)
 
 has_nothing : (flags : ℕ) → has flags 0 ≡ false
 has_nothing flags = ap tests (and_zero_r flags)
 
--- of the other shift, shift is as it was not, and all other bits as they were
+-- exchanging shift inverts the bit of shift and leaves all other bits unchanged
 shift_exchanged : (flags : ℕ) → has (with_other_shift flags) shift ≡ not (has flags shift)
 shift_exchanged flags =
     elim (has flags shift) as (λ (b : Bool). has (if b then bit_and flags 0xFFFF_FFEF else bit_or flags shift) shift ≡ not b) [
@@ -49,7 +49,7 @@ others_kept flags bit mask apart =
 large_kept : (flags bit : ℕ) → bit_and caps bit ≡ 0 → bit_and 0xFFFF_FFEF bit ≡ bit → bit_and shift bit ≡ 0 → has (large_flags flags) bit ≡ has flags bit
 large_kept flags bit apart mask other = has_kept (with_other_shift flags) caps bit apart ∙ others_kept flags bit mask other
 
--- the fit of flags by what they name
+-- whether flags fit, by the modifiers that they name
 abbrev parts_fit : (shift_named caps_named no_caps_named shift_on caps_on control alt : Bool) → Bool
 parts_fit shift_named caps_named no_caps_named shift_on caps_on control alt =
     beq shift_named shift_on && ((not caps_named || caps_on) && (not no_caps_named || not caps_on)) && control && alt
@@ -163,7 +163,7 @@ pub fits_virtual : (cased : List ℕ) (flags code : ℕ) (press : KeyPress) → 
 fits_virtual [] flags code press = refl
 fits_virtual (c ∷ cs) flags code press = refl
 
--- one key that fits, or none
+-- one key that fits, or None
 abbrev place_if : Bool → Option (Option ℕ)
 place_if fits = if fits then Some None else None
 

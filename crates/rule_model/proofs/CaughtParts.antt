@@ -1,4 +1,4 @@
--- What is caught is what the context and the key caught, each of which stands.
+-- A rule catches what its context and its key catch, if both match.
 use Rattle.std.proofs.Common.{◌≡◌, ℕ, List, [], Option, Some, None, refl}
 use Rattle.kmn_base.specs.declared.keys.KeyPress.{KeyPress}
 use Rattle.rule_model.specs.declared.event_state.Catch.{Catch}
@@ -7,7 +7,7 @@ use Rattle.rule_model.specs.Keyboard.{KeyPattern}
 use Rattle.rule_model.specs.Match.{Content}
 use Rattle.rule_model.specs.Hold.{fitting_place_with, caught_by}
 
--- the place at which the key of a rule fits, on a keyboard without cased keys
+-- the position at which the key of a rule fits, on a keyboard without cased keys
 abbrev pub fitting_place : Content → KeyPress → KeyPattern → Option (Option ℕ)
 fitting_place = fitting_place_with []
 

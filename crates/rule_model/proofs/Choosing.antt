@@ -1,4 +1,4 @@
--- Lemmas on which of the rules that hold goes first.
+-- The choice of a group: which of the rules that hold is selected.
 use Rattle.std.proofs.Common.{◌≡◌, ℕ, ◌<◌, zero, suc, Bool, true, false, cond, ◌||◌, ◌&&◌, ◌⊎◌, List, [], ◌∷◌, length, take, Option, Some, None, get_or, refl, sym, ◌∙◌, ap, subst, inl, inr, eqb, ltb, arith}
 use Rattle.std.specs.Prelude.{◌≢◌, slice_get, IsSome, is_some, IsTrue}
 use Rattle.std.specs.List.{All}
@@ -13,7 +13,7 @@ use Rattle.rule_model.specs.Keyboard.{RuleMeaning}
 use Rattle.rule_model.specs.Choose.{Chosen, goes_before, better, best_with, best, first_with, first}
 use Rattle.rule_model.specs.StepLaws.{Holding, NoneHolds, IsFirst, IsBest, LinesDiffer, GoesBeforeOthers, FirstIsNone, FirstIsFirst, BestIsNone, BestIsBest, OneIsBest, BestGoesBeforeOthers, NoneBeforeItself, BeforeIsTransitive, OneGoesBefore}
 
--- the order by the lengths of two contexts and their lines
+-- the order by the lengths of two contexts, then by their lines
 abbrev pub before : ℕ → ℕ → ℕ → ℕ → Bool
 before m i n j = ltb n m || (eqb m n && ltb i j)
 
@@ -110,7 +110,7 @@ first_is_first holds rules chosen =
 
 -- ---- the best
 
--- a rule that holds does not go before another
+-- a rule that holds does not precede another
 abbrev NotBefore : Holding → RuleMeaning → RuleMeaning → Type 0
 NotBefore holds chosen rule = IsSome (holds rule) → goes_before rule chosen ≡ false
 
@@ -145,7 +145,7 @@ module _ (holds : Holding) where
       best_past rule rules (All-head (λ rule. holds rule ≡ None) rule rules h)
       ∙ best_from_none_holds rules (All-tail (λ rule. holds rule ≡ None) rule rules h)
 
-  -- what does not hold goes before nothing
+  -- a rule that does not hold precedes no rule
   none_not_before : (chosen rule : RuleMeaning) → holds rule ≡ None → NotBefore holds chosen rule
   none_not_before chosen rule none some = absurd (cc (ap is_some none))
 
@@ -192,7 +192,7 @@ module _ (holds : Holding) where
     ]
   ]
 
-  -- where lines differ the best rule goes before each other rule that holds
+  -- if lines differ, the best rule precedes each other rule that holds
   before_others : (rules : List RuleMeaning) (chosen : Chosen) → LinesDiffer rules → IsBest holds rules chosen → GoesBeforeOthers holds rules chosen
   before_others rules chosen differ h k d within some =
       let place : ℕ = h.listed.0 in

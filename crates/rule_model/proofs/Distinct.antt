@@ -1,9 +1,9 @@
--- Items that are kept once each, kept once more.
+-- Removing duplicates a second time does not change a list.
 use Rattle.std.proofs.Common.{◌≡◌, Bool, true, false, List, [], ◌∷◌, ◌++◌, refl, sym, ap, ◌∙◌, if◌then◌else◌, append_assoc, append-nil}
 use Rattle.std.specs.List.{list_any}
 use Rattle.rule_model.specs.Tab.{distinct_onto}
 
--- each item is the same as none before it
+-- each item differs from all items before it
 abbrev IsFresh : {X : Type 0} → (X → X → Bool) → List X → List X → Type 0
 IsFresh same seen [] = Unit {0}
 IsFresh same seen (x ∷ xs) = (list_any (λ y. same y x) seen ≡ false) × IsFresh same (seen ++ x ∷ []) xs
@@ -15,7 +15,7 @@ module _ {X : Type 0} (same : X → X → Bool) where
       (λ i. distinct_onto same (if h.0 i then seen else seen ++ x ∷ []) xs)
       ∙ (fresh_stays (seen ++ x ∷ []) xs h.1 ∙ append_assoc seen (x ∷ []) xs)
 
-  -- the items that are put behind those seen
+  -- the items that are appended after those seen
   record Put (seen xs : List X) : Type 0 where
     items : List X
     fresh : IsFresh same seen items
@@ -34,7 +34,7 @@ module _ {X : Type 0} (same : X → X → Bool) where
   put_behind seen [] = record { items = []; fresh = tt; is = sym (append-nil seen) }
   put_behind seen (x ∷ xs) = put_next (list_any (λ y. same y x) seen) seen x xs refl (put_behind (if list_any (λ y. same y x) seen then seen else seen ++ x ∷ []) xs)
 
-  -- a list of distinct items is its own
+  -- a list without duplicates is unchanged
   pub distinct_again : (xs : List X) → distinct_onto same [] (distinct_onto same [] xs) ≡ distinct_onto same [] xs
   distinct_again xs =
       let h = put_behind [] xs in

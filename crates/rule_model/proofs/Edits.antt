@@ -10,14 +10,14 @@ use Rattle.rule_model.specs.KeyEvent.{begin_event, after_key, common_prefix, del
 use Rattle.rule_model.specs.Event.{State, by_editor, after_press, happening}
 use Rattle.rule_model.specs.StepLaws.{deleted_text, EditGivesTheText, EditIsShort, PressEditsTheText}
 
--- two texts that begin with the same character have it and what is behind it alike
+-- two texts that begin with the same character share it and the common prefix of the rest
 pub prefix-same : (c d : ℕ) (cs ds : List ℕ) → eqb c d ≡ true → common_prefix (c ∷ cs) (d ∷ ds) ≡ suc (common_prefix cs ds)
 prefix-same c d cs ds e = cond-true (eqb c d) (1 + common_prefix cs ds) 0 e ∙ omega arith
 
 prefix-other : (c d : ℕ) (cs ds : List ℕ) → eqb c d ≡ false → common_prefix (c ∷ cs) (d ∷ ds) ≡ 0
 prefix-other c d cs ds e = cond-false (eqb c d) (1 + common_prefix cs ds) 0 e
 
--- as far as two texts are alike they are the same
+-- the common prefixes of two texts are equal
 pub same_prefix : (cs ds : List ℕ) → take (common_prefix cs ds) cs ≡ take (common_prefix cs ds) ds
 same_prefix [] ds = refl
 same_prefix (c ∷ cs) [] = refl
@@ -32,7 +32,7 @@ same_prefix (c ∷ cs) (d ∷ ds) = elim (cases_Bool (eqb c d)) [
       ap (λ (n : ℕ). take n (c ∷ cs)) count ∙ ap (λ (n : ℕ). take n (d ∷ ds)) (sym count)
 ]
 
--- behind that they begin differently
+-- after their common prefix, two texts begin differently
 pub nothing_alike_behind : (cs ds : List ℕ) → common_prefix (drop (common_prefix cs ds) cs) (drop (common_prefix cs ds) ds) ≡ 0
 nothing_alike_behind [] ds = refl
 nothing_alike_behind (c ∷ cs) [] = refl
@@ -41,7 +41,7 @@ nothing_alike_behind (c ∷ cs) (d ∷ ds) = elim (cases_Bool (eqb c d)) [
   | inr other ↦ ap (λ (n : ℕ). common_prefix (drop n (c ∷ cs)) (drop n (d ∷ ds))) (prefix-other c d cs ds other) ∙ prefix-other c d cs ds other
 ]
 
--- what is left of a text of which all behind its first n is deleted
+-- the rest of a text after all but its first n characters are deleted
 left-of : (n : ℕ) (cs : List ℕ) → n ≤ length cs → length cs - (length cs - n) ≡ n
 left-of n cs h = omega arith
 

@@ -1,4 +1,4 @@
--- A press inserts no more characters than it puts items.
+-- A press inserts at most as many characters as it puts items.
 use Rattle.std.proofs.Common.{◌≡◌, ℕ, ◌+◌, ◌-◌, ◌≤◌, min, zero, suc, List, [], ◌∷◌, ◌++◌, length, take, drop, leb, refl, sym, ◌∙◌, ap, arith, length-append, length-drop}
 use Rattle.std.proofs.lemmas.Bool.{cond_both, eq-eqb}
 use Rattle.std.proofs.lemmas.List.{take-append-drop, take-append-le, take-take}
@@ -12,7 +12,7 @@ use Rattle.rule_model.specs.StepLaws.{PressInsertsAtMostWhatItPuts}
 use Rattle.rule_model.proofs.Kept.{IsKept, after_key_keeps}
 use Rattle.rule_model.proofs.Edits.{prefix-same}
 
--- two texts that have so many characters alike begin alike at least so far
+-- if the first n characters of two texts are equal, their common prefix has at least n characters
 alike_so_far : (cs ds : List ℕ) (n : ℕ) → n ≤ length cs → n ≤ length ds → take n cs ≡ take n ds → n ≤ common_prefix cs ds
 alike_so_far cs ds zero a b e = omega arith
 alike_so_far [] ds (suc n) a b e = absurd (omega arith)
@@ -24,7 +24,7 @@ alike_so_far (c ∷ cs) (d ∷ ds) (suc n) a b e =
     let count : common_prefix (c ∷ cs) (d ∷ ds) ≡ suc (common_prefix cs ds) = prefix-same c d cs ds (eq-eqb c d first) in
     omega arith
 
--- the text before the caret begins with so many characters of the old one, and at most what was put is behind them
+-- the text before the caret begins with `kept` characters of the old text, followed by at most as many characters as items were put
 record Inserts (old : List ℕ) (left : List Item) (count : ℕ) : Type 0 where
   kept : ℕ
   within_old : kept ≤ length old

@@ -1,4 +1,4 @@
--- What each thing that acts in a key event keeps, the event keeps.
+-- If each action in a key event keeps a fact, the event keeps it.
 use Rattle.std.proofs.Common.{ℕ, ◌<◌, ◌+◌, zero, suc, Bool, true, cond, List, [], ◌∷◌, length, map, leb, Option, Some, None}
 use Rattle.std.specs.Prelude.{slice_set, slice_get, unwrap_or}
 use Rattle.std.specs.List.{filter_map, suffix_len}
@@ -20,7 +20,7 @@ use Rattle.rule_model.specs.Act.{one_more, put_item, put_items, put_element, ite
 use Rattle.rule_model.specs.KeyEvent.{after_key}
 use Rattle.rule_model.specs.Enter.{delete_or_pass, deletes_back, without_end_marks, without_last_character, put_press, put_named, default_of, by_default, nothing, act_if_any, do_chosen, do_unmatched, do_group, chosen_in, in_group, enter_group}
 
--- a fact on what an event acts on stays true at each thing that may act
+-- each action in an event keeps a fact about its state
 pub record IsKept (P : EventState → Type 0) : Type 0 where
   pub puts : (x : Item) (s : EventState) → P s → P (put_item x s)
   pub takes : (n : ℕ) (s : EventState) → P s → P (record s { left = without_last n s.left })
@@ -31,7 +31,7 @@ pub record IsKept (P : EventState → Type 0) : Type 0 where
   pub saves : (values : List (Option (List Element))) (s : EventState) → P s → P (record s { saved = values; saves = one_more s.saves })
   pub enters : (s : EventState) → s.entered < 50 → P s → P (record s { entered = s.entered + 1 })
 
--- entering a group keeps a fact, where fewer than 50 were entered
+-- entering a group keeps a fact if fewer than 50 groups were entered
 abbrev pub EnteringKeeps : (EventState → Type 0) → (Ref → EventState → EventState) → Type 0
 EnteringKeeps P enter = (group : Ref) (s : EventState) → s.entered < 50 → P s → P (enter group s)
 
@@ -81,7 +81,7 @@ module _ (P : EventState → Type 0) (kept : IsKept P) where
   unfolding by_default
   by_default_keeps kb press s h = default_of_keeps press (name_in kb.dictionary press.code) s h
 
--- what acts in a group keeps a fact, where entering one does
+-- if entering a group keeps a fact, the actions in a group keep it
 module _ (P : EventState → Type 0) (kept : IsKept P) (kb : Keyboard) (enter : Ref → EventState → EventState) (entering : EnteringKeeps P enter) where
   enter_if_allowed_keeps : (group : Ref) (s : EventState) → P s → P (enter_if_allowed enter group s)
   enter_if_allowed_keeps group s h = cond_both (leb 50 s.entered) _ _ P (λ _. kept.stops s h) (λ e. entering group s (leb-false 50 s.entered e) h)
@@ -127,7 +127,7 @@ module _ (P : EventState → Type 0) (kept : IsKept P) (kb : Keyboard) (enter : 
   in_group_keeps press None s h = h
   in_group_keeps press (Some group) s h = do_group_keeps press group (chosen_in kb press group s) s h
 
--- entering a group keeps a fact that is true when it was entered, however many entries may come inside one another
+-- entering a group keeps a fact, for each number of nested entries that are allowed
 pub entered_keeps : (P : EventState → Type 0) → IsKept P → (kb : Keyboard) (press : KeyPress) (depth : ℕ) (group : Ref) (s : EventState)
     → P s → P (record s { entered = s.entered + 1 }) → P (enter_group depth kb press group s)
 entered_keeps P kept kb press zero group s h entered = kept.stops s h

@@ -1,4 +1,4 @@
--- The store of a file's own keys is one of its stores: what is so of the elements of all stores is so of its elements.
+-- The store of a file's custom keys is one of its stores: a property of the elements of all stores is a property of its elements.
 use Rattle.std.proofs.Common.{Bool, true, false, List, [], ◌∷◌, Option, Some, cond}
 use Rattle.std.specs.Prelude.{All, find}
 use Rattle.std.proofs.lemmas.List.Elements.{All-head, All-tail}
@@ -11,7 +11,7 @@ module _ (P : List Element → Type 0) where
   chosen true store other here rest = here
   chosen false store other here rest = rest
 
-  -- where there is no such store there are no elements
+  -- if there is no such store, there are no elements
   pub dictionary_has : (stores : List Store) → P [] → All (λ (store : Store). P store.elements) stores → P (store_elements (find is_dictionary stores))
   dictionary_has [] none all = none
   dictionary_has (store ∷ stores) none all =

@@ -1,4 +1,4 @@
--- The lines that are added where more entries may come.
+-- The lines that are added if more entries are allowed.
 use Rattle.std.proofs.Common.{◌≡◌, ℕ, zero, suc, ◌+◌, ◌-◌, List, refl, arith}
 use Rattle.std.specs.Prelude.{slice_get, option_map}
 use Rattle.kmn_base.specs.declared.keys.KeyPress.{KeyPress}

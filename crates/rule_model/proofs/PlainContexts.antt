@@ -1,4 +1,4 @@
--- How many items a compiled context looks at, and whether it has a `nul`: the stores do not matter for that.
+-- The number of items that a compiled context matches, and whether it has a `nul`, do not depend on the stores.
 use Rattle.std.proofs.Common.{◌≡◌, ℕ, ◌+◌, ◌-◌, ◌∙◌, true, false, cond, None, drop, take, List, [], ◌∷◌, map, length, refl, sym}
 use Rattle.std.proofs.lemmas.List.{take_rest}
 use Rattle.std.proofs.lemmas.List.Sums.{sum_by-cons}
@@ -14,7 +14,7 @@ use Rattle.rule_model.specs.Hold.{is_at_start, pattern_count, has_room}
 use Rattle.rule_model.specs.Tab.{tab_pattern}
 use Rattle.rule_model.specs.Plain.{caught_last}
 
--- whether a pattern looks at an item, whatever the stores are
+-- whether a pattern matches an item does not depend on the stores
 pub takes_same : (stores : List Store) (p : Pat) → takes_item (tab_pattern stores p) ≡ takes_item (tab_pattern [] p)
 takes_same stores (pattern.Char c) = refl
 takes_same stores (pattern.Mark m) = refl
@@ -41,7 +41,7 @@ start_same stores (pattern.SystemEqual id value) = refl
 start_same stores (pattern.SystemUnequal id value) = refl
 start_same stores pattern.Nul = refl
 
--- a context takes as many items whatever the stores are
+-- the number of items that a context matches does not depend on the stores
 pub pattern_count_same : (stores : List Store) (context : List Pat) → pattern_count (map (tab_pattern stores) context) ≡ pattern_count (map (tab_pattern []) context)
 pattern_count_same stores [] = refl
 pattern_count_same stores (p ∷ ps) =
@@ -58,7 +58,7 @@ has_room_same stores context left =
     let count = pattern_count_same stores context in
     λ j. if any_start_same stores context j then nat_eq (length left) (count j) else nat_le (count j) (length left)
 
--- what is caught where there is room, and where there is none
+-- what a context catches if the list is long enough, and if it is not
 pub caught_last_with_room : (content : Content) (stores : List Store) (context : List Pat) (left : List Item) (count : ℕ) (seen : List Catch) → has_room (map (tab_pattern []) context) left ≡ true → count ≡ pattern_count (map (tab_pattern []) context) → seen ≡ []
     → catches_from content seen (map (tab_pattern stores) context) (take (length left - (length left - count)) (drop (length left - count) left)) ≡ caught_last content (map (tab_pattern stores) context) left
 caught_last_with_room content stores context left count seen room is none =

@@ -1,4 +1,4 @@
--- EventState keeps how many current and saved values there are.
+-- An event keeps the numbers of current and saved values.
 use Rattle.std.proofs.Common.{◌≡◌, ℕ, zero, suc, ◌+◌, Bool, true, false, List, [], ◌∷◌, length, map, Option, Some, None, refl, ◌∙◌, length-set}
 use Rattle.std.specs.Prelude.{if◌then◌else◌, nat_le, slice_get, unwrap_or, filter_map}
 use Rattle.kmn_base.specs.declared.items.Item.{Item}
@@ -18,7 +18,7 @@ use Rattle.rule_model.specs.Choose.{Chosen}
 use Rattle.rule_model.specs.Enter.{delete_or_pass, deletes_back, put_press, put_named, default_of, by_default, nothing, act_if_any, do_chosen, do_unmatched, do_group, in_group, enter_group}
 use Rattle.rule_model.specs.KeyEvent.{after_key}
 
--- as many current and saved values as before
+-- there are as many current and saved values as before
 pub record SameCounts (s t : EventState) : Type 0 where
   pub current : length t.current ≡ length s.current
   pub saved : length t.saved ≡ length s.saved
@@ -79,7 +79,7 @@ by_default-counts : (kb : Keyboard) (press : KeyPress) (s : EventState) → Same
 unfolding by_default
 by_default-counts kb press s = default_of-counts press (name_in kb.dictionary press.code) s
 
--- given how a group is entered, which keeps the counts
+-- if entering a group keeps the counts
 module _ (kb : Keyboard) (press : KeyPress) (enter : Ref → EventState → EventState) (enter-counts : (g : Ref) (s : EventState) → SameCounts s (enter g s)) where
   act_one-counts : (caught : Caught) (o : Output) (s : EventState) → SameCounts s (act_one kb enter caught o s)
   act_one-counts caught (PutChar c) s = put_item-counts (item.Char c) s

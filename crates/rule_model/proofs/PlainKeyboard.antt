@@ -13,7 +13,7 @@ use Rattle.rule_model.specs.Act.{content_now}
 use Rattle.rule_model.specs.Enter.{chosen_in, in_group, enter_group}
 use Rattle.rule_model.specs.Tab.{tab, tab_group}
 
--- the first record that holds goes first
+-- the first record that holds is selected
 pub chosen_first : (tables : Tables) (press : KeyPress) (group : GroupMeaning) (s : EventState) → chosen_in (tab tables) press group s ≡ first (holds (content_now (tab tables) s) s.left press) group.rules
 unfolding tab
 chosen_first tables press group s = refl
@@ -23,7 +23,7 @@ pub group_numbered : (tables : Tables) (n : ℕ) → group_at (tab tables).group
 unfolding tab
 group_numbered tables n = slice_get-map (tab_group tables.stores) tables.groups n
 
--- entering a group where more entries may come
+-- entering a group if more entries are allowed
 pub enter_more : (tables : Tables) (depth : ℕ) (press : KeyPress) (n : ℕ) (s : EventState) → (depth ≡ 0 → ⊥)
     → enter_group depth (tab tables) press (Numbered n) s ≡ in_group (tab tables) (enter_group (depth - 1) (tab tables) press) press (option_map (tab_group tables.stores) (slice_get tables.groups n)) (record s { entered = s.entered + 1 })
 enter_more tables zero press n s more = absurd (more refl)

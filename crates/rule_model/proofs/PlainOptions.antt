@@ -1,4 +1,4 @@
--- The option numbers of stores, and the contents and names that stand by them.
+-- The option numbers of stores, and the contents and names with these numbers.
 use Rattle.std.proofs.Common.{◌≡◌, ℕ, zero, suc, ◌+◌, Bool, true, false, List, [], ◌∷◌, length, Option, Some, None, refl, sym, ap, ◌∙◌, arith}
 use Rattle.std.proofs.lemmas.Bool.Decides.{nat_tests}
 use Rattle.std.specs.Prelude.{if◌then◌else◌, nat_eq, slice_get, unwrap_or, option_map, position}
@@ -12,7 +12,7 @@ use Rattle.rule_model.specs.Event.{has_name}
 use Rattle.rule_model.specs.Tab.{with_options}
 use Rattle.rule_model.specs.Plain.{option_numbers, option_names, option_named}
 
--- the number that the list of numbers has for a store is its option number
+-- the entry of a store in the list of option numbers is its option number
 number_from : (k n : ℕ) (stores : List StoreMeaning) → option_flatten (slice_get (option_numbers k stores) n) ≡ option_of (k + options_before n stores) (slice_get stores n)
 number_from k n [] = refl
 number_from k zero (s ∷ ss) =
@@ -58,7 +58,7 @@ content_of_other values o (Some store) e =
       | false ↦ λ h. refl
     ] e
 
--- the first place of a list that begins with an item that passes, or with one that does not
+-- the first position in a list that begins with an item that passes, or with one that does not
 pub position-passes : {X : Type 0} (p : X → Bool) (x : X) (xs : List X) → p x ≡ true → position p (x ∷ xs) ≡ Some 0
 position-passes p x xs h = grind (arith, nat_tests)
 
@@ -91,7 +91,7 @@ pub same_number : (o : Option ℕ) → option_map (λ i. 0 + i) o ≡ o
 same_number None = refl
 same_number (Some x) = let q : 0 + x ≡ x = omega arith in ap Some q
 
--- the first store of a name that has an option number is the first option of that name
+-- the first store with a name and an option number is the first option with this name
 pub first_named : (name : List ℕ) (options : List ℕ) (stores : List Store)
     → option_named name (option_numbers 0 (with_options options 0 stores)) stores ≡ position (has_name name) (option_names (with_options options 0 stores))
 first_named name options stores = named_from name 0 0 options stores ∙ same_number (position (has_name name) (option_names (with_options options 0 stores)))

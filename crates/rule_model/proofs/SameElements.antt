@@ -1,4 +1,4 @@
--- Elements and values are the same where `==` of them says so.
+-- Elements and values are the same exactly where `==` of them is true.
 use Rattle.std.proofs.Common.{◌≡◌, List, [], ◌∷◌, refl}
 use Rattle.std.specs.Prelude.{◌&&◌}
 use Rattle.std.specs.Cmp.Lexicographic.{pointwise}
@@ -7,7 +7,7 @@ use Rattle.kmn_base.specs.declared.items.Element.TheVariants as element
 use Rattle.kmn_base.specs.contracts.items.ElementPartialEq.TheImpl as ElementPartialEq
 use Rattle.rule_model.specs.Match.{same_element, same_value}
 
--- what `==` says of two elements
+-- the result of `==` for two elements
 pub equal_elements : (a b : Element) → ElementPartialEq.eq-value.it a b ≡ same_element a b
 equal_elements (element.Char c) (element.Char d) = refl
 equal_elements (element.Char c) (element.Mark n) = refl
@@ -19,7 +19,7 @@ equal_elements (element.Key flags code) (element.Char d) = refl
 equal_elements (element.Key flags code) (element.Mark n) = refl
 equal_elements (element.Key flags code) (element.Key other other_code) = refl
 
--- what `==` says of two values
+-- the result of `==` for two values
 pub equal_values : (a b : List Element) → pointwise ElementPartialEq.eq-value.it a b ≡ same_value a b
 equal_values [] [] = refl
 equal_values [] (b ∷ others) = refl

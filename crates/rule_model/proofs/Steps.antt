@@ -1,4 +1,4 @@
--- What each event keeps, each step of a trace keeps; and how the steps of a trace are numbered.
+-- If each event keeps a fact, each step of a trace keeps it; and how the steps of a trace are numbered.
 use Rattle.std.proofs.Common.{◌≡◌, ℕ, ◌+◌, ◌-◌, ◌^◌, ◌<◌, ◌≤◌, min, zero, suc, List, [], ◌∷◌, length, Option, Some, None, Result, Ok, Err, refl, ap, arith}
 use Rattle.std.specs.Prelude.{slice_get}
 use Rattle.std.specs.List.{All}
@@ -12,7 +12,7 @@ use Rattle.rule_model.specs.Event.{State, Happening, happening, event_refusal, u
 use Rattle.rule_model.specs.Trace.{first_state, Step, Steps, step_then, steps_from, trace}
 use Rattle.rule_model.specs.StepLaws.{StepsAreNumbered, NoMoreStepsThanEvents, EachEventHasItsStep, RefusalFollowsTheSteps}
 
--- an event that is not refused keeps a fact on states, and what it does has another fact
+-- an event that is not refused keeps a fact about states, and its effect has another property
 abbrev pub EventKeeps : (State → Type 0) → (Happening → Type 0) → Keyboard → Type 0
 EventKeeps I Q kb = (state : State) (event : Event) → event_refusal state event ≡ None → I state → Q (happening kb state event) × I (happening kb state event).after
 
@@ -38,7 +38,7 @@ module _ (I : State → Type 0) (Q : Happening → Type 0) where
 
 -- ---- numbers
 
--- the number of the step at a place behind a number
+-- the number of the step at a position after a number
 abbrev number_at : ℕ → ℕ → ℕ
 number_at number place = min (place + number) (2 ^ 32 - 1)
 
@@ -86,7 +86,7 @@ steps_allowed kb number [] state e = refl
 steps_allowed kb number (event ∷ events) state e =
     step_allowed number (length events) (steps_from kb (one_more number) events) (steps_allowed kb (one_more number) events) (event_of kb state event) e
 
--- the refusal of some steps is that of the event behind them
+-- the refusal after some steps is the refusal of the event that follows them
 abbrev FollowsSteps : ℕ → ℕ → Steps → Type 0
 FollowsSteps number count steps = (refused : ℕ) (code : Code) → steps.refused ≡ Some (refused, code) → (length steps.done < count) × (refused ≡ number_at number (length steps.done))
 

@@ -1,4 +1,4 @@
--- The two system options, which stand behind the stores of a keyboard: their numbers, names and elements.
+-- The two system options, which come after the stores of a keyboard: their numbers, names and elements.
 use Rattle.std.proofs.Common.{◌≡◌, ℕ, zero, suc, ◌+◌, ◌-◌, ◌<◌, Bool, true, false, List, [], ◌∷◌, ◌++◌, length, Option, Some, None, refl, sym, ap, ◌∙◌, arith}
 use Rattle.std.proofs.lemmas.List.{length-append}
 use Rattle.std.specs.Prelude.{map, if◌then◌else◌, nat_eq, slice_get, unwrap_or, option_map, position}
@@ -18,7 +18,7 @@ use Rattle.rule_model.proofs.PlainOptions.{number_found, length-option_numbers, 
 abbrev map_names : List StoreMeaning → List (List ℕ)
 map_names stores = map (λ (store : StoreMeaning). store.name) stores
 
--- where system options stand behind the stores
+-- system options that come after the stores
 module _ (name : List ℕ) where
   no_stores_named : (numbers : List (Option ℕ)) → option_named name numbers [] ≡ None
   no_stores_named [] = refl
@@ -35,7 +35,7 @@ module _ (name : List ℕ) where
         | false ↦ named_before k (m + 1) options ss more
       ]
 
--- the first place in a list, else in what stands behind it
+-- the first position in a list, else in the list that follows it
 abbrev pub either_place : Option ℕ → Option ℕ → Option ℕ
 either_place None other = other
 either_place (Some place) other = Some place
@@ -76,7 +76,7 @@ numbers_behind k (s ∷ a) b =
       | false ↦ ap (λ rest. None ∷ rest) (numbers_behind k a b)
     ]
 
--- what stands behind another list
+-- an item of a list that follows another list
 pub at_behind : {X : Type 0} (xs ys : List X) (k : ℕ) → slice_get (xs ++ ys) (length xs + k) ≡ slice_get ys k
 at_behind [] ys k = let q : 0 + k ≡ k = omega arith in ap (slice_get ys) q
 at_behind (x ∷ xs) ys k =
@@ -92,7 +92,7 @@ system_numbered stores k =
     ∙ (ap option_flatten (at_behind (option_numbers 0 stores) (option_numbers (0 + length (option_names stores)) system_options) k)
     ∙ ap (λ n. option_flatten (slice_get (option_numbers n system_options) k)) from)
 
--- the first option of a name is that of a store, else a system option
+-- the first option with a name is an option among the stores, else a system option
 pub first_named_of_all : (name : List ℕ) (options : List ℕ) (stores : List Store)
     → position (has_name name) (option_names (with_options options 0 stores ++ system_options))
     ≡ either_place (option_named name (option_numbers 0 (with_options options 0 stores ++ system_options)) stores)
@@ -128,7 +128,7 @@ platform_numbered stores =
     sym (number_found all (length all - 1))
     ∙ (ap (λ n. option_flatten (slice_get (option_numbers 0 all) n)) place ∙ system_numbered stores 1)
 
--- the option number of the system option of an id
+-- the option number of the system option with an id
 pub system_option_is : (stores : List StoreMeaning) (id : ℕ) → option_number (stores ++ system_options) (system_ref id) ≡ Some (length (option_names stores) + (if nat_eq id 31 then 1 else 0))
 system_option_is stores id =
     elim (nat_eq id 31) as (λ b. option_number (stores ++ system_options) (if b then Platform else Layer) ≡ Some (length (option_names stores) + (if b then 1 else 0))) [
@@ -136,7 +136,7 @@ system_option_is stores id =
       | false ↦ layer_numbered stores
     ]
 
--- it is the last number but one, or the last
+-- this is the last number or the one before it
 pub system_at : (all : List StoreMeaning) (id place : ℕ) → place ≡ length (option_numbers 0 all) - (if nat_eq id 31 then 1 else 2) → option_flatten (slice_get (option_numbers 0 all) place) ≡ option_number all (system_ref id)
 system_at all id place is =
     ap (λ n. option_flatten (slice_get (option_numbers 0 all) n)) (is ∙ ap (λ n. n - (if nat_eq id 31 then 1 else 2)) (length-option_numbers 0 all))
@@ -153,7 +153,7 @@ content_by_option stores values ref o is = by_number (store_number stores ref) i
     by_number None e = cc
     by_number (Some n) e = content_of_option values (options_before n stores) o (slice_get stores n) e
 
--- the first place in a list of two
+-- the first position in a list of two items
 pub system_place : {X : Type 0} (p : X → Bool) (x y : X) → position p (x ∷ y ∷ []) ≡ (if p x then Some 0 else (if p y then Some 1 else None))
 system_place p x y = by_test (p x) refl
   where
@@ -165,14 +165,14 @@ system_place p x y = by_test (p x) refl
     by_test true h = position-passes p x (y ∷ []) h
     by_test false h = position-fails p x (y ∷ []) h ∙ one (p y) refl
 
--- a store has its elements, where system options stand behind it
+-- a store keeps its elements if system options follow the stores
 pub own_elements : (options : List ℕ) (k n : ℕ) (stores : List Store) → n < length stores
     → elements_of_store (slice_get (with_options options k stores ++ system_options) n) ≡ elements_of stores n
 own_elements options k n [] below = absurd (omega arith)
 own_elements options k zero (s ∷ ss) below = refl
 own_elements options k (suc n) (s ∷ ss) below = own_elements options (k + 1) n ss (omega arith)
 
--- the elements of all stores, and behind them those of the system options
+-- the elements of all stores, followed by the elements of the system options
 pub all_elements : (options : List ℕ) (k : ℕ) (stores : List Store)
     → map (λ (s : StoreMeaning). s.elements) (with_options options k stores ++ system_options)
     ≡ map (λ (s : Store). s.elements) stores ++ map (λ (s : StoreMeaning). s.elements) system_options

@@ -1,4 +1,4 @@
--- What the items of an output do.
+-- The effect of the items of an output.
 use Rattle.std.specs.Prelude.{ℕ, ◌+◌, ◌-◌, ◌^◌, min, true, nat_le, if◌then◌else◌, List, [], ◌∷◌, Option, Some, None, slice_get, slice_set, unwrap_or, filter_map, nat_eq, length}
 use Rattle.kmn_base.specs.declared.items.Item.{Item}
 use Rattle.kmn_base.specs.declared.items.Item.TheVariants as item
@@ -12,18 +12,18 @@ use Rattle.rule_model.specs.Keyboard.{Ref, Output, PutChar, PutMark, PutIndex, P
 use Rattle.rule_model.specs.Content.{content, elements_at, store_number, option_number}
 use Rattle.rule_model.specs.Match.{element_at, item_of, item_caught, place_caught}
 
--- one more, standing still at the end of a 32-bit number
+-- a count increased by 1, which saturates at the maximum of 32 bits
 abbrev pub one_more : ℕ → ℕ
 one_more n = min (n + 1) (2 ^ 32 - 1)
 
--- an item is put, or ends the event where no more may be put
+-- puts an item, or ends the event if no more items may be put
 abbrev pub put_item : Item → EventState → EventState
 put_item x s =
     if s.stopped then s
     else if nat_le EVENT_PUTS s.put then record s { stopped = true }
     else record s { left = put s.left x; put = s.put + 1 }
 
--- the items that are there are put, in order
+-- puts the items that are present, in order
 abbrev pub put_items : List Item → EventState → EventState
 put_items [] s = s
 put_items (x ∷ xs) s = put_items xs (put_item x s)
@@ -32,7 +32,7 @@ abbrev pub item_list : Option Item → List Item
 item_list None = []
 item_list (Some x) = x ∷ []
 
--- an element is put, unless it is a virtual key or there is none
+-- puts an element, unless it is absent or a virtual key
 abbrev pub put_element : Option Element → EventState → EventState
 put_element None s = s
 put_element (Some e) s = put_items (item_list (item_of e)) s
@@ -41,16 +41,16 @@ put_element (Some e) s = put_items (item_list (item_of e)) s
 abbrev pub items_caught : Caught → List Item
 items_caught caught = filter_map (λ (catch : Catch). catch.item) caught.catches
 
--- the content of each store at this moment
+-- the content of each store in this state
 abbrev pub content_now : Keyboard → EventState → Ref → List Element
 content_now kb s = content kb.stores s.current
 
--- the place that an `index` takes: of the key where it stands one place after the context, else what was caught
+-- the position that an `index` uses: the key's position if the offset is one past the context, else the position that was caught
 abbrev pub place_for_index : Caught → ℕ → Option ℕ
 place_for_index caught offset =
     if nat_eq offset (length caught.catches + 1) then caught.key_place else place_caught caught.catches offset
 
--- an option's current or saved value is changed; of no option nothing is
+-- changes the current or the saved value of an option; if there is no option, the state is unchanged
 abbrev pub set_current : Option ℕ → List Element → EventState → EventState
 set_current None value s = s
 set_current (Some option) value s = record s { current = slice_set s.current option value }
@@ -60,7 +60,7 @@ save_current None s = s
 save_current (Some option) s =
     record s { saved = slice_set s.saved option (Some (unwrap_or (slice_get s.current option) [])); saves = one_more s.saves }
 
--- the value that `reset` gives back: the saved one, else the keyboard's
+-- the value that `reset` restores: the saved value, else the keyboard's
 abbrev pub value_to_reset : Option (Option (List Element)) → List Element → List Element
 value_to_reset None stated = stated
 value_to_reset (Some None) stated = stated
@@ -71,11 +71,11 @@ reset_current None stated s = s
 reset_current (Some option) stated s =
     record s { current = slice_set s.current option (value_to_reset (slice_get s.saved option) stated) }
 
--- a group is entered, or the event ends where no more may be entered
+-- enters a group, or ends the event if no more groups may be entered
 abbrev pub enter_if_allowed : (Ref → EventState → EventState) → Ref → EventState → EventState
 enter_if_allowed enter group s = if nat_le EVENT_ENTRIES s.entered then record s { stopped = true } else enter group s
 
--- what one item of an output does, given how a group is entered and what the rule caught
+-- the effect of one item of an output, given how a group is entered and what the rule caught
 abbrev pub act_one : Keyboard → (Ref → EventState → EventState) → Caught → Output → EventState → EventState
 act_one kb enter caught (PutChar c) s = put_item (item.Char c) s
 act_one kb enter caught (PutMark m) s = put_item (item.Mark m) s
@@ -91,7 +91,7 @@ act_one kb enter caught MakeBeep s = record s { beeps = one_more s.beeps }
 act_one kb enter caught DoNothing s = s
 act_one kb enter caught StopEvent s = record s { stopped = true }
 
--- the items of an output act in order; once the event is stopped nothing changes
+-- the items of an output act in order; once the event is stopped, the remaining items have no effect
 abbrev pub act : Keyboard → (Ref → EventState → EventState) → Caught → List Output → EventState → EventState
 act kb enter caught [] s = s
 act kb enter caught (output ∷ outputs) s = act kb enter caught outputs (if s.stopped then s else act_one kb enter caught output s)

@@ -13,7 +13,7 @@ use Rattle.rule_model.specs.Hold.{is_exchanged, exchanged_fit, holds_with, holds
 abbrev pub small_flags : ℕ → ℕ
 small_flags flags = bit_or flags no_caps
 
--- SHIFT is named where it was not, and not where it was
+-- the flags with SHIFT named exactly if it was not named before
 abbrev pub with_other_shift : ℕ → ℕ
 with_other_shift flags = if has flags shift then bit_and flags 0xFFFF_FFEF else bit_or flags shift
 
@@ -25,7 +25,8 @@ large_flags flags = bit_or (with_other_shift flags) caps
 abbrev pub half_flags : ℕ → ℕ → ℕ
 half_flags half flags = if nat_eq half 0 then small_flags flags else large_flags flags
 
--- without caps lock half 0 fits where the cased key does, and half 1 doesn't; with it the other way round
+-- without caps lock, half 0 fits exactly where the cased key does and half 1 does not fit; with caps lock, half 1 does and half 0 does
+-- not
 pub record FitByHalves (flags code : ℕ) (press : KeyPress) : Type 0 where
   pub small : key_fits (key.Virtual (small_flags flags) code) press ≡ (not (has press.mods caps) && (nat_eq code press.code && exchanged_fit flags press.mods))
   pub large : key_fits (key.Virtual (large_flags flags) code) press ≡ (has press.mods caps && (nat_eq code press.code && exchanged_fit flags press.mods))
@@ -33,16 +34,16 @@ pub record FitByHalves (flags code : ℕ) (press : KeyPress) : Type 0 where
 abbrev pub CasedKeysFitByHalves : Type 0
 CasedKeysFitByHalves = (flags code : ℕ) (press : KeyPress) → has flags caps ≡ false → has flags no_caps ≡ false → FitByHalves flags code press
 
--- a rule with one of its halves as its key
+-- a rule with one of the halves of its key as its key
 abbrev pub half_rule : RuleMeaning → ℕ → ℕ → ℕ → RuleMeaning
 half_rule rule half flags code = record rule { key = OneKey (key.Virtual (half_flags half flags) code) }
 
--- what the first of two has caught that holds
+-- what the first of two rules that holds has caught
 abbrev pub either_caught : Option Caught → Option Caught → Option Caught
 either_caught None other = other
 either_caught (Some caught) other = Some caught
 
--- a rule with a cased key holds, and catches what it does, exactly where one of its two halves does in a file
+-- a rule with a cased key holds exactly where one of its two halves holds in a file, and catches the same
 abbrev pub CasedRulesHoldByHalves : Type 0
 CasedRulesHoldByHalves =
     (cased : List ℕ) (content : Content) (left : List Item) (press : KeyPress) (rule : RuleMeaning) (flags code : ℕ)

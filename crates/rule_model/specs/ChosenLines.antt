@@ -1,4 +1,4 @@
--- The lines of the rules that a press chooses, in the order in which their groups are entered.
+-- The lines of the rules that a press selects, in the order in which their groups are entered.
 use Rattle.std.specs.Prelude.{ℕ, zero, suc, ◌+◌, nat_le, if◌then◌else◌, List, [], ◌∷◌, ◌++◌, length, Option, Some, None}
 use Rattle.kmn_base.specs.declared.keys.KeyPress.{KeyPress}
 use Rattle.kmn_base.specs.declared.limits.TheConstants.{EVENT_ENTRIES}
@@ -15,32 +15,32 @@ use Rattle.rule_model.specs.KeyEvent.{begin_event}
 use Rattle.rule_model.specs.Event.{State}
 use Rattle.rule_model.specs.Enter.{nothing, chosen_in, enter_group}
 
--- the lines so far, and those that entering a group at a moment adds to them
+-- appends to lines the lines that entering a group in a state adds
 abbrev pub Adding : Type 0
 Adding = Ref → EventState → List ℕ → List ℕ
 
--- the lines so far, and those that one item of an output adds: only entering a group does
+-- the lines with those that one item of an output adds: only entering a group adds lines
 abbrev pub lines_of_one : Adding → Output → EventState → List ℕ → List ℕ
 lines_of_one adding (UseGroup group) s lines = if nat_le EVENT_ENTRIES s.entered then lines else adding group s lines
 lines_of_one adding output s lines = lines
 
--- those that the items of an output add, each at the moment at which it acts; once the event is stopped nothing is added
+-- the lines with those that the items of an output add, each in the state in which it acts; once the event is stopped, no lines are added
 abbrev pub lines_of : Keyboard → (Ref → EventState → EventState) → Adding → Caught → List Output → EventState → List ℕ → List ℕ
 lines_of kb enter adding caught [] s lines = lines
 lines_of kb enter adding caught (output ∷ outputs) s lines =
     lines_of kb enter adding caught outputs (if s.stopped then s else act_one kb enter caught output s)
     (if s.stopped then lines else lines_of_one adding output s lines)
 
--- those of an output that may be absent
+-- the lines with those of an output that may be absent
 abbrev pub lines_if_any : Keyboard → (Ref → EventState → EventState) → Adding → Option (List Output) → EventState → List ℕ → List ℕ
 lines_if_any kb enter adding None s lines = lines
 lines_if_any kb enter adding (Some outputs) s lines = lines_of kb enter adding nothing outputs s lines
 
--- the items that a chosen rule matched are taken
+-- removes the items that a selected rule matched
 abbrev pub taken_by : Chosen → EventState → EventState
 taken_by chosen s = record s { left = without_last (length (items_caught chosen.1)) s.left }
 
--- a chosen rule adds its own line, then those of its output, then those of the group's match output
+-- a selected rule adds its own line, then the lines of its output, then those of the group's match output
 abbrev pub lines_of_group : Keyboard → (Ref → EventState → EventState) → Adding → GroupMeaning → Option Chosen → EventState → List ℕ → List ℕ
 lines_of_group kb enter adding group None s lines = lines_if_any kb enter adding group.on_nomatch s lines
 lines_of_group kb enter adding group (Some chosen) s lines =
@@ -51,19 +51,19 @@ abbrev pub lines_in_group : Keyboard → (Ref → EventState → EventState) →
 lines_in_group kb enter adding press None s lines = lines
 lines_in_group kb enter adding press (Some group) s lines = lines_of_group kb enter adding group (chosen_in kb press group s) s lines
 
--- those that entering a group adds, with so many entries inside one another that may still come
+-- the lines with those that entering a group adds, if at most `depth` more nested entries are allowed
 abbrev pub add_lines : ℕ → Keyboard → KeyPress → Ref → EventState → List ℕ → List ℕ
 add_lines zero kb press group s lines = lines
 add_lines (suc depth) kb press group s lines =
     lines_in_group kb (enter_group depth kb press) (add_lines depth kb press) press (group_at kb.groups group)
     (record s { entered = s.entered + 1 }) lines
 
--- those of a press
+-- the lines of a press
 unfoldable pub lines_of_press : Keyboard → KeyPress → EventState → List ℕ
 lines_of_press kb press s = add_lines EVENT_ENTRIES kb press kb.start s []
 
--- the lines of the rules that an event chooses, one for each entry at which a rule is chosen, in the order of entry; an
--- event that is no key chooses none
+-- the lines of the rules that an event selects, one for each entry at which a rule is selected, in the order of entry; an event that is
+-- not a key press selects no rule
 abbrev pub chosen : Keyboard → State → Event → List ℕ
 chosen kb state (event.Key press) = lines_of_press kb press (begin_event state.left state.current state.saved)
 chosen kb state event = []

@@ -1,4 +1,4 @@
--- What an event does to a state, or why it is refused.
+-- The effect of an event on a state, or why the event is refused.
 use Rattle.std.specs.Prelude.{ℕ, ◌+◌, ◌-◌, Bool, false, not, ◌&&◌, ◌||◌, nat_eq, nat_lt, nat_le, if◌then◌else◌, List, [], ◌∷◌, ◌++◌, length, take, drop, map, Option, Some, None, position, slice_set, Result, Ok, Err}
 use Rattle.kmn_base.specs.declared.items.Item.{Item}
 use Rattle.kmn_base.specs.declared.items.Element.{Element}
@@ -18,8 +18,7 @@ use Rattle.rule_model.specs.declared.event_state.EventState.{EventState}
 use Rattle.rule_model.specs.Keyboard.{Keyboard}
 use Rattle.rule_model.specs.KeyEvent.{begin_event, after_key, outcome_of, inserted}
 
--- a state: the list before the caret, the text after it, and of each option store, in order, its name, its current
--- value and its saved one
+-- a state: the left list, the text after the caret, and in order for each option store its name, its current value and its saved value
 pub record State : Type 0 where
   pub left : List Item
   pub right : List ℕ
@@ -27,7 +26,7 @@ pub record State : Type 0 where
   pub current : List (List Element)
   pub saved : List (Option (List Element))
 
--- what an event did: its outcome, the text that a key inserted, and the state after it
+-- the effect of an event: its outcome, the text that a key inserted, and the state after it
 pub record Happening : Type 0 where
   pub outcome : Outcome
   pub inserted : List ℕ
@@ -37,11 +36,11 @@ pub record Happening : Type 0 where
 abbrev pub whole_text : State → List ℕ
 whole_text state = characters state.left ++ state.right
 
--- the outcome of an event that is no key
+-- the outcome of an event that is not a key press
 abbrev pub no_outcome : Outcome
 no_outcome = record { delete = 0; pass = false; beeps = 0; entered = 0; put = 0; saved = 0 }
 
--- the text is now these characters before the caret and those after it, and the left list is read again
+-- the text becomes these characters before the caret and those after it, and the left list is read again
 abbrev pub text_becomes : List ℕ → List ℕ → State → State
 text_becomes left right state = record state { left = read_again state.left left; right = right }
 
@@ -56,7 +55,7 @@ editor_left code left right =
     else if nat_eq code K_END then left ++ right
     else left
 
--- the text after the caret then
+-- the text after the caret after such a key
 abbrev pub editor_right : ℕ → List ℕ → List ℕ → List ℕ
 editor_right code left right =
     if nat_eq code K_LEFT then drop (length left - 1) left ++ right
@@ -66,7 +65,7 @@ editor_right code left right =
     else if nat_eq code K_DEL then drop 1 right
     else right
 
--- the editor's default for a key that was passed on: only without control and alt
+-- the editor's default for a key that was passed on: it acts only without control and alt
 abbrev pub by_editor : KeyPress → State → State
 by_editor press state =
     let left = characters state.left in
@@ -80,7 +79,7 @@ after_press press s state =
     let acted = record state { left = s.left; current = s.current; saved = s.saved } in
     if s.pass then by_editor press acted else acted
 
--- what a press did
+-- the effect of a press
 abbrev pub happening_of : KeyPress → EventState → State → Happening
 happening_of press s state =
     record { outcome = outcome_of state.left s; inserted = inserted state.left s.left; after = after_press press s state }
@@ -88,15 +87,15 @@ happening_of press s state =
 abbrev pub key_event : Keyboard → KeyPress → State → Happening
 key_event kb press state = happening_of press (after_key kb press (begin_event state.left state.current state.saved)) state
 
--- what an event that is no key did
+-- the effect of an event that is not a key press
 abbrev pub only_state : State → Happening
 only_state state = record { outcome = no_outcome; inserted = []; after = state }
 
--- an option by its name: the first that has it; a store without a name is found by none
+-- whether an option has a name: the first option that has it is found; a store without a name is never found
 abbrev pub has_name : List ℕ → List ℕ → Bool
 has_name name other = not (nat_eq (length other) 0) && same_name other name
 
--- an option gets a value from the host, as current and as saved one
+-- the host sets an option to a value, as its current and its saved value
 abbrev pub set_option : Option ℕ → List Element → State → State
 set_option None value state = state
 set_option (Some option) value state =
@@ -105,11 +104,11 @@ set_option (Some option) value state =
 abbrev pub setting_event : List ℕ → List ℕ → State → State
 setting_event name value state = set_option (position (has_name name) state.names) (map element.Char value) state
 
--- the caret moves to a place of the whole text
+-- the caret moves to a position of the whole text
 abbrev pub caret_event : ℕ → State → State
 caret_event place state = text_becomes (take place (whole_text state)) (drop place (whole_text state)) state
 
--- where the caret is after the characters from one place to another were replaced by so many
+-- the position of the caret after the characters between two positions were replaced by `count` characters
 abbrev pub moved_caret : ℕ → ℕ → ℕ → ℕ → ℕ
 moved_caret from to count caret =
     if nat_le caret from then caret
@@ -126,7 +125,7 @@ edit_event from to text state =
     let caret = moved_caret from to (length text) (length (characters state.left)) in
     text_becomes (take caret whole) (drop caret whole) state
 
--- why an event is refused: E1 for a place past the text, E2 for a text that is or would be too long
+-- why an event is refused: E1 for a position past the text, E2 for a text that is or would be too long
 abbrev pub edit_refusal : ℕ → ℕ → ℕ → ℕ → Option Code
 edit_refusal from to count whole =
     if nat_lt to from || nat_lt whole to then Some E1
@@ -139,7 +138,7 @@ event_refusal state (event.Setting name value) = None
 event_refusal state (event.Caret place) = if nat_lt (length (whole_text state)) place then Some E1 else None
 event_refusal state (event.Edit from to text) = edit_refusal from to (length text) (length (whole_text state))
 
--- what an event does where it is not refused
+-- the effect of an event that is not refused
 unfoldable pub happening : Keyboard → State → Event → Happening
 happening kb state (event.Key press) = key_event kb press state
 happening kb state (event.Setting name value) = only_state (setting_event name value state)
@@ -150,6 +149,6 @@ abbrev pub unless_refused : Option Code → Happening → Result Happening Code
 unless_refused None done = Ok done
 unless_refused (Some code) done = Err code
 
--- an event is refused, or this happens
+-- the effect of an event, or its refusal
 abbrev pub event_of : Keyboard → State → Event → Result Happening Code
 event_of kb state event = unless_refused (event_refusal state event) (happening kb state event)

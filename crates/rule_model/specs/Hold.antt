@@ -1,4 +1,4 @@
--- When a rule holds, and what it has then caught.
+-- When a rule holds, and what it then catches.
 use Rattle.std.specs.Prelude.{ℕ, ◌-◌, Bool, true, false, not, ◌&&◌, nat_eq, nat_le, if◌then◌else◌, List, [], ◌∷◌, length, drop, Option, Some, None, position, count_by}
 use Rattle.std.specs.List.{list_all, list_any}
 use Rattle.kmn_base.specs.declared.items.Item.{Item}
@@ -15,7 +15,7 @@ use Rattle.rule_model.specs.Keyboard.{Pattern, IfEqual, IfUnequal, AtStart, KeyP
 use Rattle.rule_model.specs.Match.{Content, takes_item, catches_from}
 use Rattle.rule_model.specs.System.{is_equal}
 
--- whether a condition is true of a moment
+-- whether a condition is true in a state
 abbrev pub is_true : Content → Pattern → Bool
 is_true content (IfEqual store value) = is_equal store (content store) value
 is_true content (IfUnequal store value) = not (is_equal store (content store) value)
@@ -25,16 +25,16 @@ abbrev pub is_at_start : Pattern → Bool
 is_at_start AtStart = true
 is_at_start pattern = false
 
--- how many items of the text a context looks at
+-- the number of items of the text that a context matches
 abbrev pub pattern_count : List Pattern → ℕ
 pattern_count context = count_by takes_item context
 
--- the left list has room for the context, and with a `nul` nothing more
+-- whether the left list has at least as many items as the context matches, and with a `nul` exactly as many
 abbrev pub has_room : List Pattern → List Item → Bool
 has_room context left =
     if list_any is_at_start context then nat_eq (length left) (pattern_count context) else nat_le (pattern_count context) (length left)
 
--- the key that an element of a key store stands for; a mark stands for none
+-- the key that an element of a key store denotes; a mark denotes none
 abbrev pub key_of_element : Element → Option RuleKey
 key_of_element (element.Char c) = Some (key.Char c)
 key_of_element (element.Mark m) = None
@@ -44,8 +44,7 @@ key_of_element (element.Key flags code) = Some (key.Virtual flags code)
 abbrev pub is_exchanged : List ℕ → ℕ → ℕ → Bool
 is_exchanged cased flags code = list_any (nat_eq code) cased && (not (has flags caps) && not (has flags no_caps))
 
--- the held modifiers are those that such a key asks for: where SHIFT is named, exactly one of shift and caps lock is on, else
--- both or neither
+-- whether the held modifiers fit such a key: if SHIFT is named, exactly one of shift and caps lock is on, else both or neither
 abbrev pub exchanged_fit : ℕ → ℕ → Bool
 exchanged_fit flags mods =
     beq (has flags shift) (not (beq (has mods shift) (has mods caps)))
@@ -65,7 +64,7 @@ abbrev pub fits_press_with : List ℕ → KeyPress → Option RuleKey → Bool
 fits_press_with cased press None = false
 fits_press_with cased press (Some wanted) = fits_cased cased wanted press
 
--- the first place of a key store that fits the press
+-- the first position of a key store whose key fits the press
 abbrev pub key_place_with : List ℕ → KeyPress → List Element → Option ℕ
 key_place_with cased press elements = position (λ e. fits_press_with cased press (key_of_element e)) elements
 
@@ -73,19 +72,19 @@ abbrev pub some_place : Option ℕ → Option (Option ℕ)
 some_place None = None
 some_place (Some place) = Some (Some place)
 
--- a key that fits has no place where it is one key, and its first place where it is a store; None where none fits
+-- the position of a key that fits: absent for a single key, the first position for a store; None if no key fits
 abbrev pub fitting_place_with : List ℕ → Content → KeyPress → KeyPattern → Option (Option ℕ)
 fitting_place_with cased content press (OneKey wanted) = if fits_cased cased wanted press then Some None else None
 fitting_place_with cased content press (KeyIn store) = some_place (key_place_with cased press (content store))
 
--- what was caught, where both the context and the key were
+-- what a rule catches, if its context and its key both match
 abbrev pub caught_by : Option (List Catch) → Option (Option ℕ) → Option Caught
 caught_by None place = None
 caught_by (Some catches) None = None
 caught_by (Some catches) (Some place) = Some (record { catches = catches; key_place = place })
 
--- a rule holds on a left list: its conditions are true, the last items match its patterns place by place, the list has
--- exactly these items where the context has a `nul`, and its key fits the press. Then this is what it caught
+-- a rule holds on a left list: its conditions are true, the last items match its patterns one by one, the list has no other items if the
+-- context has a `nul`, and its key fits the press. The value is what the rule caught
 abbrev pub holds_with : List ℕ → Content → List Item → KeyPress → RuleMeaning → Option Caught
 holds_with cased content left press rule =
     if list_all (is_true content) rule.context && has_room rule.context left
@@ -94,7 +93,7 @@ holds_with cased content left press rule =
     (fitting_place_with cased content press rule.key)
     else None
 
--- the same on a keyboard without cased keys, as that of a file
+-- the same for a keyboard without cased keys, such as the keyboard of a file
 abbrev pub key_place : KeyPress → List Element → Option ℕ
 key_place = key_place_with []
 

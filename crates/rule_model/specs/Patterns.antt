@@ -1,4 +1,4 @@
--- What an item of a compiled context asks for.
+-- What an item of a compiled context requires.
 use Rattle.std.specs.Prelude.{Bool, true, false}
 use Rattle.rule_model.specs.declared.tables.Pat.{Pat}
 use Rattle.rule_model.specs.declared.tables.Pat.TheVariants as pattern
@@ -16,7 +16,7 @@ abbrev pub is_nul : Pat → Bool
 is_nul pattern.Nul = true
 is_nul _ = false
 
--- whether an item of a context is matched with an item of the text, as conditions and `nul` aren't
+-- whether an item of a context is matched with an item of the text; conditions and `nul` are not
 abbrev pub is_matched : Pat → Bool
 is_matched (pattern.Equal store value) = false
 is_matched (pattern.Unequal store value) = false

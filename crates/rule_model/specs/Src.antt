@@ -1,4 +1,4 @@
--- The keyboard that the statements of a source mean.
+-- The keyboard that the statements of a source define.
 use Rattle.std.specs.Prelude.{ℕ, Bool, true, false, nat_eq, List, [], ◌∷◌, ◌++◌, map, flat_map, filter, filter_map, find, Option, Some, None, option_map, option_to_list, position}
 use Rattle.kmn_base.specs.declared.items.Element.{Element}
 use Rattle.kmn_base.specs.declared.items.Element.TheVariants as element
@@ -23,7 +23,7 @@ use Rattle.rule_model.specs.declared.system.TheConstants.{CASED_KEYS}
 abbrev pub value_elements : List ℕ → List Element
 value_elements value = map element.Char value
 
--- an item of a context; one that may not stand there has no meaning of its own
+-- the pattern of a context item; an item that is not allowed there has no meaning
 abbrev pub src_pattern : SourceNames → SrcItem → Pattern
 src_pattern names (source.Char c) = IsChar c
 src_pattern names (source.Dead name) = IsMark (mark_number names name)
@@ -37,7 +37,7 @@ src_pattern names (source.SystemEqual id value) = IfEqual (system_ref id) (value
 src_pattern names (source.SystemUnequal id value) = IfUnequal (system_ref id) (value_elements value)
 src_pattern names item = AtStart
 
--- an item of an output; one that may not stand there does nothing
+-- the effect of an output item; an item that is not allowed there has no effect
 abbrev pub src_output : SourceNames → SrcItem → Output
 src_output names (source.Char c) = PutChar c
 src_output names (source.Dead name) = PutMark (mark_number names name)
@@ -70,7 +70,7 @@ src_rule names rule =
       output = map (src_output names) rule.output;
     }
 
--- whether a rule stands for itself, is what the group does after a match, or where nothing matches
+-- whether a statement is a rule, a match or a nomatch statement
 abbrev pub is_plain_kind : RuleKind → Bool
 is_plain_kind Plain = true
 is_plain_kind OnMatch = false
@@ -98,7 +98,7 @@ is_on_nomatch rule = is_nomatch_kind rule.kind
 abbrev pub src_outputs : SourceNames → RuleDef → List Output
 src_outputs names rule = map (src_output names) rule.output
 
--- a group: its rules, and what its first match and nomatch statements do
+-- a group: its rules, and the effects of its first match and nomatch statements
 abbrev pub src_group : SourceNames → GroupDef → GroupMeaning
 src_group names group =
     record {
@@ -124,13 +124,13 @@ output_uses item = []
 abbrev pub rule_uses : RuleDef → List (List ℕ)
 rule_uses rule = flat_map pattern_uses rule.context ++ flat_map output_uses rule.output
 
--- of a group its plain rules, and its first match and nomatch statements
+-- the stores that a group uses as options, in its plain rules and its first match and nomatch statements
 abbrev pub group_uses : GroupDef → List (List ℕ)
 group_uses group =
     flat_map rule_uses (filter is_plain group.rules)
     ++ (flat_map rule_uses (option_to_list (find is_on_match group.rules)) ++ flat_map rule_uses (option_to_list (find is_on_nomatch group.rules)))
 
--- the number of a store by its name
+-- the number of a store by its name, if there is one
 abbrev pub numbers_named : List Store → List ℕ → List ℕ
 numbers_named stores name = option_to_list (position (λ (store : Store). same_name store.name name) stores)
 
@@ -153,7 +153,7 @@ codes_among elements = filter_map code_of_element elements
 abbrev pub is_cased_keys : Store → Bool
 is_cased_keys store = nat_eq store.system CASED_KEYS
 
--- the codes of the cased keys: those of the first `&casedkeys`
+-- the codes of the cased keys: the keys of the first `&casedkeys`
 unfoldable pub cased_keys : Program → List ℕ
 cased_keys program = codes_among (store_elements (find is_cased_keys (stores_of program)))
 
@@ -162,7 +162,7 @@ abbrev pub start_named : Option BeginDef → Ref
 start_named None = Named []
 start_named (Some start) = Named start.group
 
--- the keyboard of a program: the best rule that holds goes first
+-- the keyboard of a program: the best rule that holds is selected
 unfoldable pub src : Program → Keyboard
 src program =
     record {

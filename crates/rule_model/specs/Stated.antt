@@ -1,4 +1,4 @@
--- The ids of system stores as numbers. Definitions use the constants of the code, so these say what they are.
+-- The ids of system stores as numbers. Definitions use the constants of the code, so these state their values.
 use Rattle.std.specs.Prelude.{◌≡◌}
 use Rattle.rule_model.specs.declared.system.TheConstants.{BITMAP, VERSION, MNEMONIC_LAYOUT, PLATFORM, LAYER, KEY_DICTIONARY, CASED_KEYS, LEFT_OUT, DROPPED, NO_GROUP}
 

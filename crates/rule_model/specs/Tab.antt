@@ -1,4 +1,4 @@
--- The keyboard that the tables of a compiled file mean.
+-- The keyboard that the tables of a compiled keyboard define.
 use Rattle.std.specs.Prelude.{ℕ, ◌+◌, Bool, false, not, nat_eq, if◌then◌else◌, List, [], ◌∷◌, ◌++◌, length, map, flat_map, filter, find, filter_map, Option, Some, None, slice_get, encode_utf8_all}
 use Rattle.std.specs.List.{list_any, slice_split}
 use Rattle.kmn_base.specs.declared.items.Element.{Element}
@@ -17,7 +17,7 @@ use Rattle.rule_model.specs.System.{system_ref, system_options}
 use Rattle.rule_model.specs.Keyboard.{Numbered, Pattern, IsChar, IsMark, IsAny, IsNotAny, IsIndex, IsContextAt, IfEqual, IfUnequal, AtStart, Output, PutChar, PutMark, PutIndex, PutContext, PutContextAt, UseGroup, SetOption, SaveOption, ResetOption, MakeBeep, DoNothing, StopEvent, OneKey, RuleMeaning, GroupMeaning, StoreMeaning, Keyboard, First}
 use Rattle.rule_model.specs.declared.system.TheConstants.{KEY_DICTIONARY}
 
--- the elements of the store of a number, none where there is no such store
+-- the elements of the store with a number, or none if there is no such store
 abbrev pub store_elements : Option Store → List Element
 store_elements None = []
 store_elements (Some store) = store.elements
@@ -25,7 +25,7 @@ store_elements (Some store) = store.elements
 abbrev pub elements_of : List Store → ℕ → List Element
 elements_of stores n = store_elements (slice_get stores n)
 
--- an item of a compiled context; a value is the elements of its value store
+-- the pattern of a compiled context item; a value is the elements of its value store
 abbrev pub tab_pattern : List Store → Pat → Pattern
 tab_pattern stores (pattern.Char c) = IsChar c
 tab_pattern stores (pattern.Mark m) = IsMark m
@@ -55,7 +55,7 @@ tab_output stores output.Nul = DoNothing
 tab_output stores output.Beep = MakeBeep
 tab_output stores output.Stop = StopEvent
 
--- a record; in a group without keys its key fits every press, and its place is never looked at
+-- the rule of a record; in a group without keys its key fits every press, and its position is never used
 abbrev pub tab_rule : List Store → Bool → Rule → RuleMeaning
 tab_rule stores using_keys rule =
     record {
@@ -65,7 +65,7 @@ tab_rule stores using_keys rule =
       output = map (tab_output stores) rule.output;
     }
 
--- a match or nomatch output without items is absent
+-- an output of a group; it is absent if it has no items
 abbrev pub output_if_any : List Output → Option (List Output)
 output_if_any [] = None
 output_if_any (o ∷ os) = Some (o ∷ os)
@@ -102,13 +102,13 @@ group_options group =
 unfoldable pub tab_options : Tables → List ℕ
 tab_options tables = flat_map group_options tables.groups
 
--- the stores, from this number on, those being options whose number is listed
+-- the stores, numbered from this number on; the stores with a listed number are options
 abbrev pub with_options : List ℕ → ℕ → List Store → List StoreMeaning
 with_options options n [] = []
 with_options options n (store ∷ stores) =
     record { name = store.name; elements = store.elements; is_option = list_any (nat_eq n) options; is_system = false } ∷ with_options options (n + 1) stores
 
--- what of a list is not the same as something before it
+-- the items of a list that differ from all earlier ones, appended to those seen
 abbrev pub distinct_onto : {X : Type 0} → (X → X → Bool) → List X → List X → List X
 distinct_onto same seen [] = seen
 distinct_onto same seen (x ∷ xs) = distinct_onto same (if list_any (λ y. same y x) seen then seen else seen ++ x ∷ []) xs
@@ -118,7 +118,7 @@ abbrev pub element_char : Element → Option ℕ
 element_char (element.Char c) = Some c
 element_char e = None
 
--- the words of a text that spaces part, without empty ones
+-- the words of a text, which spaces separate, without empty words
 abbrev pub words : List ℕ → List (List ℕ)
 words text = filter (λ word. not (nat_eq (length word) 0)) (slice_split (nat_eq 32) text)
 
@@ -126,12 +126,12 @@ words text = filter (λ word. not (nat_eq (length word) 0)) (slice_split (nat_eq
 abbrev pub is_dictionary : Store → Bool
 is_dictionary store = nat_eq store.system KEY_DICTIONARY
 
--- the names of the key dictionary: the words of its store's characters, each once
+-- the names of the key dictionary: the distinct words of its store's characters
 unfoldable pub tab_dictionary : List Store → List (List ℕ)
 tab_dictionary stores =
     distinct_onto same_name [] (words (encode_utf8_all (filter_map element_char (store_elements (find is_dictionary stores)))))
 
--- the keyboard of tables: the first record that holds goes first
+-- the keyboard of tables: the first record that holds is selected
 unfoldable pub tab : Tables → Keyboard
 tab tables =
     record {

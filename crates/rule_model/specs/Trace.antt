@@ -1,4 +1,4 @@
--- What a keyboard does with a list of events, from an empty text on.
+-- The effects of a list of events on a keyboard, beginning with an empty text.
 use Rattle.std.specs.Prelude.{ℕ, List, [], ◌∷◌, map, filter, Option, Some, None, Result, Ok, Err}
 use Rattle.kmn_base.specs.declared.items.Element.{Element}
 use Rattle.kmn_base.specs.declared.events.Event.{Event}
@@ -15,7 +15,7 @@ options_of stores = filter (λ (store : StoreMeaning). store.is_option) stores
 abbrev pub none_saved : StoreMeaning → Option (List Element)
 none_saved store = None
 
--- before the first event: an empty text, each option with its elements and nothing saved
+-- the state before the first event: an empty text, each option with its elements, and no saved value
 abbrev pub first_state : Keyboard → State
 first_state kb =
     record {
@@ -26,12 +26,12 @@ first_state kb =
       saved = map none_saved (options_of kb.stores);
     }
 
--- a step: what happened, with its number
+-- a step: the effect of an event, with its number
 pub record Step : Type 0 where
   pub number : ℕ
   pub happened : Happening
 
--- the steps up to the end of the events or to the first refusal, and that refusal with its number
+-- the steps up to the end of the events or to the first refusal, and this refusal with its number
 pub record Steps : Type 0 where
   pub done : List Step
   pub refused : Option (ℕ × Code)
@@ -43,7 +43,7 @@ abbrev pub step_then : ℕ → (State → Steps) → Result Happening Code → S
 step_then number rest (Ok happened) = before_steps (record { number = number; happened = happened }) (rest happened.after)
 step_then number rest (Err code) = record { done = []; refused = Some (number, code) }
 
--- the steps of events from a state on, the next step having this number
+-- the steps of events from a state on; the next step has this number
 abbrev pub steps_from : Keyboard → ℕ → List Event → State → Steps
 steps_from kb number [] state = record { done = []; refused = None }
 steps_from kb number (event ∷ events) state =

@@ -1,4 +1,4 @@
--- What is printed of a trace: a line for each event, the values that it changed, and the end.
+-- The printed lines of a trace: a line for each event, the values that it changed, and the end.
 use Rattle.std.specs.Prelude.{ℕ, ◌+◌, Bool, true, false, if◌then◌else◌, List, [], ◌∷◌, ◌++◌, map, codes, Option, Some, None}
 use Rattle.std.specs.List.{concat}
 use Rattle.std.specs.Fmt.{decimal}
@@ -17,26 +17,26 @@ use Rattle.rule_model.specs.Match.{same_value}
 use Rattle.rule_model.specs.Event.{State, whole_text}
 use Rattle.rule_model.specs.Trace.{Step, Trace, trace}
 
--- an element as it is printed: a character, `d` and the number of a mark, `k` and the code of a key
+-- an element as printed: a character, `d` and the number of a mark, `k` and the code of a key
 abbrev pub element_text : Element → List ℕ
 element_text (element.Char c) = hexadecimal c
 element_text (element.Mark mark) = codes "d" ++ decimal mark
 element_text (element.Key flags code) = codes "k" ++ hexadecimal code
 
--- a new current or saved value of an option
+-- the line of a new current or saved value of an option
 abbrev pub value_line : Bool → List ℕ → List Element → List ℕ
 value_line saved name value =
     concat ((if saved then codes "save " else codes "opt ") ∷ name ∷ codes " " ∷ joined (map element_text value) ∷ codes "\n" ∷ [])
 
--- a text that is not the expected one
+-- the line of a text that is not the expected one
 abbrev pub expect_line : ℕ → List ℕ
 expect_line line = concat (codes "expect failed line=" ∷ decimal line ∷ codes "\n" ∷ [])
 
--- an event that is refused
+-- the line of a refused event
 abbrev pub refused_event_line : ℕ → Code → List ℕ
 refused_event_line number code = concat (codes "refused " ∷ code_text code ∷ codes " event " ∷ decimal number ∷ codes "\n" ∷ [])
 
--- a line for a current value that differs, and one for a saved value that does; so much stands at the front of each line
+-- a line for a current value that changed, and a line for a saved value that changed; each line begins with `front`
 abbrev pub current_change : (front : List ℕ) → List ℕ → List Element → List Element → List ℕ
 current_change front name before after = if same_value before after then [] else front ++ value_line false name after
 
@@ -45,25 +45,25 @@ saved_change front name before None = []
 saved_change front name None (Some after) = front ++ value_line true name after
 saved_change front name (Some before) (Some after) = if same_value before after then [] else front ++ value_line true name after
 
--- the changes from one list of values to another, option by option, the current value before the saved one
+-- the lines of the changes from one list of values to another, option by option, the current value before the saved one
 abbrev pub changes : (front : List ℕ) → List (List ℕ) → List (List Element) → List (Option (List Element)) → List (List Element) → List (Option (List Element)) → List ℕ
 changes front (name ∷ names) (value ∷ values) (saved ∷ saves) (value_after ∷ values_after) (saved_after ∷ saves_after) =
     current_change front name value value_after ++ (saved_change front name saved saved_after ++ changes front names values saves values_after saves_after)
 changes front names values saves values_after saves_after = []
 
--- the lines of a step, with so much at the front of each: what the event did, with the last 64 items before the caret, and the
--- values that it changed
+-- the lines of a step, each beginning with `front`: the effect of the event, the last 64 items before the caret, and the values that it
+-- changed
 abbrev pub step_lines : (front : List ℕ) → State → Step → List ℕ
 step_lines front before step =
     (front ++ event_line step.number step.happened.outcome step.happened.inserted (window step.happened.after.left))
     ++ changes front before.names before.current before.saved step.happened.after.current step.happened.after.saved
 
--- the refusal of the event that ended a trace
+-- the line of the refusal that ended a trace
 abbrev pub refused_lines : Option (ℕ × Code) → List ℕ
 refused_lines None = []
 refused_lines (Some refused) = refused_event_line refused.0 refused.1
 
--- the lines of a script's entries, with so many events and failed texts before them, along the steps of their events
+-- the lines of a script's entries with the steps of their events, after `events` events and `failed` failed expectations
 abbrev pub lines_from : ℕ → ℕ → State → List Entry → List Step → Option (ℕ × Code) → List ℕ
 lines_from events failed state [] steps refused = text_line (characters state.left) state.right ++ end_line events failed
 lines_from events failed state (Expect line text ∷ entries) steps refused =
@@ -79,10 +79,10 @@ events_of [] = []
 events_of (Act line event ∷ entries) = event ∷ events_of entries
 events_of (Expect line text ∷ entries) = events_of entries
 
--- the transcript of a trace along a script
+-- the transcript of a trace for a script
 abbrev pub transcript_of : Trace → List Entry → List ℕ
 transcript_of traced entries = lines_from 0 0 traced.first entries traced.done traced.refused
 
--- what a keyboard prints for a script
+-- the transcript of a keyboard for a script
 unfoldable pub transcript : Keyboard → List Entry → List ℕ
 transcript kb entries = transcript_of (trace kb (events_of entries)) entries

@@ -1,4 +1,4 @@
--- Keyboards played by computation: what a few events come to that were worked out by hand.
+-- Keyboards played by computation: the results of a few events that were worked out by hand.
 use Rattle.std.specs.Prelude.{◌≡◌, ℕ, List, [], ◌∷◌, map, Option, Some, codes, true}
 use Rattle.kmn_base.specs.declared.items.Item.{Item}
 use Rattle.kmn_base.specs.declared.items.Item.TheVariants as item
@@ -25,7 +25,7 @@ use Rattle.rule_model.specs.Src.{src}
 use Rattle.rule_model.specs.Tab.{tab}
 use Rattle.rule_model.specs.Trace.{Step, trace}
 
--- tables of the version 10.0 with one group, which is called main and uses keys
+-- tables of version 10.0 with one group, which is called main and uses keys
 abbrev pub one_group : List Store → List Rule → Tables
 one_group stores rules = record {
   version = 0x0A00;
@@ -38,7 +38,7 @@ one_group stores rules = record {
 abbrev pub rule : ℕ → ℕ → List Pat → List Out → Rule
 rule line c ctx out = record { line = line; place = 0; key = key.Char c; context = ctx; output = out }
 
--- a store without a name, as the value of an option has it
+-- a store without a name, such as the value of an option
 abbrev pub value : List ℕ → Store
 value text = record { system = 0; name = []; elements = map element.Char text }
 
@@ -51,25 +51,25 @@ held mods code = event.Key (record { code = code; mods = mods })
 abbrev pub press : ℕ → Event
 press code = held 0 code
 
--- what is seen of each step: its number, what it deleted and inserted, and the items before the caret
+-- the visible part of each step: its number, what it deleted and inserted, and the items before the caret
 abbrev pub seen_of : Step → ℕ × ℕ × List ℕ × List Item
 seen_of step = (step.number, step.happened.outcome.delete, step.happened.inserted, step.happened.after.left)
 
 abbrev pub seen : Keyboard → List Event → List (ℕ × ℕ × List ℕ × List Item)
 seen kb events = map seen_of (trace kb events).done
 
--- the groups that each step entered, and the items that it put
+-- the number of groups that each step entered, and of items that it put
 abbrev pub entered : Keyboard → List Event → List (ℕ × ℕ)
 entered kb events = map (λ step. (step.happened.outcome.entered, step.happened.outcome.put)) (trace kb events).done
 
 abbrev pub inserted : Keyboard → List Event → List (List ℕ)
 inserted kb events = map (λ step. step.happened.inserted) (trace kb events).done
 
--- two rules for one key, the longer context first
+-- two rules for one key, the one with the longer context first
 abbrev pub two_contexts : Tables
 two_contexts = one_group [] (rule 4 99 (pattern.Char 97 ∷ []) (output.Char 121 ∷ []) ∷ rule 3 99 [] (output.Char 120 ∷ []) ∷ [])
 
--- `any` and `index` over stores, the first of which has an element twice
+-- `any` and `index` over stores, with the same element twice in the first store
 abbrev pub repeated : Tables
 repeated = one_group (named (codes "v") (codes "aea") ∷ named (codes "w") (codes "xyz") ∷ [])
     (rule 3 49 (pattern.Any 0 ∷ []) (output.Index 1 1 ∷ []) ∷ [])
@@ -78,7 +78,7 @@ repeated = one_group (named (codes "v") (codes "aea") ∷ named (codes "w") (cod
 abbrev pub again : Tables
 again = one_group [] (rule 3 97 [] (output.Char 120 ∷ output.Enter 0 ∷ []) ∷ [])
 
--- a dead key
+-- a deadkey
 abbrev pub accent : Tables
 accent = one_group [] (rule 4 97 (pattern.Mark 1 ∷ []) (output.Char 0xE0 ∷ []) ∷ rule 3 96 [] (output.Mark 1 ∷ []) ∷ [])
 
@@ -97,7 +97,7 @@ on_platform = one_group (value (codes "Native  WINDOWS") ∷ value (codes "windo
 abbrev pub statement : ℕ → List SrcItem → Option SrcItem → List SrcItem → RuleDef
 statement line context key output = record { line = line; kind = Plain; context = context; key = key; output = output }
 
--- a store v of a, e and a, and a store w that has v and then z
+-- a store v of a, e and a, and a store w of the elements of v and then z
 abbrev pub vowels : StoreDef
 vowels = record { line = 1; system = 0; name = codes "v"; items = source.Char 97 ∷ source.Char 101 ∷ source.Char 97 ∷ [] }
 
@@ -112,7 +112,7 @@ of_rules stores rules = record {
   groups = record { line = 4; name = codes "main"; using_keys = true; rules = rules } ∷ [];
 }
 
--- a line with a longer context behind one with a shorter
+-- a line with a longer context after a line with a shorter one
 abbrev pub indexing : Program
 indexing = of_rules (vowels ∷ letters ∷ [])
     (statement 5 [] (Some (source.Char 49)) (source.Char 49 ∷ [])
@@ -133,17 +133,17 @@ cased = of_rules (record { line = 1; system = CASED_KEYS; name = []; items = key
     (statement 5 [] (Some key_b) (source.Char 120 ∷ []) ∷ [])
 
 pub record AreWorkedTraces : Type 0 where
-  -- the longer context goes first, and the edit deletes what it took
+  -- the rule with the longer context is selected, and the edit deletes the items that it matched
   pub longest :
       seen (tab two_contexts) (press 65 ∷ press 67 ∷ [])
       ≡ (1, 0, codes "a", item.Char 97 ∷ []) ∷ (2, 1, codes "y", item.Char 121 ∷ []) ∷ []
-  -- an index takes the first place of a repeated element
+  -- `index` uses the first position of a repeated element
   pub indexed :
       seen (tab repeated) (press 65 ∷ press 49 ∷ [])
       ≡ (1, 0, codes "a", item.Char 97 ∷ []) ∷ (2, 1, codes "x", item.Char 120 ∷ []) ∷ []
   -- an event enters 50 groups at most
   pub budget : entered (tab again) (press 65 ∷ []) ≡ (50, 50) ∷ []
-  -- a mark is lost when the caret leaves its place, and the key then means itself
+  -- a mark is lost when the caret leaves its position, and the key then has its default
   pub marks :
       seen (tab accent) (press 88 ∷ press 192 ∷ event.Caret 0 ∷ event.Caret 1 ∷ press 65 ∷ [])
       ≡ (1, 0, codes "x", item.Char 120 ∷ [])
@@ -152,13 +152,14 @@ pub record AreWorkedTraces : Type 0 where
       ∷ (4, 0, [], item.Char 120 ∷ [])
       ∷ (5, 0, codes "a", item.Char 120 ∷ item.Char 97 ∷ [])
       ∷ []
-  -- of a source, an earlier line with a shorter context goes behind, and a store has the elements of one before it
+  -- in a source, an earlier line with a shorter context comes after a later line with a longer one, and a store has the elements of an
+  -- earlier store
   pub best_of_source :
       seen (src indexing) (press 69 ∷ press 49 ∷ [])
       ≡ (1, 0, codes "e", item.Char 101 ∷ []) ∷ (2, 0, [], item.Char 101 ∷ item.Mark 1 ∷ []) ∷ []
-  -- `any` as the key holds for each element, and `index` at the key's place takes the first place that fits
+  -- `any` as the key matches each element, and `index` at the key's offset uses the first position that fits
   pub key_store_of_source : seen (src keyed) (press 69 ∷ []) ≡ (1, 0, codes "e!", item.Char 101 ∷ item.Char 33 ∷ []) ∷ []
-  -- a condition on the layer, a setting by the host, and what an output makes of the layer
+  -- a condition on the layer, an option change by the host, and the effect of an output on the layer
   pub layers :
       inserted (tab layered) (
       press 65 ∷ event.Setting (codes "&Layer") (codes "s") ∷ press 65 ∷ event.Setting (codes "&layer") (codes "t")

@@ -3,7 +3,7 @@ ghost use Rattle.rule_model.specs.Match.{is_item, is_element, is_same, item_of, 
 
 use kmn_base::{Element, Item};
 
-/// The item that stands for an element; a virtual key has none.
+/// Returns the item that an element denotes. A virtual key denotes none.
 pub fn item_of(element: Element) -> Option<Item>
     ensures { result ≡ item_of element }
 {
@@ -14,7 +14,7 @@ pub fn item_of(element: Element) -> Option<Item>
     }
 }
 
-/// Whether an item is the same as an element.
+/// Returns whether an item is the same as an element.
 pub fn is_item(item: Item, element: Element) -> bool
     ensures { result ≡ is_item item element }
 {
@@ -24,21 +24,21 @@ pub fn is_item(item: Item, element: Element) -> bool
     }
 }
 
-/// The first place of an item in a store's content.
+/// Returns the first position of an item in a store's content.
 pub fn place_of(item: Item, elements: &[Element]) -> Option<usize>
     ensures { result ≡ place_of item elements.now }
 {
     elements.iter().position(|element| is_item(item, *element))
 }
 
-/// Whether an item is the same as an element that there may be.
+/// Returns whether an item is the same as an optional element. It is not the same as None.
 pub fn is_element(item: Item, wanted: Option<Element>) -> bool
     ensures { result ≡ is_element item wanted }
 {
     wanted.is_some_and(|element| is_item(item, element))
 }
 
-/// Whether an item is the same as an item that there may be.
+/// Returns whether an item is the same as an optional item. It is not the same as None.
 pub fn is_same(item: Item, wanted: Option<Item>) -> bool
     ensures { result ≡ is_same item wanted }
 {

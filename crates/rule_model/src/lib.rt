@@ -1,14 +1,13 @@
-//! What a keyboard is, as a source states it and as a compiled file has it.
+//! Defines what a keyboard is, as a source states it and as a compiled keyboard contains it.
 //!
-//! It stands on `kmn_base` and `virtual_keys`. `Program` has the statements of a source, `Tables` the records of a file,
-//! `Entry` a line of a script, and `EventState` what a key event acts on. Their meaning stands in `specs/`
-//! (`docs/MEANING.md` tells it in words): `src` and `tab` give the keyboard of a program and of tables, `trace` the steps
-//! that it takes, `transcript` what is printed of them, and `step_laws` has the laws of every step. The layers above use
-//! the definitions and the laws, compare two texts by `common_prefix` and an item with elements and items by what `items` has,
-//! find the caret behind an edit by `moved_caret` and an option by `has_name`, ask what a `Pat` is, print numbers by
-//! `put_numbers`, and call system stores by the names in `system`, whose
-//! numbers `laws` says. `proofs/` has lemmas for what computes the meaning over
-//! tables: option numbers, groups and caught items.
+//! Depends on `kmn_base` and `virtual_keys`. `Program` contains the statements of a source, `Tables` the records of a file,
+//! `Entry` a line of a script, and `EventState` the state on which a key event acts. `specs/` defines their meaning
+//! (`docs/MEANING.md` describes it in words): `src` and `tab` are the keyboards of a program and of tables, `trace` is the list
+//! of steps of events, and `transcript` is what is printed of them. `step_laws` proves the laws of every step. The layers above
+//! use the definitions and the laws. They compare two texts by `common_prefix`, and an item with elements and items by `items`.
+//! They find the caret after an edit by `moved_caret` and an option by `has_name`. They test the kind of a `Pat`, print numbers
+//! by `put_numbers`, and refer to system stores by the names in `system`, whose numbers `laws` states. `proofs/` has lemmas for
+//! code that computes the meaning on tables: option numbers, groups and caught items.
 #![tactic(auto)]
 
 mod event_state;

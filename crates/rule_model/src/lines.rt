@@ -1,4 +1,4 @@
-//! Lines that are printed.
+//! Printed lines.
 
 ghost use Rattle.std.specs.Prelude.{◌≡◌, ◌++◌, map, IfOk};
 ghost use Rattle.std.specs.String.{string_bytes};
@@ -7,7 +7,7 @@ ghost use Rattle.rule_model.specs.Lines.{joined};
 
 use std::alloc::AllocError;
 
-/// Puts numbers behind a text, joined by dots, or `-` where there are none.
+/// Appends numbers to a text, joined by dots, or `-` if there are none. Errors: `AllocError` if an allocation fails.
 pub fn put_numbers(text: &mut String, numbers: &[u32]) -> Result<(), AllocError>
     ensures { IfOk result (λ _. string_bytes text.new ≡ string_bytes text.old ++ joined (map decimal numbers.now)) }
 {

@@ -1,7 +1,7 @@
 use kmn_base::{Seq, Text};
 
-/// A virtual key of a source: shift flags as the file has them, with the bit `0x4000`, and a code or, where the code is
-/// 0, a name of the key dictionary.
+/// A virtual key of a source: shift flags as in a file, with the bit `0x4000`, and a code or, if the code is 0, a name of the
+/// key dictionary.
 #[derive(Drop)]
 pub struct KeyName {
     pub flags: u16,
@@ -9,8 +9,8 @@ pub struct KeyName {
     pub name: Text,
 }
 
-/// One item of a store, a context, a key or an output, by the names that the source has. Offsets count the items of
-/// the context from 1, and the key stands one place after the last.
+/// One item of a store, a context, a key or an output, with names as in the source. Offsets count the items of the context from
+/// 1, and the key comes one after the last.
 #[derive(Drop)]
 pub enum SrcItem {
     Char(char),
@@ -37,12 +37,12 @@ pub enum SrcItem {
     Beep,
     Stop,
     Call(Text),
-    /// An item of the language that this product leaves out.
+    /// An item of the language that this product does not support.
     OutOfProfile,
 }
 
-/// A store statement. `system` is 0 for an ordinary store, else the id of a system store, `0xFFFE` for one that is
-/// left out and `0xFFFF` for one that is read and dropped; `name` is empty for each but an ordinary store.
+/// A store statement. `system` is 0 for an ordinary store, else the id of a system store, `0xFFFE` for one that is not
+/// supported and `0xFFFF` for one that is read and dropped. `name` is empty except for an ordinary store.
 #[derive(Drop)]
 pub struct StoreDef {
     pub line: u32,
@@ -51,7 +51,7 @@ pub struct StoreDef {
     pub items: Seq<SrcItem>,
 }
 
-/// Whether a rule stands for itself or is what a group does after a match, or where nothing matches.
+/// The kind of a statement: a rule, or what a group does after a match or if no rule matches.
 #[derive(Clone, Copy, Debug, PartialEq, Eq)]
 pub enum RuleKind {
     Plain,

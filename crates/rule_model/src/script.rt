@@ -4,6 +4,6 @@ use kmn_base::{Event, Seq};
 #[derive(Drop)]
 pub enum Entry {
     Act { line: u32, event: Event },
-    /// The whole text is compared with this one.
+    /// Compares the whole text with this one.
     Expect { line: u32, text: Seq<char> },
 }

@@ -1,4 +1,4 @@
-//! Laws of a keyboard's steps, each the contract of a function with an empty body. They hold for every keyboard.
+//! Laws of a keyboard's steps, each the contract of a function with an empty body. They are true for every keyboard.
 
 ghost use Rattle.rule_model.specs.StepLaws.{BeforeIsTransitive, BestGoesBeforeOthers, BestIsBest, BestIsNone, DefaultKeepsSound, EachEventHasItsStep, EditGivesTheText, EditIsShort, EventKeepsSound, EventKeepsTextInBounds, FirstIsFirst, FirstIsNone, GroupKeepsSound, GroupsKeepSound, ItemKeepsSound, NoMoreStepsThanEvents, NoneBeforeItself, OneGoesBefore, OneIsBest, OnlyKeysAct, OutputKeepsSound, PressAddsWhatItPuts, PressEditsTheText, PressInsertsAtMostWhatItPuts, PressIsWithinBudget, PressKeepsSound, RefusalFollowsTheSteps, StepsAreNumbered, StepsAreSound, StepsAreWithinBudget, StepsKeepTextInBounds};
 ghost use Rattle.rule_model.specs.Choose.{goes_before};
@@ -6,7 +6,7 @@ ghost use Rattle.std.specs.Cmp.{IsStrictWeakOrder};
 ghost use Rattle.rule_model.specs.CasedKeys.{CasedKeysFitByHalves, CasedRulesHoldByHalves};
 ghost use Rattle.rule_model.specs.WorkedTraces.{AreWorkedTraces};
 
-/// Which of two rules goes before the other is an order, in which two rules with different lines are never alike.
+/// `goes_before` is an order of rules. If two rules have different lines, one of them precedes the other.
 #[tactic(auto, using(crate::proofs::Choosing::goes_before_is_weak_order, crate::proofs::Choosing::none_before_itself, crate::proofs::Choosing::before_is_transitive, crate::proofs::Choosing::one_goes_before))]
 pub fn going_before_is_an_order()
     ensures weak_order { IsStrictWeakOrder goes_before }
@@ -15,14 +15,14 @@ pub fn going_before_is_an_order()
     ensures total { OneGoesBefore }
 {}
 
-/// A file's choice: the first rule of a list that holds.
+/// A file's choice is the first rule of a list that holds.
 #[tactic(auto, using(crate::proofs::Choosing::first_is_none))]
 pub fn first_holds_first()
     ensures none { FirstIsNone }
     ensures some { FirstIsFirst }
 {}
 
-/// A source's choice: of the rules that hold one that no other goes before, and where lines differ the only one.
+/// A source's choice is, of the rules that hold, one that no other precedes, and if lines differ the only one.
 #[tactic(auto, using(crate::proofs::Choosing::best_is_none, crate::proofs::Choosing::best_goes_before_others))]
 pub fn best_goes_before_others()
     ensures none { BestIsNone }
@@ -48,7 +48,7 @@ pub fn steps_count_events()
     ensures refused { RefusalFollowsTheSteps }
 {}
 
-/// Whatever acts in a key event, each mark of a sound list stays among the last 64 items.
+/// Each action in a key event keeps each mark of a sound list among the last 64 items.
 #[tactic(auto, using(crate::proofs::Soundness::item_keeps_sound, crate::proofs::Soundness::output_keeps_sound, crate::proofs::Soundness::default_keeps_sound, crate::proofs::Soundness::group_keeps_sound, crate::proofs::Soundness::groups_keep_sound, crate::proofs::Soundness::press_keeps_sound))]
 pub fn acting_keeps_sound()
     ensures item { ItemKeepsSound }
@@ -59,14 +59,14 @@ pub fn acting_keeps_sound()
     ensures press { PressKeepsSound }
 {}
 
-/// Each event keeps the list before the caret sound, and so each state of a trace has a sound one.
+/// Each event keeps the left list sound, so each state of a trace has a sound left list.
 #[tactic(auto, using(crate::proofs::Soundness::event_keeps_sound, crate::proofs::Soundness::steps_are_sound))]
 pub fn events_keep_sound()
     ensures event { EventKeepsSound }
     ensures steps { StepsAreSound }
 {}
 
-/// The edit that a key event reports makes the new text of the old one, and repeats nothing that both begin with.
+/// The edit that a key event reports turns the old text into the new one, and does not repeat what both begin with.
 #[tactic(auto, using(crate::proofs::Edits::edit_gives_the_text, crate::proofs::Edits::edit_is_short, crate::proofs::Insertions::press_inserts_at_most_what_it_puts))]
 pub fn edits_give_the_text()
     ensures text { EditGivesTheText }
@@ -75,7 +75,8 @@ pub fn edits_give_the_text()
     ensures inserted { PressInsertsAtMostWhatItPuts }
 {}
 
-/// The whole text of a trace has at most 1,000,000 characters: a press adds at most what it puts, and is refused in time.
+/// The whole text of a trace has at most 1,000,000 characters: a press adds at most as many characters as it puts items, and is
+/// refused before the limit is exceeded.
 #[tactic(auto, using(crate::proofs::Bounds::press_adds_what_it_puts, crate::proofs::Bounds::event_keeps_text_in_bounds, crate::proofs::Bounds::steps_keep_text_in_bounds))]
 pub fn text_stays_in_bounds()
     ensures press { PressAddsWhatItPuts }
@@ -83,17 +84,17 @@ pub fn text_stays_in_bounds()
     ensures steps { StepsKeepTextInBounds }
 {}
 
-/// A key that exchanges shift and caps lock fits by two keys that name one or the other state of caps lock.
+/// A key that exchanges shift and caps lock fits exactly when one of two keys fits. Each of these names one state of caps lock.
 pub fn cased_keys_fit_by_halves()
     ensures { CasedKeysFitByHalves }
 {}
 
-/// So a rule with such a key holds where one of two rules with these keys holds.
+/// So a rule with such a key holds exactly when one of two rules with these keys holds.
 pub fn cased_rules_hold_by_halves()
     ensures { CasedRulesHoldByHalves }
 {}
 
-/// The definitions give what was worked out by hand of nine small keyboards.
+/// The definitions have the results that were worked out by hand for nine small keyboards.
 #[tactic(auto, using(crate::proofs::WorkedTraces::worked_traces))]
 pub fn worked_traces()
     ensures { AreWorkedTraces }

@@ -24,7 +24,7 @@ pub enum Pat {
 }
 
 impl Pat {
-    /// Whether it is a condition on a store or a system option.
+    /// Returns whether the item is a condition on a store or a system option.
     pub fn is_condition(self) -> bool
         ensures { result ≡ is_condition self }
     {
@@ -34,14 +34,14 @@ impl Pat {
         )
     }
 
-    /// Whether it is `nul`, the start of the text.
+    /// Returns whether the item is `nul`, the start of the text.
     pub fn is_nul(self) -> bool
         ensures { result ≡ is_nul self }
     {
         matches!(self, Pat::Nul)
     }
 
-    /// Whether it is matched with an item of the text, as conditions and `nul` aren't.
+    /// Returns whether the item is matched with an item of the text. Conditions and `nul` are not.
     pub fn is_matched(self) -> bool
         ensures { result ≡ is_matched self }
     {
@@ -70,8 +70,8 @@ pub enum Out {
     Stop,
 }
 
-/// A key record. `line` is the source's line. `place` is twice the place in the key store of the source, else 0, and one more
-/// for the second record of a cased key; a file does not keep it.
+/// A key record. `line` is the source's line. `place` is twice the position in the key store of the source, else 0, and is 1
+/// larger for the second record of a cased key. A file does not contain it.
 #[derive(Drop)]
 pub struct Rule {
     pub line: u32,
@@ -81,7 +81,7 @@ pub struct Rule {
     pub output: Seq<Out>,
 }
 
-/// A store of a file. `system` is its system id, 0 for an ordinary one.
+/// A store of a file. `system` is its system id, or 0 for an ordinary store.
 #[derive(Drop)]
 pub struct Store {
     pub system: u32,
@@ -99,7 +99,7 @@ pub struct Group {
     pub on_nomatch: Seq<Out>,
 }
 
-/// All that a compiled file says of a keyboard. A start group of `0xFFFF_FFFF` is none.
+/// All that a compiled keyboard contains. A start group of `0xFFFF_FFFF` means no start group.
 #[derive(Drop)]
 pub struct Tables {
     pub version: u16,
@@ -110,7 +110,7 @@ pub struct Tables {
 }
 
 impl Tables {
-    /// The elements of a store, none where there is no such store.
+    /// Returns the elements of a store, or none if there is no such store.
     pub fn elements(&self, store: u32) -> &[Element]
         ensures { result.now ≡ elements_of self.now.stores store }
     {
