@@ -1,11 +1,11 @@
--- Where the numbers or the stores end, no store is found.
+-- If the numbers or the stores end, no store is found.
 use Rattle.std.proofs.Common.{◌≡◌, ℕ, ◌≤◌, min, ◌⊎◌, inl, inr, List, [], ◌∷◌, length, drop, Option, None, refl, ap, ◌∙◌, arith}
 use Rattle.std.proofs.lemmas.Bool.{cases_lt}
 use Rattle.std.proofs.lemmas.List.{drop_all}
 use Rattle.rule_model.specs.declared.tables.Store.{Store}
 use Rattle.rule_model.specs.Plain.{option_named}
 
--- one of two lists ends where the shorter one does
+-- the end of the shorter of two lists is the end of one of them
 pub either_ended : (a b n : ℕ) → min a b ≤ n → (a ≤ n) ⊎ (b ≤ n)
 either_ended a b n e = elim (cases_lt n a) [
   | inr h ↦ inl h

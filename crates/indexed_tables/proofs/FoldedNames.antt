@@ -1,4 +1,4 @@
--- A name is new exactly where its form in lower case is.
+-- A name is new exactly where its form in lower case is new.
 use Rattle.std.proofs.Common.{◌≡◌, ℕ, Bool, true, false, not, List, [], ◌∷◌, ◌++◌, map, Vec, refl, sym, ◌∙◌, if◌then◌else◌}
 use Rattle.std.specs.Prelude.{◌||◌}
 use Rattle.std.specs.List.{list_any}
@@ -11,7 +11,7 @@ unfolding same_name
 among [] name = refl
 among (known ∷ names) name = λ j. nat_list_eq_equiv.symm (str_to_ascii_lowercase name) (str_to_ascii_lowercase known) j || among names name j
 
--- what is put behind names, where it is known to be new, and where it is known not to be
+-- names with a name appended, if it is known whether the name is new
 put_new : (known new : Bool) (names : List (List ℕ)) (name : List ℕ) → new ≡ not known → new ≡ true → names ++ name ∷ [] ≡ (if known then names else names ++ name ∷ [])
 put_new true new names name is e = let bad : false ≡ true = sym is ∙ e in absurd cc
 put_new false new names name is e = refl

@@ -10,17 +10,17 @@ use Rattle.rule_model.specs.Tab.{with_options}
 use Rattle.rule_model.specs.Plain.{option_numbers}
 use Rattle.indexed_tables.specs.OptionFlags.{with_flags, flag_numbers}
 
--- some stores and others are set as all
+-- setting the flags of two lists of stores, one list after the other
 pub with_flags_append : (flags : List Bool) (first second : List ℕ) → with_flags flags (first ++ second) ≡ with_flags (with_flags flags first) second
 with_flags_append flags [] second = refl
 with_flags_append flags (n ∷ ns) second = with_flags_append (slice_set flags n true) ns second
 
--- the stores that one of some items uses, and then those of the others
+-- the stores that the first of some items uses, and then those of the other items
 pub with_flags_each : {X : Type 0} (used : X → List ℕ) (flags : List Bool) (x : X) (xs : List X)
     → with_flags flags (flat_map used (x ∷ xs)) ≡ with_flags (with_flags flags (used x)) (flat_map used xs)
 with_flags_each used flags x xs = with_flags_append flags (used x) (flat_map used xs)
 
--- the flag of a store that is set, and of any other
+-- the flag of a store that is set, and the flag of any other store
 set_here : (flags : List Bool) (n : ℕ) → n < length flags → unwrap_or (slice_get (slice_set flags n true) n) false ≡ true
 set_here [] n h = absurd (omega arith)
 set_here (flag ∷ flags) zero h = refl
@@ -82,7 +82,7 @@ count_with : (flags : List Bool) (ns : List ℕ) → length (with_flags flags ns
 count_with flags [] = refl
 count_with flags (n ∷ ns) = count_with (slice_set flags n true) ns ∙ set_length flags n
 
--- a flag says whether its store was set
+-- a flag is set exactly where its store is listed
 pub flag_is : (ns : List ℕ) (count k : ℕ) → k < count → unwrap_or (slice_get (with_flags (replicate count false) ns) k) false ≡ list_any (nat_eq k) ns
 flag_is ns count k h =
     let less : k < length (replicate count false) = rw (count_unset count) h in
@@ -93,7 +93,7 @@ pub numbers_more : (k n : ℕ) (flags : List Bool) (d : Bool) → n < length fla
     ≡ (if slice_index_or flags n d then Some k ∷ flag_numbers (k + 1) (drop (n + 1) flags) else None ∷ flag_numbers k (drop (n + 1) flags))
 numbers_more k n flags d within = ap (flag_numbers k) (drop_more flags n d within)
 
--- flags that tell which stores are listed give the option numbers; behind them stand those of the system options
+-- if flags state which stores are listed, they produce the option numbers, followed by the numbers of the system options
 numbers_from : (options : List ℕ) (k m : ℕ) (flags : List Bool) (stores : List Store) → length flags ≡ length stores
     → ((i : ℕ) → i < length flags → unwrap_or (slice_get flags i) false ≡ list_any (nat_eq (m + i)) options)
     → flag_numbers k (flags ++ true ∷ true ∷ []) ≡ option_numbers k (with_options options m stores ++ system_options)
@@ -108,7 +108,7 @@ numbers_from options k m (flag ∷ flags) (s ∷ ss) count told =
     = λ i h. let further : m + suc i ≡ m + 1 + i = omega arith in told (suc i) (omega arith) ∙ ap (λ (n : ℕ). list_any (nat_eq n) options) further in
     λ j. if here j then Some k ∷ numbers_from options (k + 1) (m + 1) flags ss counted behind j else None ∷ numbers_from options k (m + 1) flags ss counted behind j
 
--- the flags of the stores that are listed, and of the system options, give the option numbers
+-- the flags of the listed stores, followed by those of the system options, produce the option numbers
 pub numbers_by_flags : (options : List ℕ) (stores : List Store)
     → flag_numbers 0 (with_flags (replicate (length stores) false) options ++ true ∷ true ∷ []) ≡ option_numbers 0 (with_options options 0 stores ++ system_options)
 numbers_by_flags options stores =

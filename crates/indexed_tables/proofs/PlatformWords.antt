@@ -1,4 +1,4 @@
--- Words of two lengths are not the same.
+-- Words of different lengths are not the same.
 use Rattle.std.proofs.Common.{◌≡◌, ◌≢◌, suc, false, ◌&&◌, List, [], ◌∷◌, length, refl, sym, ap, ◌∙◌}
 use Rattle.std.proofs.Math.Bool.{and-false}
 use Rattle.kmn_base.specs.declared.items.Element.{Element}

@@ -1,4 +1,4 @@
--- The option numbers and the elements of the system options, which stand last.
+-- The option numbers and the elements of the system options, which come last.
 use Rattle.std.proofs.Common.{◌≡◌, ℕ, zero, suc, ◌+◌, ◌-◌, ◌<◌, ◌≤◌, ◌++◌, List, [], ◌∷◌, arith, length, Option, Some, sym, ap, ◌∙◌, if◌then◌else◌, nat_eq, refl}
 use Rattle.std.specs.Prelude.{slice_get}
 use Rattle.std.specs.Option.{option_flatten}
@@ -10,7 +10,7 @@ use Rattle.rule_model.specs.System.{system_options, system_ref}
 use Rattle.rule_model.specs.Tab.{elements_of, tab, tab_options, with_options}
 use Rattle.rule_model.proofs.SystemOptions.{system_at, system_option_is, own_elements}
 
--- the number that stands last, or last but one, is that of the system option
+-- the last number, or the one before it, is the number of the system option
 pub system_read : (tables : Tables) (numbers : List (Option ℕ)) (id : ℕ) → numbers ≡ option_numbers 0 (tab tables).stores
     → option_flatten (slice_get numbers (length numbers - (if nat_eq id 31 then 1 else 2))) ≡ option_number (tab tables).stores (system_ref id)
 system_read tables numbers id are =
@@ -30,7 +30,7 @@ elements_behind options k (suc n) (s ∷ ss) behind =
     let less : n - length ss ≡ suc n - suc (length ss) = omega arith in
     elements_behind options (k + 1) n ss (omega arith) ∙ ap (λ m. elements_at system_options (Some m)) less
 
--- a store of the tables states its elements, and behind the stores the system options state theirs
+-- a store of the tables has the elements that it defines, and the system options, which come after the stores, have theirs
 pub own_stated : (tables : Tables) (n : ℕ) → n < length tables.stores → elements_of tables.stores n ≡ elements_at (tab tables).stores (Some n)
 unfolding tab
 own_stated tables n below = sym (own_elements (tab_options tables) 0 n tables.stores below)

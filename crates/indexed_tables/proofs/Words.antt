@@ -9,7 +9,7 @@ use Rattle.std.specs.Prelude.{nat_eq}
 use Rattle.std.specs.List.{All, position, position_or_len, slice_split}
 use Rattle.virtual_keys.proofs.PositionLemmas.{not_below}
 
--- the first word ends at the first space, and the others are those of the bytes behind it
+-- the first word ends at the first space, and the other words are those of the bytes after it
 pub words_parted : (text : List ℕ) (at : ℕ) → position (nat_eq 32) text ≡ Some at → slice_split (nat_eq 32) text ≡ take at text ∷ slice_split (nat_eq 32) (take (length text - (at + 1)) (drop (at + 1) text))
 words_parted text at is =
     let found = position-Some (nat_eq 32) text at 0 is in
@@ -19,7 +19,7 @@ words_parted text at is =
     ap (slice_split (nat_eq 32)) parts ∙ slice_split_at (nat_eq 32) (take at text) (get_or text at 0) (drop (at + 1) text) front found.1
     ∙ ap (λ l. take at text ∷ slice_split (nat_eq 32) l) (sym behind)
 
--- where there is no space, the text is the one word
+-- if there is no space, the text is the only word
 pub words_alone : (text : List ℕ) → position (nat_eq 32) text ≡ None → slice_split (nat_eq 32) text ≡ text ∷ []
 words_alone text is =
     let far = not_below (position_or_len (nat_eq 32) text) (length text) is in

@@ -2,7 +2,7 @@
 use Rattle.std.specs.Prelude.{ℕ, nat_eq, List, [], Option, Some, None}
 use Rattle.std.specs.List.{slice_split}
 
--- the words of a text that there may be, parted by spaces; none where nothing stands behind the last word
+-- the words of an optional text, which spaces separate; none if there is no text after the last word
 abbrev pub words_behind : Option (List ℕ) → List (List ℕ)
 words_behind None = []
 words_behind (Some text) = slice_split (nat_eq 32) text

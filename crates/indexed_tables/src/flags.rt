@@ -7,7 +7,7 @@ ghost use Rattle.indexed_tables.specs.OptionFlags.{with_flags, flag_numbers};
 use kmn_base::Memory;
 use std::alloc::Global;
 
-/// Sets the flag of a store, where there is one.
+/// Sets the flag of a store, if there is such a store.
 pub fn mark(flags: &mut [bool], store: u32)
     ensures { flags.new ≡ with_flags flags.old (store ∷ []) }
 {
@@ -17,14 +17,14 @@ pub fn mark(flags: &mut [bool], store: u32)
     }
 }
 
-/// The flag of a place; none is set past the end.
+/// Returns the flag at an index, or false past the end.
 pub fn flag_at(flags: &[bool], place: usize) -> bool
     ensures { result ≡ unwrap_or (slice_get flags.now place) false }
 {
     flags.get(place).copied().unwrap_or(false)
 }
 
-/// The numbers of the flags that are set, counted in their order.
+/// Returns the number of each flag that is set, in order, and None for the other flags. Errors: `Memory` if an allocation fails.
 #[tactic(auto, using(std::proofs::lemmas::Grind::common_steps, crate::proofs::OptionFlags::numbers_more))]
 fn flag_numbers(alloc: Global, flags: &[bool]) -> Result<Vec<Option<usize>>, Memory>
     ensures { IfOk result (λ numbers. numbers.items ≡ flag_numbers 0 flags.now) }
@@ -42,7 +42,8 @@ fn flag_numbers(alloc: Global, flags: &[bool]) -> Result<Vec<Option<usize>>, Mem
     Ok(numbers)
 }
 
-/// The option number of each store by these flags, and of the system options behind them, which are options of every keyboard.
+/// Returns the option number of each store by these flags, followed by those of the system options, which are options of every
+/// keyboard. Errors: `Memory` if an allocation fails.
 #[tactic(auto, using(std::proofs::lemmas::Grind::common_steps))]
 pub fn numbers_by_flags(alloc: Global, mut flags: Vec<bool>) -> Result<Vec<Option<usize>>, Memory>
     ensures { IfOk result (λ numbers. numbers.items ≡ flag_numbers 0 (flags.items ++ true ∷ true ∷ [])) }
@@ -52,7 +53,7 @@ pub fn numbers_by_flags(alloc: Global, mut flags: Vec<bool>) -> Result<Vec<Optio
     flag_numbers(alloc, flags.as_slice())
 }
 
-/// The number in a list of numbers by store.
+/// Returns the number of a store in a list of numbers.
 pub fn number_at(numbers: &[Option<usize>], store: u32) -> Option<usize>
     ensures { result ≡ option_flatten (slice_get numbers.now store) }
 {

@@ -19,7 +19,7 @@ use std::alloc::Global;
 use std::marker::Model;
 use virtual_keys::FIRST_OWN_CODE;
 
-/// Tables with what events look up: the option number of each store, and the names of the key dictionary.
+/// Tables with the indexes that events use: the option number of each store, and the names of the key dictionary.
 pub struct IndexedTables<'a> {
     alloc: Global,
     tables: &'a Tables,
@@ -27,7 +27,7 @@ pub struct IndexedTables<'a> {
     names: Vec<Text>,
 }
 
-/// One call in proofs, where a derived drop is written out in each exit.
+/// One call in proofs. A derived drop would be written out in each exit.
 impl Drop for IndexedTables<'_> {
     fn drop(self) {
         let IndexedTables {
@@ -55,7 +55,7 @@ impl<'a> Model for IndexedTables<'a> {
 }
 
 impl<'a> IndexedTables<'a> {
-    /// Looks up what the events of tables need.
+    /// Creates the indexes of tables. Errors: `Memory` if an allocation fails.
     #[tactic(auto, unfolding(rule_model::specs::Tab::tab))]
     pub fn new(alloc: Global, tables: &'a Tables) -> Result<IndexedTables<'a>, Memory>
         ensures { IfOk result (λ indexed. indexed ≡ tables.now) }
@@ -70,33 +70,33 @@ impl<'a> IndexedTables<'a> {
         })
     }
 
-    /// The allocator.
+    /// Returns the allocator.
     pub fn alloc(&self) -> Global {
         self.alloc
     }
 
-    /// The number of the Unicode start group.
+    /// Returns the number of the Unicode start group.
     pub fn start(&self) -> u32
         ensures { result ≡ self.now.start_unicode }
     {
         self.tables.start_unicode
     }
 
-    /// The option number of each store.
+    /// Returns the option number of each store.
     pub fn numbers(&self) -> &[Option<usize>]
         ensures { result.now ≡ option_numbers 0 (tab self.now).stores }
     {
         self.numbers.as_slice()
     }
 
-    /// The elements of a store, none where there is no such store.
+    /// Returns the elements of a store, or none if there is no such store.
     pub fn elements(&self, store: u32) -> &[Element]
         ensures { result.now ≡ elements_of self.now.stores store }
     {
         self.tables.elements(store)
     }
 
-    /// What the keyboard states of a store; behind its stores stand the system options.
+    /// Returns the elements of a store as the keyboard defines them. The system options come after its stores.
     #[tactic(auto, using(crate::proofs::SystemNumbers::own_stated, crate::proofs::SystemNumbers::system_stated))]
     pub fn stated(&self, store: u32) -> &[Element]
         ensures { result.now ≡ elements_at (tab self.now).stores (Some store) }
@@ -109,7 +109,7 @@ impl<'a> IndexedTables<'a> {
         }
     }
 
-    /// The option number of a store.
+    /// Returns the option number of a store.
     #[tactic(auto, using(rule_model::proofs::PlainOptions::number_found))]
     pub fn option_number(&self, store: u32) -> Option<usize>
         ensures { result ≡ option_number (tab self.now).stores (Numbered store) }
@@ -117,7 +117,7 @@ impl<'a> IndexedTables<'a> {
         number_at(self.numbers.as_slice(), store)
     }
 
-    /// The number of the first option of a name; a store without a name is found by none.
+    /// Returns the number of the first option with a name. A store without a name is never found.
     #[tactic(auto, using(rule_model::proofs::SystemOptions::first_named_of_all), unfolding(rule_model::specs::Tab::tab))]
     pub fn option_named(&self, name: &[u8]) -> Option<usize>
         ensures { result ≡ position (has_name name.now) (option_names (tab self.now).stores) }
@@ -128,7 +128,7 @@ impl<'a> IndexedTables<'a> {
         }
     }
 
-    /// The option number of the system option of a name.
+    /// Returns the option number of the system option with a name.
     #[tactic(auto, using(rule_model::proofs::SystemOptions::system_place), unfolding(rule_model::specs::Tab::tab))]
     fn system_named(&self, name: &[u8]) -> Option<usize>
         ensures { result ≡ option_map (λ i. length (option_names (with_options (tab_options self.now) 0 self.now.stores)) + i) (position (has_name name.now) (option_names system_options)) }
@@ -142,7 +142,7 @@ impl<'a> IndexedTables<'a> {
         }
     }
 
-    /// The option number of the system option of an id.
+    /// Returns the option number of the system option with an id.
     #[tactic(auto, using(crate::proofs::SystemNumbers::system_read, crate::proofs::SystemNumbers::system_counted))]
     pub fn system_option(&self, id: u32) -> usize
         ensures is { option_number (tab self.now).stores (system_ref id) ≡ Some result }
@@ -154,14 +154,14 @@ impl<'a> IndexedTables<'a> {
         }
     }
 
-    /// The group of a number.
+    /// Returns the group with a number.
     pub fn group(&self, group: u32) -> Option<&Group>
         ensures { option_copied result ≡ slice_get self.now.groups group }
     {
         self.tables.groups.as_slice().get(group as usize)
     }
 
-    /// The name in the key dictionary that has a code.
+    /// Returns the name of a code in the key dictionary.
     pub fn own_key(&self, code: u16) -> Option<&[u8]>
         ensures { option_copied result ≡ name_in (tab self.now).dictionary code }
     {
@@ -179,7 +179,7 @@ impl<'a> IndexedTables<'a> {
     }
 }
 
-/// The option number of the first store of a name that has one.
+/// Returns the option number of the first store with a name and an option number.
 #[tactic(auto, using(crate::proofs::Ends::named_ended))]
 fn option_named(name: &[u8], numbers: &[Option<usize>], stores: &[Store]) -> Option<usize>
     ensures { result ≡ option_named name.now numbers.now stores.now }

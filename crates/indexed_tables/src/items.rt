@@ -4,7 +4,7 @@ ghost use Rattle.rule_model.specs.Match.{place_of};
 use kmn_base::{Element, Item};
 use rule_model::place_of;
 
-/// Whether some element is the same as an item, looked for element by element.
+/// Returns whether some element is the same as an item, by comparing with each element.
 pub fn is_among(item: Item, elements: &[Element]) -> bool
     ensures { result ≡ is_some (place_of item elements.now) }
 {

@@ -1,17 +1,17 @@
-//! The tables of a compiled file with indexes for what is looked up in them often.
+//! Indexes the tables of a compiled keyboard for what is looked up in them often.
 //!
-//! It stands on `kmn_base`, `virtual_keys`, `rule_model` and `indexmap`. The layer above makes `IndexedTables` of `Tables`:
-//! it has once and for all the option number of each store and the names of own keys, and hands out groups and elements as
-//! the tables have them. A layer that asks only which stores some item uses as an option takes a flag for each: `option_flags`
-//! makes them, and `mark_options` sets them where no memory may be taken. A layer that reads a file where it lies counts option
-//! numbers the same way: `mark` sets the flag of one store, and `numbers_by_flags` counts the flags (`specs/OptionFlags`, with the
-//! laws of flags in `proofs/OptionFlags`). Behind the stores of all tables stand the system options, the layer and the
-//! platform: `system_elements` are what they begin with, and `has_words` says whether the platform is what a value asks for.
-//! What asks whether names could stand in a source takes their words by `first_word`.
+//! Depends on `kmn_base`, `virtual_keys`, `rule_model` and `indexmap`. The layers above create `IndexedTables` from `Tables`.
+//! It computes once the option number of each store and the names of custom keys, and returns groups and elements as the tables
+//! contain them. A layer that only needs to know which stores are used as options uses a flag for each store: `option_flags`
+//! creates the flags, and `mark_options` sets them without allocating. A layer that reads a file in place counts option numbers
+//! the same way: `mark` sets the flag of one store, and `numbers_by_flags` counts the flags (`specs/OptionFlags`, with the laws
+//! of flags in `proofs/OptionFlags`). The stores of all tables are followed by the system options, the layer and the platform:
+//! `system_elements` are their first values, and `has_words` checks whether the platform has the words of a value. To check
+//! whether names could be in a source, a layer takes their words by `first_word`.
 //!
-//! `StoreSets` has of each store the items in a set, so that one is found in time that doesn't grow with the store (`AreSetsOf`,
-//! `has`). A set has items as numbers (`specs/Numbers`); a virtual key, which equals no item, is in none. Who may take no memory asks
-//! `is_among`, which goes through the elements.
+//! `StoreSets` contains the items of each store in a set, so that the time to find an item doesn't grow with the store
+//! (`AreSetsOf`, `has`). A set represents items by numbers (`specs/Numbers`). It does not contain virtual keys, which are never
+//! equal to an item. A caller that may not allocate uses `is_among`, which compares with each element.
 #![tactic(auto)]
 
 mod flags;

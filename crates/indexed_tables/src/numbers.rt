@@ -3,7 +3,7 @@ ghost use Rattle.indexed_tables.specs.Numbers.{number_of};
 
 use kmn_base::Item;
 
-/// The number of an item.
+/// Returns the number of an item.
 pub fn number_of(item: Item) -> u32
     ensures { result ≡ number_of item }
 {

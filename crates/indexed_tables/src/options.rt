@@ -1,4 +1,4 @@
-//! Which stores of tables are options, and the option number of each.
+//! The stores of tables that are options, and the option number of each.
 
 ghost use Rattle.std.specs.Prelude.{◌≡◌, ◌++◌, ◌∷◌, [], false, IfOk, length, replicate, flat_map};
 ghost use Rattle.rule_model.specs.Tab.{pattern_options, output_options, rule_options, group_options, tab_options, with_options};
@@ -66,8 +66,8 @@ fn mark_groups(flags: &mut [bool], groups: &[Group])
     }
 }
 
-/// Sets the flag of each store that some item of the tables uses as an option, and leaves the others as they are. Stores past the
-/// last flag are passed over.
+/// Sets the flag of each store that some item of the tables uses as an option, and leaves the other flags unchanged. Stores
+/// past the last flag are ignored.
 #[tactic(auto, unfolding(rule_model::specs::Tab::tab_options))]
 pub fn mark_options(flags: &mut [bool], tables: &Tables)
     ensures { flags.new ≡ with_flags flags.old (tab_options tables.now) }
@@ -75,7 +75,7 @@ pub fn mark_options(flags: &mut [bool], tables: &Tables)
     mark_groups(flags, tables.groups.as_slice());
 }
 
-/// A flag for each store: whether some item uses it as an option.
+/// Returns a flag for each store: whether some item uses it as an option. Errors: `Memory` if an allocation fails.
 pub fn option_flags(alloc: Global, tables: &Tables) -> Result<Vec<bool>, Memory>
     ensures { IfOk result (λ flags. flags.items ≡ with_flags (replicate (length tables.now.stores) false) (tab_options tables.now)) }
 {
@@ -84,7 +84,7 @@ pub fn option_flags(alloc: Global, tables: &Tables) -> Result<Vec<bool>, Memory>
     Ok(flags)
 }
 
-/// The option number of each store, and of the system options behind them.
+/// Returns the option number of each store, followed by those of the system options. Errors: `Memory` if an allocation fails.
 pub fn option_numbers(alloc: Global, tables: &Tables) -> Result<Vec<Option<usize>>, Memory>
     ensures { IfOk result (λ numbers. numbers.items ≡ option_numbers 0 (with_options (tab_options tables.now) 0 tables.now.stores ++ system_options)) }
 {

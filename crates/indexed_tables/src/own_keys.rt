@@ -1,4 +1,4 @@
-//! The names of own keys, by the words of the store that has the key dictionary.
+//! The names of custom keys: the words of the store that has the key dictionary.
 
 ghost use Rattle.std.specs.Prelude.{◌≡◌, ◌+◌, [], ◌∷◌, IfOk, OnOk, find, filter_map, encode_utf8_all, length, option_copied, nat_eq, not, filter, position};
 ghost use Rattle.std.specs.List.{slice_split};
@@ -15,7 +15,7 @@ use rule_model::Store;
 use rule_model::system::KEY_DICTIONARY;
 use std::alloc::Global;
 
-/// The elements of the store that has the key dictionary.
+/// Returns the elements of the store that has the key dictionary.
 fn dictionary_elements(stores: &[Store]) -> &[Element]
     ensures { result.now ≡ store_elements (find is_dictionary stores.now) }
 {
@@ -27,7 +27,7 @@ fn dictionary_elements(stores: &[Store]) -> &[Element]
     &[]
 }
 
-/// The characters among elements, as UTF-8.
+/// Returns the characters among elements, as UTF-8. Errors: `Memory` if an allocation fails.
 pub fn element_text(alloc: Global, elements: &[Element]) -> Result<String, Memory>
     ensures { IfOk result (λ text. string_bytes text ≡ encode_utf8_all (filter_map element_char elements.now)) }
 {
@@ -40,14 +40,14 @@ pub fn element_text(alloc: Global, elements: &[Element]) -> Result<String, Memor
     Ok(text)
 }
 
-/// The place of the first space of a text.
+/// Returns the position of the first space of a text.
 fn first_space(text: &[u8]) -> Option<usize>
     ensures { result ≡ position (nat_eq 32) text.now }
 {
     text.iter().position(|byte| *byte == b' ')
 }
 
-/// A text up to its first space, and what stands behind that.
+/// Returns a text up to its first space, and the rest after this space.
 #[tactic(auto, using(crate::proofs::Words::words_parted, crate::proofs::Words::words_alone))]
 pub fn first_word(text: &[u8]) -> (&[u8], Option<&[u8]>)
     ensures parts { slice_split (nat_eq 32) text.now ≡ result.0.now ∷ words_behind (option_copied result.1) }
@@ -59,14 +59,14 @@ pub fn first_word(text: &[u8]) -> (&[u8], Option<&[u8]>)
     }
 }
 
-/// Names, each once without ASCII case, and each in lower case, by which it is found.
+/// Distinct names without ASCII case, each also in lower case, by which it is found.
 #[derive(Drop)]
 struct Names {
     written: Vec<Text>,
     folded: IndexSet<Vec<u8>>,
 }
 
-/// Appends a word that isn't empty, unless it is the same as a name before it.
+/// Appends a word that isn't empty, unless it is the same as an earlier name. Errors: `Memory` if an allocation fails.
 fn add_name(alloc: Global, names: &mut Names, word: &[u8]) -> Result<(), Memory>
     requires { AreFolded names.old }
     ensures folded { OnOk result (AreFolded names.new) }
@@ -79,7 +79,7 @@ fn add_name(alloc: Global, names: &mut Names, word: &[u8]) -> Result<(), Memory>
     Ok(())
 }
 
-/// Appends a word, unless it is empty or the same as a name before it.
+/// Appends a word, unless it is empty or the same as an earlier name. Errors: `Memory` if an allocation fails.
 fn add_word(alloc: Global, names: &mut Names, word: &[u8]) -> Result<(), Memory>
     requires { AreFolded names.old }
     ensures folded { OnOk result (AreFolded names.new) }
@@ -91,7 +91,7 @@ fn add_word(alloc: Global, names: &mut Names, word: &[u8]) -> Result<(), Memory>
     add_name(alloc, names, word)
 }
 
-/// The words of a text, each once.
+/// Returns the distinct words of a text. Errors: `Memory` if an allocation fails.
 fn distinct_words(alloc: Global, text: &[u8]) -> Result<Vec<Text>, Memory>
     ensures { IfOk result (λ names. names.items ≡ distinct_onto same_name [] (words text.now)) }
 {
@@ -108,7 +108,7 @@ fn distinct_words(alloc: Global, text: &[u8]) -> Result<Vec<Text>, Memory>
     Ok(names.written)
 }
 
-/// The names of the key dictionary.
+/// Returns the names of the key dictionary. Errors: `Memory` if an allocation fails.
 #[tactic(auto, unfolding(rule_model::specs::Tab::tab_dictionary))]
 pub fn own_keys(alloc: Global, stores: &[Store]) -> Result<Vec<Text>, Memory>
     ensures { IfOk result (λ names. names.items ≡ tab_dictionary stores.now) }

@@ -6,7 +6,7 @@ ghost use Rattle.rule_model.specs.System.{small_letter, same_without_case, same_
 
 use kmn_base::Element;
 
-/// An ASCII letter as a small one.
+/// Returns an ASCII letter in lower case.
 fn small_letter(c: char) -> u32
     ensures { result ≡ small_letter c }
 {
@@ -17,7 +17,7 @@ fn small_letter(c: char) -> u32
     }
 }
 
-/// Whether two elements are the same without ASCII case.
+/// Returns whether two elements are the same without ASCII case.
 fn same_without_case(a: Element, b: Element) -> bool
     ensures { result ≡ same_without_case a b }
 {
@@ -27,7 +27,7 @@ fn same_without_case(a: Element, b: Element) -> bool
     }
 }
 
-/// Whether two words are the same without ASCII case.
+/// Returns whether two words are the same without ASCII case.
 #[tactic(auto, using(crate::proofs::PlatformWords::not_same_length))]
 fn same_word(word: &[Element], other: &[Element]) -> bool
     ensures { result ≡ same_word word.now other.now }
@@ -43,14 +43,14 @@ fn same_word(word: &[Element], other: &[Element]) -> bool
     true
 }
 
-/// Whether an element parts words.
+/// Returns whether an element separates words.
 fn is_space(element: Element) -> bool
     ensures { result ≡ is_space element }
 {
     element == Element::Char(' ')
 }
 
-/// Whether a word is one of a content's.
+/// Returns whether a word is one of the words of a content.
 fn has_word(content: &[Element], word: &[Element]) -> bool
     ensures { result ≡ list_any (λ known. same_word known word.now) (element_words content.now) }
 {
@@ -60,7 +60,7 @@ fn has_word(content: &[Element], word: &[Element]) -> bool
         .any(|known| same_word(known, word))
 }
 
-/// Whether each word of a value is a word of a content.
+/// Returns whether each word of a value is a word of a content.
 pub fn has_words(content: &[Element], value: &[Element]) -> bool
     ensures { result ≡ has_words content.now value.now }
 {

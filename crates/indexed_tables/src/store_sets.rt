@@ -12,7 +12,7 @@ use rule_model::{Store, item_of};
 use std::alloc::Global;
 use std::marker::Model;
 
-/// The items of each of some stores, in sets. Contracts see the numbers in the sets.
+/// The items of each of some stores, in sets. Contracts model it as the numbers in the sets.
 #[derive(Drop)]
 pub struct StoreSets {
     sets: Vec<IndexSet<u32>>,
@@ -26,7 +26,7 @@ impl Model for StoreSets {
     ghost view = { λ s. map (λ set. set.keys) s.sets.items };
 }
 
-/// Adds the number of the item that stands for an element.
+/// Adds the number of the item that an element denotes. Errors: `Memory` if an allocation fails.
 fn add_item(set: &mut IndexSet<u32>, element: Element) -> Result<(), Memory>
     ensures { OnOk result (set.new.keys ≡ with_item set.old.keys (item_of element)) }
 {
@@ -36,7 +36,7 @@ fn add_item(set: &mut IndexSet<u32>, element: Element) -> Result<(), Memory>
     Ok(())
 }
 
-/// The items that stand for elements.
+/// Returns the set of the items that elements denote. Errors: `Memory` if an allocation fails.
 fn set_of(alloc: Global, elements: &[Element]) -> Result<IndexSet<u32>, Memory>
     ensures { IfOk result (λ set. HasItems set.keys elements.now) }
 {
@@ -47,7 +47,7 @@ fn set_of(alloc: Global, elements: &[Element]) -> Result<IndexSet<u32>, Memory>
     Ok(set)
 }
 
-/// The items of each store.
+/// Returns the items of each store. Errors: `Memory` if an allocation fails.
 fn sets_of(alloc: Global, stores: &[Store]) -> Result<Vec<IndexSet<u32>>, Memory>
     ensures { IfOk result (λ sets. AreSetsOf stores.now (map (λ set. set.keys) sets.items)) }
 {
@@ -59,7 +59,7 @@ fn sets_of(alloc: Global, stores: &[Store]) -> Result<Vec<IndexSet<u32>>, Memory
     Ok(sets)
 }
 
-/// Whether the set of a store has a number.
+/// Returns whether the set of a store contains a number.
 fn has_number(sets: &[IndexSet<u32>], store: u32, number: u32) -> bool
     ensures { result ≡ list_any (nat_eq number) (set_at (map (λ set. set.keys) sets.now) store) }
 {
@@ -70,7 +70,7 @@ fn has_number(sets: &[IndexSet<u32>], store: u32, number: u32) -> bool
 }
 
 impl StoreSets {
-    /// Puts the items of each store into a set.
+    /// Creates a set with the items of each store. Errors: `Memory` if an allocation fails.
     pub fn new(alloc: Global, stores: &[Store]) -> Result<StoreSets, Memory>
         ensures { IfOk result (AreSetsOf stores.now) }
     {
@@ -78,7 +78,7 @@ impl StoreSets {
         Ok(StoreSets { sets })
     }
 
-    /// Whether a store has an item. A store that isn't there has none.
+    /// Returns whether a store contains an item. A store that doesn't exist contains none.
     pub fn has(&self, store: u32, item: Item) -> bool
         ensures { (stores : List Store) → AreSetsOf stores self.now → result ≡ is_some (place_of item (elements_of stores store)) }
     {

@@ -1,4 +1,4 @@
-//! The system options, which stand behind the stores.
+//! The system options, which come after the stores.
 
 ghost use Rattle.std.specs.Prelude.{◌≡◌, ◌-◌, Some, if◌then◌else◌, nat_eq, length, slice_get};
 ghost use Rattle.std.specs.Option.{option_flatten};
@@ -55,7 +55,7 @@ static FIRST_PLATFORM: [Element; 31] = [
     Element::Char('e'),
 ];
 
-/// The elements of the layer and of the platform, which stand at 0 and at 1; none behind them.
+/// Returns the elements of the layer at 0 and of the platform at 1, and none after them.
 pub fn system_elements(place: usize) -> &'static [Element]
     ensures { result.now ≡ elements_at system_options (Some place) }
 {
@@ -66,7 +66,7 @@ pub fn system_elements(place: usize) -> &'static [Element]
     }
 }
 
-/// The number that stands so many places from the end.
+/// Returns the number at the position `back` from the end.
 fn number_from_end(numbers: &[Option<usize>], back: usize) -> Option<usize>
     ensures { result ≡ option_flatten (slice_get numbers.now (length numbers.now - back)) }
 {
@@ -76,7 +76,8 @@ fn number_from_end(numbers: &[Option<usize>], back: usize) -> Option<usize>
         .flatten()
 }
 
-/// The number of the system option of an id among those of all stores: the platform's is the last, the layer's stands before it.
+/// Returns the number of the system option with an id among the numbers of all stores: the platform's is the last, and the
+/// layer's is the one before it.
 #[tactic(auto, using(std::proofs::lemmas::Bool::Decides::nat_tests))]
 pub fn system_number(numbers: &[Option<usize>], id: u32) -> Option<usize>
     ensures { result ≡ option_flatten (slice_get numbers.now (length numbers.now - (if nat_eq id PLATFORM then 1 else 2))) }

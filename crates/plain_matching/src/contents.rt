@@ -9,7 +9,7 @@ use indexed_tables::IndexedTables;
 use kmn_base::Element;
 use rule_model::EventState;
 
-/// The current value of an option, empty where there is no such option.
+/// Returns the current value of an option, which is empty if there is no such option.
 pub fn value_at(state: &EventState, option: usize) -> &[Element]
     ensures { result.now ≡ unwrap_or (slice_get state.now.current option) [] }
 {
@@ -19,7 +19,7 @@ pub fn value_at(state: &EventState, option: usize) -> &[Element]
     }
 }
 
-/// What a store has at a moment: the current value of an option, else its elements.
+/// Returns what a store contains in a state: the current value of an option, else its elements.
 #[tactic(auto, using(rule_model::proofs::PlainOptions::content_of_option, rule_model::proofs::PlainOptions::content_of_other))]
 pub fn content<'a>(indexed: &'a IndexedTables, state: &'a EventState, store: u32) -> &'a [Element]
     ensures { result.now ≡ content_now (tab indexed.now) state.now (Numbered store) }
@@ -30,7 +30,7 @@ pub fn content<'a>(indexed: &'a IndexedTables, state: &'a EventState, store: u32
     }
 }
 
-/// What a system option has at a moment.
+/// Returns the content of a system option in a state.
 #[tactic(auto, using(rule_model::proofs::SystemOptions::content_by_option))]
 pub fn system_content<'a>(indexed: &IndexedTables, state: &'a EventState, id: u32) -> &'a [Element]
     ensures { result.now ≡ content_now (tab indexed.now) state.now (system_ref id) }
@@ -38,7 +38,7 @@ pub fn system_content<'a>(indexed: &IndexedTables, state: &'a EventState, id: u3
     value_at(state, indexed.system_option(id))
 }
 
-/// The element at a place of what a store has at a moment, where there is such a place.
+/// Returns the element at a position of a store's content in a state, if there is such a position.
 pub fn element(
     indexed: &IndexedTables,
     state: &EventState,

@@ -1,9 +1,9 @@
-//! Which record of a group goes first at a moment, found by trying each: clear and not fast.
+//! Finds the record that a group selects in a state, by testing each record: simple and not fast.
 //!
-//! It stands on `kmn_base`, `virtual_keys`, whose `fits` fits keys, `rule_model`, whose `specs/Match`, `specs/Hold` and `specs/Enter`
-//! say when a context holds, what it catches and which record is chosen, and `indexed_tables`, which have the
-//! stores' elements and option numbers. The layer above, the evaluator `plain_event`, calls `chosen_in` for each group that
-//! an event enters, and asks what was caught and what a store has at the moment.
+//! Depends on `kmn_base`; `virtual_keys` (`fits` matches keys); `rule_model` (`specs/Match`, `specs/Hold` and `specs/Enter`
+//! define when a context holds, what it catches and which record is selected); `indexed_tables` (the stores' elements and
+//! option numbers). The layer above, the evaluator `plain_event`, calls `chosen_in` for each group that an event enters, and
+//! looks up what was caught and what a store contains in the state.
 #![tactic(auto)]
 
 mod contents;

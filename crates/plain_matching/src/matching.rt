@@ -19,7 +19,7 @@ use rule_model::{
 };
 use virtual_keys::fits;
 
-/// Whether a pattern looks at an item of the text, whatever the stores are.
+/// Returns whether a pattern matches an item of the text, whatever the stores are.
 fn takes_item(pattern: Pat) -> bool
     ensures { result ≡ takes_item (tab_pattern [] pattern) }
 {
@@ -29,7 +29,7 @@ fn takes_item(pattern: Pat) -> bool
     )
 }
 
-/// Whether an item stands to a pattern as the pattern asks, behind what was caught so far.
+/// Returns whether an item is the one that a pattern requires, after what was caught so far.
 fn matches(
     indexed: &IndexedTables,
     state: &EventState,
@@ -60,7 +60,7 @@ fn matches(
     }
 }
 
-/// The place that a pattern catches of an item that it matches.
+/// Returns the position that a pattern catches of an item that it matches.
 fn place_for(indexed: &IndexedTables, state: &EventState, pattern: Pat, item: Item) -> Option<usize>
     ensures { result ≡ place_for
         (content_now (tab indexed.now) state.now) (tab_pattern indexed.now.stores pattern) item }
@@ -71,7 +71,7 @@ fn place_for(indexed: &IndexedTables, state: &EventState, pattern: Pat, item: It
     }
 }
 
-/// What the patterns of a context catch of a text, behind what was caught so far.
+/// Returns what the patterns of a context catch in a text, after what was caught so far. Errors: `Memory` if an allocation fails.
 fn catches_from(
     indexed: &IndexedTables,
     state: &EventState,
@@ -106,7 +106,7 @@ fn catches_from(
     catches_from(indexed, state, seen, rest, behind)
 }
 
-/// Whether a system option is what a condition for equal wants.
+/// Returns whether a system option has the value that a condition for equality requires.
 #[tactic(auto, using(std::proofs::lemmas::Bool::Decides::nat_tests))]
 fn is_system_equal(indexed: &IndexedTables, state: &EventState, id: u32, value: &[Element]) -> bool
     ensures { result ≡ is_equal (system_ref id) (content_now (tab indexed.now) state.now (system_ref id)) value.now }
@@ -119,7 +119,7 @@ fn is_system_equal(indexed: &IndexedTables, state: &EventState, id: u32, value: 
     }
 }
 
-/// Whether a condition is true at a moment; any other item of a context is none.
+/// Returns whether a condition is true in a state. Any other item of a context counts as true.
 fn is_true(indexed: &IndexedTables, state: &EventState, pattern: Pat) -> bool
     ensures { result ≡ is_true (content_now (tab indexed.now) state.now) (tab_pattern indexed.now.stores pattern) }
 {
@@ -141,7 +141,7 @@ fn is_true(indexed: &IndexedTables, state: &EventState, pattern: Pat) -> bool
     }
 }
 
-/// Whether the conditions of a context are true at a moment.
+/// Returns whether the conditions of a context are true in a state.
 fn conditions_hold(indexed: &IndexedTables, state: &EventState, context: &[Pat]) -> bool
     ensures { result ≡ list_all
         (is_true (content_now (tab indexed.now) state.now)) (map (tab_pattern indexed.now.stores) context.now) }
@@ -154,7 +154,7 @@ fn conditions_hold(indexed: &IndexedTables, state: &EventState, context: &[Pat])
     true
 }
 
-/// How many items of the text a context looks at, whatever its stores are.
+/// Returns the number of items of the text that a context matches, whatever its stores are.
 fn pattern_count(context: &[Pat]) -> usize
     ensures { result ≡ pattern_count (map (tab_pattern []) context.now) }
 {
@@ -164,7 +164,7 @@ fn pattern_count(context: &[Pat]) -> usize
         .count()
 }
 
-/// Whether a context has a `nul`.
+/// Returns whether a context has a `nul`.
 fn has_nul(context: &[Pat]) -> bool
     ensures { result ≡ list_any is_at_start (map (tab_pattern []) context.now) }
 {
@@ -176,7 +176,7 @@ fn has_nul(context: &[Pat]) -> bool
     false
 }
 
-/// Whether the left list has room for a context, and with a `nul` nothing more.
+/// Returns whether the left list has at least as many items as a context matches, and with a `nul` exactly as many.
 fn has_room(context: &[Pat], left: &[Item]) -> bool
     ensures value { result ≡ has_room (map (tab_pattern []) context.now) left.now }
     ensures enough { IsTrue result → pattern_count (map (tab_pattern []) context.now) ≤ length left.now }
@@ -189,7 +189,7 @@ fn has_room(context: &[Pat], left: &[Item]) -> bool
     }
 }
 
-/// What a context catches of the last items of a list, where it has room.
+/// Returns what a context catches in the last items of a list, if it has enough items. Errors: `Memory` if an allocation fails.
 fn caught_last(
     indexed: &IndexedTables,
     state: &EventState,
@@ -207,14 +207,14 @@ fn caught_last(
     Ok(caught)
 }
 
-/// The key of a record; in a group without keys each press fits.
+/// Returns the key of a record. In a group without keys, each press fits.
 fn key_of(using_keys: bool, rule: &Rule) -> RuleKey
     ensures { result ≡ (if using_keys then rule.now.key else RuleKey.Any) }
 {
     if using_keys { rule.key } else { RuleKey::Any }
 }
 
-/// What was caught with a key that is no store.
+/// Returns what was caught with a key that is not a store.
 fn with_catches(catches: Option<Vec<Catch>>) -> Option<Caught>
     ensures { result ≡ caught_by (option_map (λ caught. caught.items) catches) (Some None) }
 {
@@ -225,7 +225,7 @@ fn with_catches(catches: Option<Vec<Catch>>) -> Option<Caught>
     })
 }
 
-/// What a record has caught where it holds at a moment.
+/// Returns what a record caught if it holds in a state. Errors: `Memory` if an allocation fails.
 fn holds(
     indexed: &IndexedTables,
     press: KeyPress,
@@ -243,7 +243,7 @@ fn holds(
     Ok(with_catches(caught_last(indexed, state, context, state.left.as_slice())?))
 }
 
-/// The first of some records that holds at a moment, and what it has caught.
+/// Returns the first of some records that holds in a state, and what it caught. Errors: `Memory` if an allocation fails.
 fn first_of<'a>(
     indexed: &IndexedTables,
     press: KeyPress,
@@ -262,7 +262,7 @@ fn first_of<'a>(
     Ok(None)
 }
 
-/// The record of a group that goes first at a moment, and what it has caught.
+/// Returns the record that a group selects in a state, and what it caught. Errors: `Memory` if an allocation fails.
 #[tactic(auto, unfolding(rule_model::specs::Tab::tab))]
 pub fn chosen_in<'a>(
     indexed: &IndexedTables,
