@@ -43,7 +43,7 @@ covers-token holds at text size t ts e f some within h c =
       subst (λ (k : ℕ). Covers holds k (drop (t.to - at) text) ts) (sym f) (subst (λ (k : ℕ). Covers holds (at + size) (drop k text) ts) three c),
     )
 
--- what holds of each token that a text begins with
+-- a property of each token at the beginning of a text
 abbrev HoldsAtEach : ℕ → (Token → List ℕ → Type 0) → Type 0
 HoldsAtEach line holds = (at : ℕ) (text : List ℕ) → 0 < length text → is_blank (first_or_end text) ≡ false → holds (token_at line at (token_text text)) (token_text text)
 

@@ -1,4 +1,4 @@
--- Where comments begin and joining backslashes stand in small lines, by computation.
+-- The positions of comments and joining backslashes in short lines, by computation.
 use Rattle.std.proofs.Common.{◌≡◌, true, false, [], ◌∷◌, refl}
 use Rattle.std.specs.Prelude.{codes}
 use Rattle.kmn_lines.specs.Laws.{comment_at, joint_at}
@@ -25,7 +25,7 @@ no_comment-behind_prefix = refl
 joint-before_blank : joint_at (97 ∷ 32 ∷ 92 ∷ 32 ∷ []) 2 ≡ true
 joint-before_blank = refl
 
--- the same with a c behind it, which is a comment
+-- the same followed by a c, which is a comment
 no_joint-before_comment : joint_at (97 ∷ 32 ∷ 92 ∷ 32 ∷ 99 ∷ []) 2 ≡ false
 no_joint-before_comment = refl
 

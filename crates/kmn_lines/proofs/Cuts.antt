@@ -1,4 +1,4 @@
--- The text of a physical line ends where first a comment begins or a joining backslash stands.
+-- The text of a physical line ends at the first comment or joining backslash.
 use Rattle.std.proofs.Common.{◌≡◌, ℕ, ◌+◌, ◌<◌, ◌≤◌, ◌⊎◌, inl, inr, Bool, true, false, ◌&&◌, ◌||◌, not, if◌then◌else◌, ◌==◌, List, [], ◌∷◌, ◌++◌, length, take, drop, Option, None, Some, is_some, refl, sym, ◌∙◌, ap, subst, arith, length-append, length-drop, append_assoc, below_more}
 use Rattle.std.specs.Prelude.{All, unwrap_or}
 use Rattle.std.specs.List.{list_all}
@@ -11,12 +11,12 @@ use Rattle.kmn_lines.specs.declared.line_state.LineState.{LineState}
 use Rattle.kmn_lines.specs.Lines.{starts_comment, line_start, outside, in_line, after_byte}
 use Rattle.kmn_lines.specs.Laws.{quote_behind, open_quote, first_or, last_or, is_outside, is_lone_c, comment_at, is_lone_backslash, joint_at, IsInLine, IsCut}
 
--- tests that are put together
+-- combined tests
 and-still : (a b c : Bool) → (a && b) ≡ false → (b ≡ false → c ≡ false) → (a && c) ≡ false
 and-still true b c h f = f h
 and-still false b c h f = refl
 
--- a blank is no c, backslash or quote
+-- a blank is not a c, a backslash or a quote
 blank-is : (byte : ℕ) → is_blank byte ≡ true → (byte ≡ 32) ⊎ (byte ≡ 9)
 blank-is byte h = elim (or_cases (byte == 32) (byte == 9) h) [ inl e ↦ inl (eqb-true byte 32 e) | inr e ↦ inr (eqb-true byte 9 e) ]
 
@@ -40,7 +40,7 @@ quote-no_blank byte h =
     let none : ℕ → Type 0 = λ b. is_blank b ≡ false in
     elim (or_cases (byte == 34) (byte == 39) h) [ inl e ↦ subst none (sym (eqb-true byte 34 e)) refl | inr e ↦ subst none (sym (eqb-true byte 39 e)) refl ]
 
--- what is known of a text with one byte more
+-- what is known of a text with another byte appended
 open_quote-more : (quote : Option ℕ) (text : List ℕ) (byte : ℕ) → open_quote quote (text ++ byte ∷ []) ≡ quote_behind (open_quote quote text) byte
 open_quote-more quote [] byte = refl
 open_quote-more quote (x ∷ xs) byte = open_quote-more (quote_behind quote x) xs byte
@@ -79,7 +79,7 @@ comment_between before behind = not (is_some (open_quote None before)) && (is_bl
 abbrev joint_between : List ℕ → List ℕ → Bool
 joint_between before behind = not (is_some (open_quote None before)) && is_lone_backslash behind
 
--- what stands at the seam of two texts
+-- the bytes where two texts join
 comment-seam : (before behind : List ℕ) → comment_at (before ++ behind) (length before) ≡ comment_between before behind
 comment-seam before behind =
     ap (λ (t : List ℕ). comment_between t (drop (length before) (before ++ behind))) (take-append_seam before behind)
@@ -112,15 +112,15 @@ joint-not : (text : List ℕ) (byte : ℕ) (bytes : List ℕ) (k : ℕ) → k < 
 joint-not text byte bytes k l b =
     joint-within text (byte ∷ bytes) k l ∙ and_right (is_outside text k) _ (lone-not (drop k text) byte bytes (some-left text k l) b)
 
--- what holds of each place of a text and of its end holds of each place of the text with one byte more
+-- if a property is true for each position of a text and for its end, it is true for each position of the text with another byte appended
 more : (P : ℕ → Type 0) (text : List ℕ) (byte : ℕ) → ((k : ℕ) → k < length text → P k) → P (length text) → (k : ℕ) → k < length (text ++ byte ∷ []) → P k
 more P text byte below here k l = below_more P (length text) below here k (omega (arith, length-append text (byte ∷ [])))
 
--- a state that nothing has stopped
+-- a state that is not stopped
 abbrev state : Option ℕ → Bool → Option ℕ → LineState
 state quote blank slash = record { quote = quote; after_blank = blank; slash = slash; stop = None }
 
--- what a state knows of the text before it
+-- what a state records about the text before it
 abbrev KnowsBlank : List ℕ → Bool → Option ℕ → Type 0
 KnowsBlank text blank None = blank ≡ is_blank (last_or 32 text)
 KnowsBlank text blank (Some quote) = (blank ≡ false) × (is_quote quote ≡ true)
@@ -143,13 +143,13 @@ record Knows (text line : List ℕ) (from : ℕ) (quote : Option ℕ) (blank : B
   joint : KnowsSlash text from slash
   comments : (k : ℕ) → k < length text → comment_at line k ≡ false
 
--- where a state ends the text of its line
+-- the position at which a state ends the text of its line
 pub record Cut (line : List ℕ) (from : ℕ) (r : LineState) : Type 0 where
   pub size : ℕ
   pub to : unwrap_or r.slash (unwrap_or r.stop (from + length line)) ≡ from + size
   pub cut : IsCut line size (is_some r.slash)
 
--- the state behind bytes that do not end their line, before a byte
+-- the state after bytes that do not end their line, before a byte
 abbrev pub after_bytes : LineState → ℕ → List ℕ → ℕ → LineState
 after_bytes r at [] next = r
 after_bytes r at (byte ∷ bytes) next = after_bytes (after_byte r at byte (first_or next bytes)) (at + 1) bytes next
@@ -161,7 +161,7 @@ frozen : (quote : Option ℕ) (blank : Bool) (slash : Option ℕ) (stop at : ℕ
 frozen quote blank slash stop at [] next = refl
 frozen quote blank slash stop at (byte ∷ bytes) next = frozen quote blank slash stop (at + 1) bytes next
 
--- the byte behind a c ends a word as the definition of a comment wants it
+-- the byte after a c ends a word as the definition of a comment requires
 or-third : (a b c : Bool) → (b || c) ≡ true → (a || b || c) ≡ true
 or-third true b c h = refl
 or-third false b c h = h
@@ -265,7 +265,7 @@ knows-other text line from byte blank slash k plain other none = record {
   comments = more (λ n. comment_at line n ≡ false) text byte k.comments none;
 }
 
--- at the end of the line
+-- the end of the line
 cut-end : (text line : List ℕ) (from : ℕ) (quote : Option ℕ) (blank : Bool) (slash : Option ℕ) → line ≡ text → Knows text line from quote blank slash → Cut line from (state quote blank slash)
 cut-end text line from quote blank None e k =
     let same : length line ≡ length text = ap length e in
@@ -293,7 +293,7 @@ cut-end text line from quote blank (Some slash) e k =
       };
     }
 
--- at a comment
+-- a comment
 cut-comment : (text line bytes : List ℕ) (from at byte : ℕ) (blank : Bool) (slash : Option ℕ) → line ≡ text ++ byte ∷ bytes → at ≡ from + length text → Knows text line from None blank slash → is_blank byte ≡ false → comment_at line (length text) ≡ true → Cut line from (record { quote = None; after_blank = blank; slash = None; stop = Some at })
 cut-comment text line bytes from at byte blank slash e f k plain comment = record {
   size = length text;
@@ -340,7 +340,7 @@ cut (byte ∷ bytes) text line from at None blank slash next e f n p k =
     (λ s. cut bytes (text ++ byte ∷ []) line from (at + 1) (if is_quote byte then Some byte else None) false None next longer place n rest
     (knows-other text line from byte blank slash k b s (comment ∙ c))))))
 
--- the text of a line ends where its state says
+-- the text of a line ends at the position in its state
 pub line_cut : (line : List ℕ) (from next : ℕ) → ((next == 10) || (next == 13)) ≡ true → All IsInLine line → Cut line from (after_bytes line_start from line next)
 line_cut line from next n p =
     cut line [] line from from None true None next refl (omega arith) n p

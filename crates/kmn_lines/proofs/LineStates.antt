@@ -1,4 +1,4 @@
--- The places that a state knows stay between the line's start and the place read.
+-- The positions in a state stay between the line's start and the current position.
 use Rattle.std.proofs.Common.{◌≡◌, ℕ, ◌+◌, ◌<◌, ◌≤◌, Bool, true, false, if◌then◌else◌, ◌==◌, List, ◌∷◌, length, drop, get_or, Option, None, Some, is_some, arith, add-one, drop-cons, subst, sym}
 use Rattle.std.proofs.lemmas.Bool.{cond-false}
 use Rattle.std.specs.Prelude.{IfSome}
@@ -7,7 +7,7 @@ use Rattle.kmn_base.specs.Bytes.{is_blank}
 use Rattle.kmn_lines.specs.Bytes.{first_or_end}
 use Rattle.kmn_lines.specs.Lines.{starts_comment, outside, in_line, after_byte, ends_line, physical_lines}
 
--- the places that a state knows lie between two others
+-- the positions in a state are between two others
 pub record IsBetween (from to : ℕ) (r : LineState) : Type 0 where
   pub slash : IfSome r.slash (λ at. (from ≤ at) × (at ≤ to))
   pub stop : IfSome r.stop (λ at. (from ≤ at) × (at ≤ to))

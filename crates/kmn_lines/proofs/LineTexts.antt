@@ -19,7 +19,7 @@ use Rattle.kmn_lines.proofs.Whole.{mark-within}
 use Rattle.kmn_lines.proofs.Cuts.{after_bytes, Cut, line_cut}
 use Rattle.kmn_lines.proofs.TextSizes.{clash}
 
--- a text as a line, the line's end, and what stands behind it
+-- a text is a line, the line's end, and the rest after it
 record Split (text : List ℕ) : Type 0 where
   line : List ℕ
   end : List ℕ
@@ -86,7 +86,7 @@ split : (text : List ℕ) → Split text
 split [] = record { line = []; end = []; behind = []; whole = refl; in_line = All-nil IsInLine; ended = inr (inr (inr (refl, refl))); shorter = λ h. absurd (omega arith) }
 split (byte ∷ bytes) = split-first (byte == 10) (byte == 13) byte bytes refl refl (split bytes)
 
--- the cutting passes over the bytes of a line
+-- the bytes of a line are scanned one by one
 first-append : (bytes behind : List ℕ) → first_or_end (bytes ++ behind) ≡ first_or (first_or_end behind) bytes
 first-append [] behind = refl
 first-append (byte ∷ bytes) behind = refl
@@ -109,12 +109,12 @@ lines-in_line line from r at (byte ∷ bytes) behind p =
 pub lines-none : (line at : ℕ) → physical_lines line at line_start at [] ≡ []
 lines-none line at = cond-true (at == at) _ _ (eq-eqb at at refl)
 
--- the CR before an LF, or at the end, changes nothing
+-- a CR before an LF, or at the end, does not change the state
 cr-same : (line from at next : ℕ) (quote : Option ℕ) (blank : Bool) (slash stop : Option ℕ) → physical_line line from (at + 1) next (after_byte (record { quote = quote; after_blank = blank; slash = slash; stop = stop }) at 13 10) ≡ physical_line line from at next (record { quote = quote; after_blank = blank; slash = slash; stop = stop })
 cr-same line from at next quote blank slash None = refl
 cr-same line from at next quote blank slash (Some stop) = refl
 
--- a line ends, and the next begins behind its end
+-- a line ends, and the next one begins after its end
 abbrev Ends : ℕ → ℕ → LineState → ℕ → List ℕ → List ℕ → Type 0
 Ends line from r at end behind = physical_lines line from r at (end ++ behind) ≡ physical_line line from at (at + length end) r ∷ physical_lines (line + 1) (at + length end) line_start (at + length end) behind
 
@@ -149,7 +149,7 @@ lines-ended line from r at end behind (inr (inr (inr (e, f)))) g l =
     let long : length end ≡ 0 = ap length e in
     subst (λ (x : List ℕ). Ends line from r at x behind) (sym e) (subst (λ (x : List ℕ). Ends line from r at [] x) (sym f) (ends-last line from r at (omega arith)))
 
--- what stands behind a line's end counts for nothing
+-- the rest after a line's end does not matter
 ended-take : (end behind : List ℕ) (n : ℕ) → IsLineEnd end behind → IsLineEnd end (take n behind)
 ended-take end behind n (inl e) = inl e
 ended-take end behind n (inr (inl e)) = inr (inl e)
@@ -174,7 +174,7 @@ ends-line end behind (inr (inl e)) = subst (λ (x : List ℕ). ((first_or_end (x
 ends-line end behind (inr (inr (inl (e, f)))) = subst (λ (x : List ℕ). ((first_or_end (x ++ behind) == 10) || (first_or_end (x ++ behind) == 13)) ≡ true) (sym e) refl
 ends-line end behind (inr (inr (inr (e, f)))) = subst (λ (x : List ℕ). ((first_or_end (x ++ behind) == 10) || (first_or_end (x ++ behind) == 13)) ≡ true) (sym e) (subst (λ (x : List ℕ). ((first_or_end x == 10) || (first_or_end x == 13)) ≡ true) (sym f) refl)
 
--- a physical line as it is cut from a source
+-- a physical line as a piece of a source
 record Stands (source : List ℕ) (p : PhysicalLine) : Type 0 where
   line : List ℕ
   end : List ℕ
@@ -192,12 +192,12 @@ drop-both at source line end behind e =
     ∙ ap (λ (xs : List ℕ). drop (length end) xs) (sym (drop-drop (length line) at source) ∙ ap (λ (xs : List ℕ). drop (length line) xs) e ∙ drop-append_seam line (end ++ behind))
     ∙ drop-append_seam end behind
 
--- the physical lines of a source from a place on
+-- the physical lines of a source from a position on
 abbrev Chain : List ℕ → ℕ → ℕ → List PhysicalLine → Type 0
 Chain source line at [] = at ≡ length source
 Chain source line at (p ∷ ps) = (p.line ≡ line) × (p.from ≡ at) × Stands source p × Chain source (line + 1) p.next ps
 
--- the first physical line of a text that a line, its end and the rest make up
+-- the first physical line of a text that consists of a line, its end and the rest
 lines-step : (line at : ℕ) (bytes text end behind : List ℕ) → bytes ≡ text ++ (end ++ behind) → All IsInLine text → IsLineEnd end behind → 0 < length text + length end → physical_lines line at line_start at bytes ≡ physical_line line at (at + length text) (at + length text + length end) (after_bytes line_start at text (first_or_end (end ++ behind))) ∷ physical_lines (line + 1) (at + length text + length end) line_start (at + length text + length end) behind
 lines-step line at bytes text end behind e p h l =
     ap (λ (xs : List ℕ). physical_lines line at line_start at xs) e
@@ -232,7 +232,7 @@ chain-from (suc fuel) source line at (byte ∷ bytes) l h e =
     subst (Chain source line at) (sym (lines-step line at (byte ∷ bytes) s.line s.end s.behind s.whole s.in_line s.ended some))
     (refl, refl, stands, chain-from fuel source (line + 1) next s.behind (omega arith) fits rest)
 
--- what a physical line that stands in a source is by the law
+-- a physical line of a source is the one that the law describes
 stands-cut : (source : List ℕ) (p : PhysicalLine) (s : Stands source p) → Cut s.line p.from (after_bytes line_start p.from s.line (first_or_end (s.end ++ drop p.next source)))
 stands-cut source p s = line_cut s.line p.from (first_or_end (s.end ++ drop p.next source)) (ends-line s.end (drop p.next source) s.ended) s.in_line
 
@@ -261,7 +261,7 @@ text-within source p s =
     let to : p.to ≡ p.from + c.size = ap (λ (q : PhysicalLine). q.to) s.is ∙ c.to in
     omega (arith, c.cut.within, s.forward)
 
--- the physical lines of a logical line, all of which are joined so far; and of one that is complete
+-- the physical lines of a logical line: all are joined so far; and of a complete logical line
 abbrev Begun : List ℕ → ℕ → ℕ → ℕ → List PhysicalLine → Type 0
 Begun source line at end [] = at ≡ end
 Begun source line at end (p ∷ ps) = (p.line ≡ line) × (p.from ≡ at) × Stands source p × (p.joined ≡ true) × Begun source (line + 1) p.next end ps
@@ -298,7 +298,7 @@ group-forward : (source : List ℕ) (line at end : ℕ) (ps : List PhysicalLine)
 group-forward source line at end [] g = omega arith
 group-forward source line at end (p ∷ ps) (a, b, c, d, r) = let rest = group-forward source (line + 1) p.next end ps r in omega (arith, c.some)
 
--- a logical line is cut into the same physical lines again
+-- a logical line is split into the same physical lines again
 nil-of : (xs : List ℕ) → length xs ≡ 0 → xs ≡ []
 nil-of [] h = refl
 nil-of (x ∷ xs) h = absurd (omega arith)
@@ -340,7 +340,7 @@ cut-again source line at end (p ∷ ps) l (a, b, s, j, g) =
     ∙ ap (λ (q : PhysicalLine). q ∷ physical_lines (line + 1) next line_start next rest) head
     ∙ ap (λ (qs : List PhysicalLine). p ∷ qs) tail
 
--- the parts are those of the source, of which the logical line is a piece
+-- the parts of a logical line are parts of the source that contains it
 abbrev opening_step : List ℕ → PhysicalLine → List Part → List PhysicalLine → List Part
 opening_step text p parts ps = if is_skipped text then [] else part_behind (dropped text) p ∷ (if list_all is_blank text then parts else map (part_behind 0) ps)
 

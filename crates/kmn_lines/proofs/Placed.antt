@@ -1,4 +1,4 @@
--- Where the physical lines and the logical lines of a source stand.
+-- The positions of the physical lines and the logical lines of a source.
 use Rattle.std.proofs.Common.{◌≡◌, ℕ, ◌+◌, ◌≤◌, Bool, true, false, if◌then◌else◌, ◌==◌, List, [], ◌∷◌, length, drop, Option, None, Some, refl, arith, length-drop}
 use Rattle.std.specs.Prelude.{All, IfSome, unwrap_or}
 use Rattle.std.proofs.lemmas.Bool.{eqb-true}
@@ -13,7 +13,7 @@ use Rattle.kmn_lines.proofs.LineStates.{IsBetween}
 use Rattle.kmn_lines.proofs.LineStates.{between_after_byte}
 use Rattle.kmn_lines.proofs.TextSizes.{all-if}
 
--- physical lines stand one behind the other from a place up to a size, and each one's number fits its place
+-- physical lines follow one another from a position to a size, and the number of each fits its position
 abbrev pub InRow : ℕ → ℕ → List PhysicalLine → Type 0
 InRow at size [] = at ≡ size
 InRow at size (p ∷ ps) = (p.from ≡ at) × (at ≤ p.to) × (p.to ≤ p.next) × (p.next ≤ size) × (p.line ≤ at + 1) × InRow p.next size ps
@@ -44,12 +44,12 @@ physical_lines-in_row line from r at size (byte ∷ bytes) h g e between =
     (physical_lines-in_row line from (after_byte r at byte (first_or_end bytes)) (at + 1) size bytes (omega arith) g (omega arith)
     (between_after_byte from at r byte (first_or_end bytes) h between))
 
--- the physical lines from a place in a text on stand in a row up to its end
+-- the physical lines from a position in a text on follow one another up to its end
 pub physical_lines_at-in_row : (line at : ℕ) (text : List ℕ) → at ≤ length text → line ≤ at + 1 → InRow at (length text) (physical_lines_at line at text)
 physical_lines_at-in_row line at text h g =
     physical_lines-in_row line at line_start at (length text) (drop at text) (omega arith) g (omega (arith, length-drop at text)) (record { slash = tt; stop = tt })
 
--- the logical line that was begun lies before a place
+-- the logical line that was begun is before a position
 abbrev pub IsBegun : List ℕ → ℕ → Option Logical → Type 0
 IsBegun source at None = Unit {0}
 IsBegun source at (Some l) = IsPlaced source l × (l.to ≡ at)

@@ -1,4 +1,4 @@
--- What is dropped before a text are blanks and a word.
+-- The dropped beginning of a text is blanks and a word.
 use Rattle.std.proofs.Common.{◌≡◌, ℕ, ◌+◌, ◌⊎◌, inl, inr, true, List, [], ◌∷◌, take, drop, refl, sym, subst}
 use Rattle.std.specs.Prelude.{codes}
 use Rattle.std.specs.List.{list_all}

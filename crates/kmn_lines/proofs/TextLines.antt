@@ -27,13 +27,13 @@ use Rattle.kmn_lines.proofs.TextTokens.{boundary-before, IsPartText, parts-text}
 use Rattle.kmn_lines.proofs.TextSizes.{clash, all-if}
 use Rattle.kmn_lines.proofs.Numbered.{drop-next}
 
--- the byte at a place, where the bytes from there on are known
+-- the byte at a position, if the bytes from there on are known
 byte-at : (at : ℕ) (text : List ℕ) (byte : ℕ) (bytes : List ℕ) → drop at text ≡ byte ∷ bytes → (get_or text at 0 ≡ byte) × (at < length text)
 byte-at zero text byte bytes e = subst (λ (xs : List ℕ). (get_or xs 0 0 ≡ byte) × (0 < length xs)) (sym e) (refl, omega arith)
 byte-at (suc n) [] byte bytes e = absurd cc
 byte-at (suc n) (x ∷ xs) byte bytes e = let here = byte-at n xs byte bytes e in (here.0, omega arith)
 
--- the places that a state knows stand between characters
+-- the positions in a state are between characters
 record KnowsBoundaries (text : List ℕ) (r : LineState) : Type 0 where
   slash : IfSome r.slash (λ k. IsCharBoundary text k)
   stop : IfSome r.stop (λ k. IsCharBoundary text k)
@@ -126,7 +126,7 @@ gather-text text (Some l) (p ∷ ps) b h =
     all-if (IsLineText text) p.joined _ _ (gather-text text (Some (extended (Some l) p)) ps now rest)
     (All-cons (IsLineText text) (extended (Some l) p) _ now (gather-text text None ps tt rest))
 
--- a place between characters is one in the text up to a later place
+-- a position between characters is also one in the text up to a later position
 boundary-prefix : (text : List ℕ) (n i : ℕ) → i ≤ n → n ≤ length text → IsCharBoundary text i → IsCharBoundary (take n text) i
 boundary-prefix text n i h g b =
     let long : length (take n text) ≡ n = length-take n text ∙ omega arith in (

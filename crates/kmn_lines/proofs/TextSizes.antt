@@ -1,4 +1,4 @@
--- How far tokens reach, and which bytes words have.
+-- The sizes of tokens, and the bytes of words.
 use Rattle.std.proofs.Common.{◌≡◌, ℕ, zero, suc, ◌+◌, ◌<◌, ◌≤◌, Bool, true, false, ◌&&◌, ◌||◌, not, if◌then◌else◌, ◌==◌, List, [], ◌∷◌, length, take, drop, Option, None, Some, is_some, refl, sym, ◌∙◌, ap, subst, arith, length-drop}
 use Rattle.std.specs.Prelude.{◌≢◌, nat_le, All, unwrap_or}
 use Rattle.std.proofs.lemmas.Bool.{ne_eqb, leb-true, not-true, cond-false, and_parts, or_parts, or_from, and_left, cond_both}
@@ -10,7 +10,7 @@ use Rattle.kmn_lines.specs.Laws.{IsPlain}
 use Rattle.kmn_lines.specs.declared.token.TokenKind.{TokenKind}
 use Rattle.kmn_lines.specs.declared.token.TokenKind.TheVariants.{Quoted, Number, Word, Unequal}
 
--- what holds of each element of both cases of a choice holds of each of the choice's
+-- if a property is true for each element of both branches, it is true for each element of the selected one
 pub all-if : {A : Type 0} (P : A → Type 0) (b : Bool) (xs ys : List A) → All P xs → All P ys → All P (if b then xs else ys)
 all-if P true xs ys g h = g
 all-if P false xs ys g h = h
@@ -80,7 +80,7 @@ token_size-within (byte ∷ bytes) h =
     (λ e. cond_both (is_unequal byte (first_or_end bytes)) _ _ fits (λ e. let l = unequal-long byte bytes e in omega arith)
     (λ e. cond_both (is_some (single byte)) _ _ fits (λ e. omega arith) (λ e. word_size-within text))))
 
--- what is no blank begins with a token of at least a byte
+-- a text that does not begin with a blank begins with a token of at least one byte
 pub token_size-some : (text : List ℕ) → 0 < length text → is_blank (first_or_end text) ≡ false → 0 < token_size text
 unfolding token_size
 token_size-some [] h blank = absurd (omega arith)
@@ -195,7 +195,7 @@ first-take (byte ∷ bytes) = refl
 pub clash : {X : Type 0} (b : Bool) → b ≡ true → b ≡ false → X
 clash b e f = let h : true ≡ false = sym e ∙ f in absurd cc
 
--- the token that a text begins with is a word only if each of its bytes is plain
+-- the token at the beginning of a text is a word only if each of its bytes is plain
 pub words_plain : (text : List ℕ) → 0 < length text → token_kind (take (token_size text) text) ≡ Word → All IsPlain (take (token_size text) text)
 unfolding token_size
 words_plain [] h = absurd (omega arith)

@@ -36,7 +36,7 @@ single-ascii byte e = unless-wide byte (λ h. clash (is_some (single byte)) e (w
 outside-ascii : (byte next : ℕ) → in_word byte next ≡ false → byte < 128
 outside-ascii byte next e = unless-wide byte (λ h. clash (in_word byte next) (wide-in_word byte next h) e)
 
--- a token that ends one byte later
+-- the size of a token that ends one byte later
 
 ends-later : (byte : ℕ) (bytes : List ℕ) (n : ℕ) → (n ≡ length bytes) ⊎ (get_or bytes n 0 < 128) → (1 + n ≡ suc (length bytes)) ⊎ (get_or (byte ∷ bytes) (1 + n) 0 < 128)
 ends-later byte bytes n (inl e) = inl (omega arith)
@@ -50,7 +50,7 @@ word_end (byte ∷ bytes) =
     (λ e. ends-later byte bytes (word_size bytes) rest)
     (λ e. inr (outside-ascii byte (first_or_end bytes) e))
 
--- a quoted text ends at the end or behind the quote
+-- a quoted text ends at the end or after the closing quote
 quoted_end : (quote : ℕ) (text : List ℕ) → (quoted_size quote text ≡ length text) ⊎ ((0 < quoted_size quote text) × (get_or text (quoted_size quote text - 1) 0 ≡ quote))
 quoted_end quote [] = inl refl
 quoted_end quote (byte ∷ bytes) =
@@ -63,7 +63,7 @@ quoted_end quote (byte ∷ bytes) =
           inr (omega arith, subst (λ (n : ℕ). get_or (byte ∷ bytes) n 0 ≡ quote) k g))
     ])
 
--- a place at the end or before an ASCII byte
+-- a position at the end or before an ASCII byte
 pub boundary-before : (text : List ℕ) (i : ℕ) → i ≤ length text → (i ≡ length text) ⊎ (get_or text i 0 < 128) → IsCharBoundary text i
 boundary-before text i h (inl e) = subst (IsCharBoundary text) (sym e) (IsCharBoundary-end text)
 boundary-before text i h (inr g) = elim (cases_lt i (length text)) [ inl l ↦ IsCharBoundary-before_ascii text i l g | inr k ↦ (let e : length text ≡ i = omega arith in subst (IsCharBoundary text) e (IsCharBoundary-end text)) ]
@@ -112,11 +112,11 @@ token-boundary (byte ∷ bytes) utf h =
     (λ s. IsCharBoundary-after_ascii text 0 utf h (single-ascii byte s))
     (λ e. boundary-before text (word_size text) (word_size-within text) (word_end text)))))
 
--- a token lies in a text and is UTF-8
+-- a token is within a text and is UTF-8
 abbrev pub IsText : List ℕ → Token → Type 0
 IsText text t = (t.to ≤ length text) × IsUtf8 (bytes_between text t.from t.to)
 
--- the token at a place of a text
+-- the token at a position of a text
 token-text : (text : List ℕ) (line at : ℕ) (bytes : List ℕ) (size : ℕ) → drop at text ≡ bytes → size ≤ length bytes → 0 < size → IsUtf8 (take size bytes) → IsText text (token_at line at (take size bytes))
 token-text text line at bytes size e within some utf =
     let long : length (take size bytes) ≡ size = length-take size bytes ∙ omega arith in

@@ -1,4 +1,4 @@
--- The lines of a source make it up, bear the numbers of their places, and their parts stand in order.
+-- The lines of a source make it up, have the numbers of their positions, and their parts are in order.
 use Rattle.std.proofs.Common.{◌≡◌, ℕ, zero, suc, ◌+◌, ◌-◌, ◌≤◌, Bool, true, false, if◌then◌else◌, ◌==◌, List, [], ◌∷◌, ◌++◌, length, take, drop, map, Option, None, Some, refl, sym, ◌∙◌, ap, subst, arith, length-drop}
 use Rattle.std.specs.Prelude.{flat_map, codes}
 use Rattle.std.specs.List.{list_all, starts_with}
@@ -17,7 +17,7 @@ use Rattle.kmn_lines.specs.Lines.{physical_lines_at, extended, gather, logicals,
 use Rattle.kmn_lines.specs.Laws.{bytes_between, PhysicalLinesMakeTheSource, LinesMakeTheSource, InOrder, PartsStandInOrder}
 use Rattle.kmn_lines.proofs.Placed.{InRow, physical_lines_at-in_row}
 
--- the bytes up to a place and those behind it
+-- the bytes up to a position, and the bytes after it
 between-behind : (from to : ℕ) (text : List ℕ) → from ≤ to → to ≤ length text → bytes_between text from to ++ drop to text ≡ drop from text
 between-behind from to text h g =
     let long : from ≤ length (take to text) = omega (arith, length-take to text) in
@@ -36,7 +36,7 @@ take-all (byte ∷ bytes) (suc n) e = ap (λ (xs : List ℕ). byte ∷ xs) (take
 abbrev line_bytes : List ℕ → Logical → List ℕ
 line_bytes source l = bytes_between source l.from l.to
 
--- where the rest of the text begins: at the line that was begun, or at a place
+-- the position at which the rest of the text begins: at the line that was begun, or at a given position
 abbrev begun_at : ℕ → Option Logical → ℕ
 begun_at at None = at
 begun_at at (Some l) = l.from

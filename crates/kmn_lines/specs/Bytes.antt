@@ -1,7 +1,7 @@
 -- The first byte of a text.
 use Rattle.std.specs.Prelude.{ℕ, List, [], ◌∷◌}
 
--- the byte that comes next; the end of the text counts as LF
+-- the next byte; the end of the text counts as LF
 abbrev pub first_or_end : List ℕ → ℕ
 first_or_end [] = 10
 first_or_end (byte ∷ bytes) = byte

@@ -1,4 +1,4 @@
--- The laws of lines and tokens, in words that do not speak of how a text is read.
+-- The laws of lines and tokens, stated without describing how a text is read.
 use Rattle.std.specs.Prelude.{◌≡◌, ℕ, zero, suc, ◌+◌, ◌-◌, ◌<◌, ◌≤◌, ◌==◌, ◌⊎◌, Bool, true, false, not, ◌&&◌, ◌||◌, if◌then◌else◌, List, [], ◌∷◌, ◌++◌, length, take, drop, flat_map, Option, None, Some, is_some, All, IsUtf8, codes}
 use Rattle.std.specs.List.{list_all}
 use Rattle.kmn_base.specs.Bytes.{is_blank, is_quote}
@@ -13,12 +13,12 @@ use Rattle.kmn_lines.specs.declared.logical.Part.{Part}
 use Rattle.kmn_lines.specs.declared.token.Token.{Token}
 use Rattle.kmn_lines.specs.declared.token.TokenKind.TheVariants.{Word}
 
--- a text is blank
+-- whether a text has only blanks
 abbrev pub IsBlankText : List ℕ → Type 0
 IsBlankText text = list_all is_blank text ≡ true
 
--- tokens cover a text that begins at a place: each has a byte, none overlaps the one before, none ends past the text,
--- and before, between and behind them stand blanks alone; of each token and its text a fact holds
+-- tokens cover a text that begins at a position: each has a byte, none overlaps the previous one, none ends past the text, and there are
+-- only blanks before, between and after them; each token and its text have a given property
 abbrev pub Covers : (Token → List ℕ → Type 0) → ℕ → List ℕ → List Token → Type 0
 Covers holds at text [] = IsBlankText text
 Covers holds at text (t ∷ ts) =
@@ -27,17 +27,17 @@ Covers holds at text (t ∷ ts) =
     × holds t (take (t.to - t.from) (drop (t.from - at) text))
     × Covers holds t.to (drop (t.to - at) text) ts
 
--- tokens that cover a part of a source and bear its number
+-- tokens that cover a part of a source and have its line number
 pub record CoversPart (holds : Token → List ℕ → Type 0) (source : List ℕ) (p : Part) (ts : List Token) : Type 0 where
   pub covers : Covers holds p.from (part_text source p) ts
   pub numbered : All (λ (t : Token). t.line ≡ p.line) ts
 
--- tokens are those of parts, one part after the other, and cover each
+-- tokens are the tokens of parts, one part after the other, and cover each part
 abbrev pub CoversParts : (Token → List ℕ → Type 0) → List ℕ → List Part → List Token → Type 0
 CoversParts holds source [] ts = ts ≡ []
 CoversParts holds source (p ∷ ps) ts = (here : List Token) × (behind : List Token) × (ts ≡ here ++ behind) × CoversPart holds source p here × CoversParts holds source ps behind
 
--- a byte that a word may have: no blank, no quote, none of ( ) [ ] > + = ,
+-- a byte that a word may have: not a blank, not a quote, and not one of ( ) [ ] > + = ,
 pub record IsPlain (byte : ℕ) : Type 0 where
   pub blank : is_blank byte ≡ false
   pub quote : is_quote byte ≡ false
@@ -51,33 +51,33 @@ TokensCoverParts = (source : List ℕ) (l : Logical) → CoversParts (λ t text.
 abbrev pub WordsArePlain : Type 0
 WordsArePlain = (source : List ℕ) (l : Logical) → CoversParts (λ t text. t.kind ≡ Word → All IsPlain text) source (parts_in source l) (line_tokens source l)
 
--- the bytes between two places
+-- the bytes between two positions
 abbrev pub bytes_between : List ℕ → ℕ → ℕ → List ℕ
 bytes_between source from to = drop from (take to source)
 
--- the physical lines with their line ends, put together behind a first U+FEFF, are the source
+-- the physical lines with their line ends, joined after a byte order mark, are the source
 abbrev pub PhysicalLinesMakeTheSource : Type 0
 PhysicalLinesMakeTheSource = (source : List ℕ) → take (mark_size source) source ++ flat_map (λ (p : PhysicalLine). bytes_between source p.from p.next) (physical_lines_at 1 (mark_size source) source) ≡ source
 
--- the logical lines, put together behind a first U+FEFF, are the source
+-- the logical lines, joined after a byte order mark, are the source
 abbrev pub LinesMakeTheSource : Type 0
 LinesMakeTheSource = (source : List ℕ) → take (mark_size source) source ++ flat_map (λ (l : Logical). bytes_between source l.from l.to) (logicals source) ≡ source
 
--- parts stand between two places, none before the end of the one before
+-- parts between two positions, each after the end of the previous one
 abbrev pub InOrder : ℕ → ℕ → List Part → Type 0
 InOrder at end [] = at ≤ end
 InOrder at end (p ∷ ps) = (at ≤ p.from) × (p.from ≤ p.to) × InOrder p.to end ps
 
--- the parts of a line stand in it in rising order
+-- the parts of a line are in it in rising order
 abbrev pub PartsStandInOrder : Type 0
 PartsStandInOrder = (source : List ℕ) (l : Logical) → IsPlaced source l → InOrder l.from l.to (parts_in source l)
 
--- a byte ends a physical line, with the bytes behind it: an LF, and a CR that no LF follows
+-- whether a byte, followed by these bytes, ends a physical line: an LF, or a CR that no LF follows
 abbrev pub is_line_end : ℕ → List ℕ → Bool
 is_line_end byte [] = (byte == 10) || (byte == 13)
 is_line_end byte (next ∷ bytes) = (byte == 10) || ((byte == 13) && not (next == 10))
 
--- how many of the first n bytes of a text end a physical line
+-- the number of line ends among the first n bytes of a text
 abbrev pub line_ends : ℕ → List ℕ → ℕ
 line_ends zero text = 0
 line_ends (suc n) [] = 0
@@ -91,17 +91,17 @@ LinesAreNumbered = (source : List ℕ) → All (λ (l : Logical). l.first_line �
 abbrev pub TokensAreText : Type 0
 TokensAreText = (source : List ℕ) → IsUtf8 source → All (λ (l : Logical). All (λ (t : Token). IsUtf8 (bytes_between source t.from t.to)) (line_tokens source l)) (logicals source)
 
--- the quote that is open behind a byte: a quote opens, and the same quote closes
+-- the quote that is open after a byte: a quote opens, and the same quote closes
 abbrev pub quote_behind : Option ℕ → ℕ → Option ℕ
 quote_behind None byte = if is_quote byte then Some byte else None
 quote_behind (Some quote) byte = if byte == quote then None else Some quote
 
--- the quote that is open behind a text
+-- the quote that is open after a text
 abbrev pub open_quote : Option ℕ → List ℕ → Option ℕ
 open_quote quote [] = quote
 open_quote quote (byte ∷ bytes) = open_quote (quote_behind quote byte) bytes
 
--- the first and the last byte of a text; where there is none, a given one
+-- the first and the last byte of a text; a given byte if the text is empty
 abbrev pub first_or : ℕ → List ℕ → ℕ
 first_or other [] = other
 first_or other (byte ∷ bytes) = byte
@@ -110,30 +110,30 @@ abbrev pub last_or : ℕ → List ℕ → ℕ
 last_or other [] = other
 last_or other (byte ∷ bytes) = last_or byte bytes
 
--- a place of a physical line stands outside quotes
+-- whether a position of a physical line is outside quotes
 abbrev pub is_outside : List ℕ → ℕ → Bool
 is_outside line at = not (is_some (open_quote None (take at line)))
 
--- a c or C, and then a blank or nothing
+-- whether a text is a c or C followed by a blank or the end
 abbrev pub is_lone_c : List ℕ → Bool
 is_lone_c [] = false
 is_lone_c (byte ∷ bytes) = ((byte == 99) || (byte == 67)) && is_blank (first_or 32 bytes)
 
--- a comment begins at a place of a physical line: outside quotes, behind a blank or at the start, stands a c or C before
--- a blank or the end
+-- whether a comment begins at a position of a physical line: outside quotes, after a blank or at the start, there is a c or C before a
+-- blank or the end
 abbrev pub comment_at : List ℕ → ℕ → Bool
 comment_at line at = is_outside line at && (is_blank (last_or 32 (take at line)) && is_lone_c (drop at line))
 
--- a backslash, and then blanks alone
+-- whether a text is a backslash followed only by blanks
 abbrev pub is_lone_backslash : List ℕ → Bool
 is_lone_backslash [] = false
 is_lone_backslash (byte ∷ bytes) = (byte == 92) && list_all is_blank bytes
 
--- a joining backslash stands at a place of a physical line: outside quotes, with blanks alone behind it
+-- whether there is a joining backslash at a position of a physical line: outside quotes, followed only by blanks
 abbrev pub joint_at : List ℕ → ℕ → Bool
 joint_at line at = is_outside line at && is_lone_backslash (drop at line)
 
--- a byte of a line: no LF and no CR
+-- a byte inside a line: not LF and not CR
 abbrev pub IsInLine : ℕ → Type 0
 IsInLine byte = ((byte == 10) || (byte == 13)) ≡ false
 
@@ -141,15 +141,15 @@ IsInLine byte = ((byte == 10) || (byte == 13)) ≡ false
 abbrev pub IsLineEnd : List ℕ → List ℕ → Type 0
 IsLineEnd end behind = (end ≡ 10 ∷ []) ⊎ ((end ≡ 13 ∷ 10 ∷ []) ⊎ (((end ≡ 13 ∷ []) × ((first_or 32 behind == 10) ≡ false)) ⊎ ((end ≡ []) × (behind ≡ []))))
 
--- the text of a physical line has the bytes before the first place where a comment begins or a joining backslash stands,
--- and all where there is none; the backslash alone joins
+-- the text of a physical line has the bytes before the first position at which a comment begins or there is a joining backslash, and all
+-- bytes if there is none; only the backslash joins
 pub record IsCut (line : List ℕ) (size : ℕ) (joined : Bool) : Type 0 where
   pub within : size ≤ length line
   pub no_comment : (k : ℕ) → k < size → comment_at line k ≡ false
   pub no_joint : (k : ℕ) → k < size → joint_at line k ≡ false
   pub here : ((size ≡ length line) × (joined ≡ false)) ⊎ (((comment_at line size ≡ true) × (joined ≡ false)) ⊎ ((joint_at line size ≡ true) × (joined ≡ true)))
 
--- a physical line of a source: its bytes are a line and the line's end, and its text is cut from the line
+-- a physical line of a source: its bytes are a line and the line's end, and its text is the text of the line
 pub record IsPhysicalLine (source : List ℕ) (p : PhysicalLine) : Type 0 where
   pub line : List ℕ
   pub end : List ℕ
@@ -160,28 +160,28 @@ pub record IsPhysicalLine (source : List ℕ) (p : PhysicalLine) : Type 0 where
   pub to : p.to ≡ p.from + size
   pub cut : IsCut line size p.joined
 
--- a physical line is joined where another follows in its logical line; the last one only where the source ends
+-- a physical line is joined if another one follows in its logical line; the last one is joined only if the source ends
 abbrev pub IsJoined : List ℕ → PhysicalLine → List PhysicalLine → Type 0
 IsJoined source p [] = p.joined ≡ true → p.next ≡ length source
 IsJoined source p (q ∷ qs) = p.joined ≡ true
 
--- physical lines of a source, one behind the other between two places, numbered and joined
+-- physical lines of a source that follow one another between two positions, numbered and joined
 abbrev pub AreJoined : List ℕ → ℕ → ℕ → ℕ → List PhysicalLine → Type 0
 AreJoined source line at end [] = at ≡ end
 AreJoined source line at end (p ∷ ps) =
     (p.line ≡ line) × (p.from ≡ at) × IsPhysicalLine source p × IsJoined source p ps
     × AreJoined source (line + 1) p.next end ps
 
--- the parts of a logical line are the texts of its physical lines, but for its prefix
+-- the parts of a logical line are the texts of its physical lines, without its prefix
 abbrev pub PartsAreTexts : Type 0
 PartsAreTexts = (source : List ℕ) → All (λ (l : Logical). (ps : List PhysicalLine) × AreJoined source l.first_line l.from l.to ps × (parts_in source l ≡ opening_parts source ps)) (logicals source)
 
--- a text begins with blanks and a word, in any ASCII case, which are its first n bytes
+-- a text begins with blanks and a word, in any ASCII case, and these are its first n bytes
 abbrev pub IsPrefix : List ℕ → List ℕ → ℕ → Type 0
 IsPrefix word text n = (k : ℕ) × (n ≡ k + length word) × IsBlankText (take k text) × (same_name (take (length word) (drop k text)) word ≡ true)
 
--- what the first text that is not blank drops is nothing, or blanks and $keyman: or $keymanonly:; and a text with which
--- a line is skipped begins with blanks and $keymanweb: or $kmfl:
+-- what is dropped from the first text that is not blank is empty, or blanks and $keyman: or $keymanonly:; a text with which a line is
+-- skipped begins with blanks and $keymanweb: or $kmfl:
 abbrev pub PrefixesAreDropped : Type 0
 PrefixesAreDropped =
     (text : List ℕ)

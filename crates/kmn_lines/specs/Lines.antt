@@ -1,4 +1,4 @@
--- How a source is cut into physical lines, these are joined to logical lines, and what of a logical line is tokenised.
+-- How a source is split into physical lines, how these are joined to logical lines, and which parts of a logical line are tokenized.
 use Rattle.std.specs.Prelude.{ℕ, ◌+◌, ◌==◌, Bool, true, false, not, ◌&&◌, ◌||◌, if◌then◌else◌, List, [], ◌∷◌, length, take, drop, map, codes, Option, None, Some, is_some, unwrap_or}
 use Rattle.std.specs.List.{list_all}
 use Rattle.kmn_base.specs.Bytes.{is_blank, is_quote}
@@ -10,19 +10,19 @@ use Rattle.kmn_lines.specs.declared.line_state.PhysicalLine.{PhysicalLine}
 use Rattle.kmn_lines.specs.declared.logical.Logical.{Logical}
 use Rattle.kmn_lines.specs.declared.logical.Part.{Part}
 
--- LF, and a CR that no LF follows, end a physical line
+-- whether a byte ends a physical line: an LF, or a CR that no LF follows
 abbrev pub ends_line : ℕ → ℕ → Bool
 ends_line byte next = (byte == 10) || ((byte == 13) && not (next == 10))
 
--- a c between a blank or the line's start and a blank or the line's end begins a comment
+-- whether a byte begins a comment: a c between a blank or the line's start and a blank or the line's end
 abbrev pub starts_comment : Bool → ℕ → ℕ → Bool
 starts_comment after_blank byte next = after_blank && ((byte == 99) || (byte == 67)) && (is_blank next || (next == 10) || (next == 13))
 
--- at the start of a physical line
+-- the state at the start of a physical line
 abbrev pub line_start : LineState
 line_start = record { quote = None; after_blank = true; slash = None; stop = None }
 
--- a byte outside quotes
+-- the state after a byte outside quotes
 abbrev pub outside : LineState → ℕ → ℕ → ℕ → LineState
 outside r at byte next =
     if is_blank byte then record r { after_blank = true }
@@ -30,27 +30,27 @@ outside r at byte next =
     else if byte == 92 then record r { after_blank = false; slash = Some at }
     else record r { quote = if is_quote byte then Some byte else None; after_blank = false; slash = None }
 
--- a byte inside quotes
+-- the state after a byte inside quotes
 abbrev pub inside : LineState → ℕ → ℕ → LineState
 inside r quote byte = if byte == quote then record r { quote = None } else r
 
--- a byte where nothing stops the line yet
+-- the state after a byte, if the line is not stopped
 abbrev pub in_line : Option ℕ → LineState → ℕ → ℕ → ℕ → LineState
 in_line None r at byte next = outside r at byte next
 in_line (Some quote) r at byte next = inside r quote byte
 
--- a byte that does not end the line, at its place, with the next byte; a CR here stands before an LF
+-- the state after a byte that does not end the line, given its position and the next byte; a CR here precedes an LF
 abbrev pub after_byte : LineState → ℕ → ℕ → ℕ → LineState
 after_byte r at byte next =
     if is_some r.stop then r
     else if byte == 13 then record r { stop = Some at }
     else in_line r.quote r at byte next
 
--- the physical line that ends at a place, before the place of the next
+-- the physical line that ends at a position, given the position of the next
 abbrev pub physical_line : ℕ → ℕ → ℕ → ℕ → LineState → PhysicalLine
 physical_line line from at next r = record { line = line; from = from; to = unwrap_or r.slash (unwrap_or r.stop at); next = next; joined = is_some r.slash }
 
--- the rest of the physical line that begins at a place, read so far, and the lines behind it
+-- the rest of the physical line that begins at a position, given its state so far, and the lines after it
 abbrev pub physical_lines : ℕ → ℕ → LineState → ℕ → List ℕ → List PhysicalLine
 physical_lines line from r at [] = if from == at then [] else physical_line line from at at r ∷ []
 physical_lines line from r at (byte ∷ bytes) =
@@ -58,16 +58,16 @@ physical_lines line from r at (byte ∷ bytes) =
     then physical_line line from at (at + 1) r ∷ physical_lines (line + 1) (at + 1) line_start (at + 1) bytes
     else physical_lines line from (after_byte r at byte (first_or_end bytes)) (at + 1) bytes
 
--- the physical lines from a place on
+-- the physical lines from a position on
 abbrev pub physical_lines_at : ℕ → ℕ → List ℕ → List PhysicalLine
 physical_lines_at line at bytes = physical_lines line at line_start at (drop at bytes)
 
--- a logical line that a physical line begins or goes on with
+-- a logical line with a physical line that begins or continues it
 abbrev pub extended : Option Logical → PhysicalLine → Logical
 extended None p = record { first_line = p.line; from = p.from; to = p.next }
 extended (Some l) p = record l { to = p.next }
 
--- the logical lines of physical lines, the first of which goes on with the one that was begun
+-- the logical lines of physical lines; the first continues the line that was begun
 abbrev pub gather : Option Logical → List PhysicalLine → List Logical
 gather None [] = []
 gather (Some l) [] = l ∷ []
@@ -77,24 +77,24 @@ gather begun (p ∷ ps) = if p.joined then gather (Some (extended begun p)) ps e
 unfoldable pub logicals : List ℕ → List Logical
 logicals source = gather None (physical_lines_at 1 (mark_size source) source)
 
--- how many blanks a text begins with
+-- the number of blanks at the beginning of a text
 abbrev pub blanks : List ℕ → ℕ
 blanks [] = 0
 blanks (byte ∷ bytes) = if is_blank byte then 1 + blanks bytes else 0
 
--- a text begins with a word, without ASCII case
+-- whether a text begins with a word, without ASCII case
 abbrev pub begins_with : List ℕ → List ℕ → Bool
 begins_with text word = same_name (take (length word) text) word
 
--- words that are skipped: they begin with $keymanweb: or $kmfl:
+-- whether words are skipped: they begin with $keymanweb: or $kmfl:
 abbrev pub begins_other : List ℕ → Bool
 begins_other words = begins_with words (codes "$keymanweb:") || begins_with words (codes "$kmfl:")
 
--- a text that is skipped, whatever blanks it begins with
+-- whether a text is skipped, whatever blanks it begins with
 unfoldable pub is_skipped : List ℕ → Bool
 is_skipped text = begins_other (drop (blanks text) text)
 
--- how many bytes are dropped from a text: its blanks and a $keyman: or $keymanonly: behind them
+-- the number of bytes that are dropped from a text: its blanks and a $keyman: or $keymanonly: after them
 unfoldable pub dropped : List ℕ → ℕ
 dropped text =
     let words = drop (blanks text) text in
@@ -106,12 +106,12 @@ dropped text =
 abbrev pub physical_text : List ℕ → PhysicalLine → List ℕ
 physical_text source p = drop p.from (take p.to source)
 
--- a physical line as a part, without some first bytes
+-- a physical line as a part, without its first bytes
 abbrev pub part_behind : ℕ → PhysicalLine → Part
 part_behind n p = record { line = p.line; from = p.from + n; to = p.to }
 
--- the parts of a logical line from its first text on: its prefix is dropped, and behind a skipping prefix there is none;
--- a joining backslash counts as a blank, so blank parts may stand before the prefix
+-- the parts of a logical line from its first text on: its prefix is dropped, and after a skipping prefix there are no parts; a joining
+-- backslash counts as a blank, so blank parts may precede the prefix
 abbrev pub opening_parts : List ℕ → List PhysicalLine → List Part
 opening_parts source [] = []
 opening_parts source (p ∷ ps) =
@@ -119,7 +119,7 @@ opening_parts source (p ∷ ps) =
     else part_behind (dropped (physical_text source p)) p
     ∷ (if list_all is_blank (physical_text source p) then opening_parts source ps else map (part_behind 0) ps)
 
--- the parts of a logical line, which is cut into its physical lines again
+-- the parts of a logical line, which is split into its physical lines again
 unfoldable pub parts_in : List ℕ → Logical → List Part
 parts_in source l =
     let bytes = take l.to source in

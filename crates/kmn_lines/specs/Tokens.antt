@@ -28,30 +28,30 @@ single byte =
     else if byte == 44 then Some Comma
     else None
 
--- != is one token
+-- whether two bytes are !=, which is one token
 abbrev pub is_unequal : ℕ → ℕ → Bool
 is_unequal byte next = (byte == 33) && (next == 61)
 
--- a byte belongs to a word: it is no blank, no quote, no token by itself, and no ! before =
+-- whether a byte belongs to a word: it is not a blank, a quote, a token by itself, or a ! before =
 unfoldable pub in_word : ℕ → ℕ → Bool
 in_word byte next = not (is_blank byte || is_quote byte || is_some (single byte) || is_unequal byte next)
 
--- how many bytes of a word a text begins with
+-- the number of bytes of a word at the beginning of a text
 abbrev pub word_size : List ℕ → ℕ
 word_size [] = 0
 word_size (byte ∷ bytes) = if in_word byte (first_or_end bytes) then 1 + word_size bytes else 0
 
--- how many bytes there are up to a quote and with it; all where there is none
+-- the number of bytes up to and including a quote; all bytes if there is no quote
 abbrev pub quoted_size : ℕ → List ℕ → ℕ
 quoted_size quote [] = 0
 quoted_size quote (byte ∷ bytes) = if byte == quote then 1 else 1 + quoted_size quote bytes
 
--- U+ and a hexadecimal digit begin a number
+-- whether a text begins with U+ and a hexadecimal digit, which begin a number
 abbrev pub starts_number : List ℕ → Bool
 starts_number (a ∷ b ∷ c ∷ bytes) = ((a == 85) || (a == 117)) && (b == 43) && is_some (hex_digit c)
 starts_number bytes = false
 
--- how many bytes the token has that a text begins with, if it is no number; an unclosed quote runs to the end
+-- the size of the token at the beginning of a text, if it is not a number; an unclosed quote extends to the end
 abbrev pub plain_size : List ℕ → ℕ
 plain_size text =
     let byte = first_or_end text in
@@ -60,62 +60,62 @@ plain_size text =
     else if is_some (single byte) then 1
     else word_size text
 
--- how many bytes the token has that a text begins with, which is not a blank
+-- the size of the token at the beginning of a text, which is not a blank
 unfoldable pub token_size : List ℕ → ℕ
 token_size text = if starts_number text then 2 + word_size (drop 2 text) else plain_size text
 
--- the number that hexadecimal digits write, capped past all characters
+-- the number that hexadecimal digits denote, limited to a value past all characters
 abbrev pub hex_value : ℕ → List ℕ → ℕ
 hex_value n [] = n
 hex_value n (byte ∷ bytes) = hex_value (min (n * 16 + unwrap_or (hex_digit byte) 0) 0x11_0000) bytes
 
--- what a token is that is no number, by its first byte and the next
+-- the kind of a token that is not a number, by its first byte and the next
 abbrev pub plain_kind : ℕ → ℕ → TokenKind
 plain_kind byte next =
     if is_quote byte then Quoted
     else if is_unequal byte next then Unequal
     else unwrap_or (single byte) Word
 
--- what a token with a text is
+-- the kind of a token with this text
 unfoldable pub token_kind : List ℕ → TokenKind
 token_kind text =
     if starts_number text then Number (hex_value 0 (drop 2 text))
     else plain_kind (first_or_end text) (first_or_end (drop 1 text))
 
--- U+0000 or U+FFFF stands at the start of a text
+-- whether a text begins with U+0000 or U+FFFF
 unfoldable pub begins_forbidden : List ℕ → Bool
 begins_forbidden bytes = (first_or_end bytes == 0) || starts_with (λ a b. a == b) bytes (0xEF ∷ 0xBF ∷ 0xBF ∷ [])
 
--- U+0000 or U+FFFF stands in a text
+-- whether a text contains U+0000 or U+FFFF
 abbrev pub has_forbidden : List ℕ → Bool
 has_forbidden [] = false
 has_forbidden (byte ∷ bytes) = begins_forbidden (byte ∷ bytes) || has_forbidden bytes
 
--- a text that begins with a quote has this quote once more
+-- whether a text that begins with a quote contains this quote again
 abbrev pub is_closed : List ℕ → Bool
 is_closed [] = true
 is_closed (byte ∷ bytes) = not (is_quote byte) || list_any (λ b. b == byte) bytes
 
--- each byte is a hexadecimal digit
+-- whether each byte is a hexadecimal digit
 abbrev pub all_digits : List ℕ → Bool
 all_digits digits = list_all (λ digit. is_some (hex_digit digit)) digits
 
--- a number that is a Unicode scalar value
+-- whether a number is a Unicode scalar value
 abbrev pub is_scalar : ℕ → Bool
 is_scalar n = nat_lt n 0xD800 || (nat_lt 0xDFFF n && nat_lt n 0x11_0000)
 
--- what is wrong with the number of 4 to 6 hexadecimal digits
+-- the fault of the number of 4 to 6 hexadecimal digits
 abbrev pub value_fault : ℕ → Option Code
 value_fault n = if is_forbidden n then Some L02 else if is_scalar n then None else Some L04
 
--- what is wrong with the digits behind U+
+-- the fault of the digits after U+
 abbrev pub digits_fault : List ℕ → Option Code
 digits_fault digits =
     if nat_le 4 (length digits) && nat_le (length digits) 6 && all_digits digits
     then value_fault (hex_value 0 digits)
     else Some L04
 
--- what is wrong with a token with a text: a forbidden character, an unclosed quote, a number that is no character
+-- the fault of a token with this text: a forbidden character, an unclosed quote, or a number that is not a character
 unfoldable pub token_fault : List ℕ → Option Code
 token_fault text =
     if has_forbidden text then Some L02
@@ -127,11 +127,11 @@ token_fault text =
 abbrev pub token_text : List ℕ → List ℕ
 token_text bytes = take (token_size bytes) bytes
 
--- the token with a text at a place
+-- the token with a text at a position
 abbrev pub token_at : ℕ → ℕ → List ℕ → Token
 token_at line at text = record { kind = token_kind text; line = line; from = at; to = at + length text }
 
--- the tokens of a text from a place on, where some first bytes belong to the token before
+-- the tokens of a text from a position on, if its first bytes belong to the previous token
 abbrev pub scanned : ℕ → ℕ → ℕ → List ℕ → List Token
 scanned line n at [] = []
 scanned line (suc n) at (byte ∷ bytes) = scanned line n (at + 1) bytes
@@ -139,7 +139,7 @@ scanned line zero at (byte ∷ bytes) =
     if is_blank byte then scanned line zero (at + 1) bytes
     else token_at line at (token_text (byte ∷ bytes)) ∷ scanned line (token_size (byte ∷ bytes) - 1) (at + 1) bytes
 
--- the first fault among the tokens of a text, where some first bytes belong to the token before
+-- the first fault among the tokens of a text, if its first bytes belong to the previous token
 abbrev pub first_fault : ℕ → List ℕ → Option Code
 first_fault n [] = None
 first_fault (suc n) (byte ∷ bytes) = first_fault n bytes
@@ -165,11 +165,11 @@ parts_fault source (p ∷ ps) = option_or (first_fault 0 (part_text source p)) (
 unfoldable pub line_tokens : List ℕ → Logical → List Token
 line_tokens source l = parts_tokens source (parts_in source l)
 
--- a code at a line
+-- the refusal of a code at a line
 abbrev pub refusal : ℕ → Code → Refusal
 refusal line code = record { line = line; code = code }
 
--- the refusal of a logical line's tokens, which bears the number of its first physical line
+-- the refusal of a logical line's tokens, with the number of its first physical line
 unfoldable pub line_refusal : List ℕ → Logical → Option Refusal
 line_refusal source l = option_map (refusal l.first_line) (parts_fault source (parts_in source l))
 

@@ -1,4 +1,4 @@
--- Walking over the lines and parts of a source: what is left of them, and where they stand.
+-- Iterating over the lines and parts of a source: the remaining ones and their positions.
 use Rattle.std.specs.Prelude.{if◌then◌else◌, List, map, None}
 use Rattle.kmn_lines.specs.Lines.{physical_lines_at, gather, opening_parts, part_behind}
 use Rattle.kmn_lines.specs.declared.logical.Logical.{Logical}
@@ -6,11 +6,11 @@ use Rattle.kmn_lines.specs.declared.logical.Part.{Part}
 use Rattle.kmn_lines.specs.declared.line_walk.Lines.{Lines}
 use Rattle.kmn_lines.specs.declared.part_walk.Parts.{Parts}
 
--- the lines that have not come yet
+-- the remaining lines
 abbrev pub lines_left : Lines → List Logical
 lines_left walk = gather None (physical_lines_at walk.line walk.at walk.bytes.now)
 
--- the parts that have not come yet
+-- the remaining parts
 abbrev pub parts_left : Parts → List Part
 parts_left walk =
     let physical_lines = physical_lines_at walk.line walk.at walk.bytes.now in

@@ -1,4 +1,4 @@
-//! The byte at a place of a text, and blank texts.
+//! Bytes of a text by position, and blank texts.
 
 ghost use Rattle.std.specs.Prelude.{◌≡◌, drop};
 ghost use Rattle.std.specs.List.{list_all};
@@ -7,14 +7,14 @@ ghost use Rattle.kmn_lines.specs.Bytes.{first_or_end};
 
 use kmn_base::bytes::is_blank;
 
-/// The byte at a place; from the end on LF, which ends a line as the text's end does.
+/// Returns the byte at a position. At and past the end it returns LF, which ends a line as the text's end does.
 pub fn byte_or_end(text: &[u8], at: usize) -> u8
     ensures { result ≡ first_or_end (drop at text.now) }
 {
     text.get(at).copied().unwrap_or(b'\n')
 }
 
-/// Whether a text has nothing but blanks.
+/// Returns whether a text has only blanks.
 pub(crate) fn is_all_blank(text: &[u8]) -> bool
     ensures { result ≡ list_all is_blank text.now }
 {

@@ -1,8 +1,8 @@
-//! The lines of a source, and the types of its tokens.
+//! Splits a source into lines, and defines the types of its tokens.
 //!
-//! It stands on `kmn_base`. `specs/Lines` says how a source is cut, `specs/Tokens` what the tokens of a line are and
-//! which fault comes first; `laws` says what holds of both in words that do not speak of reading. The layers above walk
-//! over `lines` and, for the tokens, over the `parts` of each.
+//! Depends on `kmn_base`. `specs/Lines` defines how a source is split, and `specs/Tokens` defines the tokens of a line and
+//! their first fault; `laws` proves the properties of both without describing how a text is read. The layers above iterate over
+//! `lines` and, for the tokens, over the `parts` of each line.
 #![tactic(auto)]
 
 ghost use Rattle.std.specs.Prelude.{◌≡◌, ◌≤◌, length, All};
@@ -29,8 +29,8 @@ pub use logical::{Logical, Part};
 pub use part_walk::Parts;
 pub use token::{Token, TokenKind};
 
-/// The logical lines of a source in their order, of which a first U+FEFF is no part. A comment and a joining backslash
-/// lie in their line, and so does its line end.
+/// Returns the logical lines of a source in order. A byte order mark at its start is not part of a line. A line includes its
+/// comments, its joining backslashes and its line end.
 #[tactic(auto, using(crate::proofs::Placed::lines_placed), unfolding(crate::specs::Lines::logicals))]
 pub fn lines(source: &str) -> Lines<'_>
     requires { length source.now ≤ TEXT_BYTES }
@@ -45,9 +45,9 @@ pub fn lines(source: &str) -> Lines<'_>
     }
 }
 
-/// What of a logical line of this source is tokenised: its physical lines without line end, comment and joining
-/// backslash, the first text without a `$keyman:` or `$keymanonly:`. Of a line that begins with `$keymanweb:` or
-/// `$kmfl:` no text comes.
+/// Returns the parts of a logical line of this source that are tokenized: its physical lines without line end, comment and
+/// joining backslash, and without a `$keyman:` or `$keymanonly:` before the first text. A line that begins with `$keymanweb:`
+/// or `$kmfl:` has no parts.
 #[tactic(auto, unfolding(crate::specs::Lines::parts_in))]
 pub fn parts(source: &str, logical: Logical) -> Parts<'_>
     requires few { length source.now ≤ TEXT_BYTES }

@@ -7,13 +7,13 @@ use crate::line_state::PhysicalLine;
 use crate::logical::Logical;
 use crate::physical_line::physical_line_at;
 
-/// The logical lines of a source.
+/// An iterator over the logical lines of a source.
 #[derive(Clone, Copy)]
 pub struct Lines<'a> {
     pub(crate) bytes: &'a [u8],
-    /// Where the next physical line begins.
+    /// The beginning of the next physical line.
     pub(crate) at: usize,
-    /// Its number.
+    /// The number of the next physical line.
     pub(crate) line: u32,
     ghost few: { length bytes.now ≤ TEXT_BYTES },
     ghost within: { at ≤ length bytes.now },
@@ -23,7 +23,7 @@ pub struct Lines<'a> {
 impl<'a> Lines<'a> {
     ghost use Rattle.kmn_lines.specs.Lines.{extended};
 
-    /// A logical line that a physical line begins or goes on with.
+    /// Returns a logical line that a physical line begins or continues.
     fn extended(begun: Option<Logical>, physical: PhysicalLine) -> Logical
         requires from { physical.from ≤ TEXT_BYTES }
         requires to { physical.next ≤ TEXT_BYTES }

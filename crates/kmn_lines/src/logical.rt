@@ -1,4 +1,4 @@
-/// A logical line: one physical line, or several that backslashes join. `from` and `to` are byte places of the source.
+/// A logical line: one physical line, or several that backslashes join. `from` and `to` are byte offsets in the source.
 #[derive(Clone, Copy)]
 pub struct Logical {
     /// The number of its first physical line, from 1.
@@ -7,10 +7,10 @@ pub struct Logical {
     pub to: u32,
 }
 
-/// What of a physical line of a logical line is tokenised. `from` and `to` are byte places of the source.
+/// The part of a physical line in a logical line that is tokenized. `from` and `to` are byte offsets in the source.
 #[derive(Clone, Copy)]
 pub struct Part {
-    /// The number of the physical line in which it lies, from 1.
+    /// The number of its physical line, from 1.
     pub line: u32,
     pub from: u32,
     pub to: u32,

@@ -10,16 +10,16 @@ use crate::physical_line::physical_line_at;
 use crate::prefix::{dropped, is_skipped};
 use kmn_base::slices::{before, behind};
 
-/// The parts of a logical line.
+/// An iterator over the parts of a logical line.
 #[derive(Clone, Copy)]
 pub struct Parts<'a> {
     /// The source up to the end of the logical line.
     pub(crate) bytes: &'a [u8],
-    /// Where the next physical line begins.
+    /// The beginning of the next physical line.
     pub(crate) at: usize,
-    /// Its number.
+    /// The number of the next physical line.
     pub(crate) line: u32,
-    /// Whether a text that is not blank has come, before which alone a prefix may stand.
+    /// Whether a text that is not blank has been read. A prefix is allowed only before it.
     pub(crate) begun: bool,
     ghost few: { length bytes.now ≤ TEXT_BYTES },
     ghost within: { at ≤ length bytes.now },
@@ -29,7 +29,7 @@ pub struct Parts<'a> {
 impl Parts<'_> {
     ghost use Rattle.kmn_lines.specs.Lines.{part_behind, physical_text};
 
-    /// A physical line as a part, without some first bytes.
+    /// Returns a physical line as a part, without its first `count` bytes.
     fn part_behind(count: usize, physical: PhysicalLine) -> Part
         requires from { physical.from + count < 2 ^ 32 }
         requires to { physical.to < 2 ^ 32 }
@@ -42,7 +42,7 @@ impl Parts<'_> {
         }
     }
 
-    /// The text of a physical line.
+    /// Returns the text of a physical line.
     fn text<'b>(bytes: &'b [u8], physical: &PhysicalLine) -> &'b [u8]
         ensures is { result.now ≡ physical_text bytes.now physical.now }
         ensures within { length result.now ≤ length bytes.now }

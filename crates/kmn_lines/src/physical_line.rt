@@ -1,4 +1,4 @@
-//! One physical line at a time.
+//! Reads one physical line at a time.
 
 ghost use Rattle.std.specs.Prelude.{◌≡◌, ◌+◌, ◌^◌, ◌<◌, ◌∷◌, length};
 ghost use Rattle.kmn_lines.specs.Lines.{ends_line, starts_comment, line_start, outside, after_byte, physical_line, physical_lines_at};
@@ -8,14 +8,14 @@ use crate::bytes::byte_or_end;
 use crate::line_state::{LineState, PhysicalLine};
 use kmn_base::bytes::{is_blank, is_quote};
 
-/// Whether a byte ends its physical line, by the byte that comes next.
+/// Returns whether a byte ends its physical line, given the next byte.
 fn ends_line(byte: u8, next: u8) -> bool
     ensures { result ≡ ends_line byte next }
 {
     byte == b'\n' || (byte == b'\r' && next != b'\n')
 }
 
-/// Whether a byte outside quotes begins a comment.
+/// Returns whether a byte outside quotes begins a comment.
 fn starts_comment(after_blank: bool, byte: u8, next: u8) -> bool
     ensures { result ≡ starts_comment after_blank byte next }
 {
@@ -24,7 +24,7 @@ fn starts_comment(after_blank: bool, byte: u8, next: u8) -> bool
         && (is_blank(next) || next == b'\n' || next == b'\r')
 }
 
-/// The start of a physical line.
+/// Returns the state at the start of a physical line.
 fn line_start() -> LineState
     ensures { result ≡ line_start }
 {
@@ -66,7 +66,7 @@ fn outside(state: LineState, at: usize, byte: u8, next: u8) -> LineState
     }
 }
 
-/// What is known after a byte that does not end the line.
+/// Returns the state after a byte that does not end the line.
 fn after_byte(state: LineState, at: usize, byte: u8, next: u8) -> LineState
     ensures { result ≡ after_byte state at byte next }
 {
@@ -89,7 +89,7 @@ fn after_byte(state: LineState, at: usize, byte: u8, next: u8) -> LineState
     }
 }
 
-/// The physical line that has been read up to a place.
+/// Returns the physical line that has been read up to a position.
 fn physical_line(line: u32, from: usize, at: usize, next: usize, state: LineState) -> PhysicalLine
     ensures { result ≡ physical_line line from at next state }
 {
@@ -102,7 +102,7 @@ fn physical_line(line: u32, from: usize, at: usize, next: usize, state: LineStat
     }
 }
 
-/// The physical line of a number at a place before the end.
+/// Returns the physical line with a number at a position before the end.
 pub(crate) fn physical_line_at(bytes: &[u8], line: u32, from: usize) -> PhysicalLine
     requires { from < length bytes.now }
     ensures is { physical_lines_at line from bytes.now ≡ result ∷ physical_lines_at (line + 1) result.next bytes.now }

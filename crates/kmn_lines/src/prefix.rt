@@ -1,4 +1,4 @@
-//! The words before the text of a logical line that are not read, or with which it is not read.
+//! The words before the text of a logical line that are dropped, or with which the line is skipped.
 
 ghost use Rattle.std.specs.Prelude.{◌≡◌, ◌+◌, ◌≤◌, length};
 ghost use Rattle.kmn_lines.specs.Lines.{blanks, begins_with, begins_other, is_skipped, dropped};
@@ -7,7 +7,7 @@ use kmn_base::bytes::is_blank;
 use kmn_base::names::same_name;
 use kmn_base::slices::{before, behind};
 
-/// How many blanks a text begins with.
+/// Returns the number of blanks at the beginning of a text.
 fn blanks(text: &[u8]) -> usize
     ensures is { result ≡ blanks text.now }
     ensures within { result ≤ length text.now }
@@ -19,21 +19,21 @@ fn blanks(text: &[u8]) -> usize
     count
 }
 
-/// Whether a text begins with a word, without ASCII case.
+/// Returns whether a text begins with a word, without ASCII case.
 fn begins_with(text: &[u8], word: &[u8]) -> bool
     ensures { result ≡ begins_with text.now word.now }
 {
     same_name(before(text, word.len()), word)
 }
 
-/// Whether these words are skipped.
+/// Returns whether the words at the beginning of a line are skipped.
 fn begins_other(words: &[u8]) -> bool
     ensures { result ≡ begins_other words.now }
 {
     begins_with(words, b"$keymanweb:") || begins_with(words, b"$kmfl:")
 }
 
-/// Whether a line with this text is skipped.
+/// Returns whether a line with this text is skipped.
 #[tactic(auto, unfolding(crate::specs::Lines::is_skipped))]
 pub(crate) fn is_skipped(text: &[u8]) -> bool
     ensures { result ≡ is_skipped text.now }
@@ -41,7 +41,7 @@ pub(crate) fn is_skipped(text: &[u8]) -> bool
     begins_other(behind(text, blanks(text)))
 }
 
-/// How many bytes of a text are dropped before it is read.
+/// Returns the number of bytes of a text that are dropped before it is read.
 #[tactic(auto, unfolding(crate::specs::Lines::dropped))]
 pub(crate) fn dropped(text: &[u8]) -> usize
     ensures is { result ≡ dropped text.now }

@@ -1,4 +1,4 @@
-/// What a token is.
+/// The kind of a token.
 #[derive(Clone, Copy, Debug, PartialEq, Eq)]
 pub enum TokenKind {
     /// Characters between two quotes of the same kind.
@@ -17,7 +17,7 @@ pub enum TokenKind {
     Comma,
 }
 
-/// A token: its kind, the number of its physical line, and the byte places of its text in the source.
+/// A token: its kind, the number of its physical line, and the byte offsets of its text in the source.
 #[derive(Clone, Copy, Debug, PartialEq, Eq)]
 pub struct Token {
     pub kind: TokenKind,

@@ -1,4 +1,4 @@
--- One step of a scan: the token that the bytes begin with, and what is left behind it.
+-- One step of a scan: the token at the beginning of the bytes, and the rest after it.
 use Rattle.std.proofs.Common.{◌≡◌, ℕ, zero, suc, ◌+◌, ◌-◌, ◌<◌, ◌≤◌, Bool, true, false, ◌||◌, if◌then◌else◌, List, [], ◌∷◌, ◌++◌, length, take, drop, get_or, Option, None, is_some, Ok, refl, sym, ◌∙◌, ap, subst, arith, append_assoc}
 use Rattle.std.proofs.lemmas.Bool.{cond-false, or_left}
 use Rattle.std.specs.Option.{option_or}
@@ -15,14 +15,14 @@ some-if : (b : Bool) (n m : ℕ) → b ≡ true → 0 < n → 0 < (if b then n e
 some-if true n m e h = h
 some-if false n m e h = cc
 
--- a byte that is no blank, no quote and no token by itself begins a word
+-- a byte that is not a blank, a quote or a token by itself begins a word
 pub word_some : (text : List ℕ) → 0 < length text → is_blank (first_or_end text) ≡ false → is_quote (first_or_end text) ≡ false → is_unequal (first_or_end text) (first_or_end (drop 1 text)) ≡ false → is_some (single (first_or_end text)) ≡ false → 0 < word_size text
 unfolding in_word
 word_some [] some blank quote unequal alone = omega arith
 word_some (byte ∷ bytes) some blank quote unequal alone =
     some-if (in_word byte (first_or_end bytes)) _ _ (none_of (is_blank byte) (is_quote byte) (is_some (single byte)) (is_unequal byte (first_or_end bytes)) blank quote alone unequal) (omega arith)
 
--- the bytes of the token before are passed over
+-- the bytes of the previous token are skipped
 pub scanned_skip : (line n at : ℕ) (bytes : List ℕ) → scanned line n at bytes ≡ scanned line 0 (at + n) (drop n bytes)
 scanned_skip line zero at bytes = ap (λ (k : ℕ). scanned line 0 k bytes) (omega arith)
 scanned_skip line (suc n) at [] = refl
@@ -37,7 +37,7 @@ drop_behind : (byte : ℕ) (bytes : List ℕ) (size : ℕ) → 0 < size → drop
 drop_behind byte bytes zero h = absurd (omega arith)
 drop_behind byte bytes (suc n) h = ap (λ (k : ℕ). drop k bytes) (omega arith)
 
--- behind the token that the bytes begin with come the tokens of the bytes behind it
+-- the token at the beginning of the bytes is followed by the tokens of the bytes after it
 pub scanned_step : (line at byte : ℕ) (bytes : List ℕ) (size : ℕ) → is_blank byte ≡ false → size ≡ token_size (byte ∷ bytes) → 0 < size → scanned line 0 at (byte ∷ bytes) ≡ token_at line at (take size (byte ∷ bytes)) ∷ scanned line 0 (at + size) (drop size (byte ∷ bytes))
 scanned_step line at byte bytes size blank e some =
     let rest : scanned line (size - 1) (at + 1) bytes ≡ scanned line 0 (at + size) (drop size (byte ∷ bytes)) =
@@ -48,7 +48,7 @@ scanned_step line at byte bytes size blank e some =
     ∙ subst (λ (n : ℕ). token_at line at (take n (byte ∷ bytes)) ∷ scanned line (n - 1) (at + 1) bytes ≡ token_at line at (take size (byte ∷ bytes)) ∷ scanned line 0 (at + size) (drop size (byte ∷ bytes))) e
     (ap (λ (ts : List Token). token_at line at (take size (byte ∷ bytes)) ∷ ts) rest)
 
--- a fault of the token that the bytes begin with is the first, else it is among the bytes behind it
+-- the first fault is the fault of the token at the beginning of the bytes, else the first fault of the bytes after it
 pub first_fault_step : (byte : ℕ) (bytes : List ℕ) (size : ℕ) → is_blank byte ≡ false → size ≡ token_size (byte ∷ bytes) → 0 < size → first_fault 0 (byte ∷ bytes) ≡ option_or (token_fault (take size (byte ∷ bytes))) (first_fault 0 (drop size (byte ∷ bytes)))
 first_fault_step byte bytes size blank e some =
     let rest : first_fault (size - 1) bytes ≡ first_fault 0 (drop size (byte ∷ bytes)) =
@@ -79,13 +79,13 @@ either-false : (a b : Bool) → a ≡ false → (a || b) ≡ b
 either-false true b e = cc
 either-false false b e = refl
 
--- a forbidden character at a place
+-- a forbidden character at a position
 pub forbidden_here : (text : List ℕ) (at : ℕ) → at < length text → begins_forbidden (drop at text) ≡ true → has_forbidden (drop at text) ≡ true
 forbidden_here text at h e =
     let cons = drop-next text at 0 h in
     ap has_forbidden cons ∙ or_left (begins_forbidden (get_or text at 0 ∷ drop (at + 1) text)) (has_forbidden (drop (at + 1) text)) (ap begins_forbidden (sym cons) ∙ e)
 
--- no forbidden character at a place
+-- a position without a forbidden character
 pub forbidden_step : (text : List ℕ) (at : ℕ) → at < length text → begins_forbidden (drop at text) ≡ false → has_forbidden (drop (at + 1) text) ≡ has_forbidden (drop at text)
 forbidden_step text at h e =
     let cons = drop-next text at 0 h in

@@ -12,7 +12,7 @@ use kmn_base::slices::behind;
 use kmn_lines::bytes::byte_or_end;
 use kmn_lines::{Token, TokenKind};
 
-/// Whether a text begins with U+0000 or U+FFFF.
+/// Returns whether a text begins with U+0000 or U+FFFF.
 #[tactic(auto, unfolding(kmn_lines::specs::Tokens::begins_forbidden))]
 fn begins_forbidden(text: &[u8]) -> bool
     ensures { result ≡ begins_forbidden text.now }
@@ -20,7 +20,7 @@ fn begins_forbidden(text: &[u8]) -> bool
     byte_or_end(text, 0) == 0 || text.starts_with(b"\xEF\xBF\xBF")
 }
 
-/// Whether U+0000 or U+FFFF stands in a text.
+/// Returns whether a text contains U+0000 or U+FFFF.
 pub fn has_forbidden(text: &[u8]) -> bool
     ensures { result ≡ has_forbidden text.now }
 {
@@ -34,7 +34,7 @@ pub fn has_forbidden(text: &[u8]) -> bool
     false
 }
 
-/// Whether a quote with which a text begins stands in it once more.
+/// Returns whether a text that begins with a quote contains this quote again.
 fn is_closed(text: &[u8]) -> bool
     ensures { result ≡ is_closed text.now }
 {
@@ -44,7 +44,7 @@ fn is_closed(text: &[u8]) -> bool
     }
 }
 
-/// What a token is that is no number.
+/// Returns the kind of a token that is not a number.
 #[tactic(auto, unfolding(kmn_lines::specs::Tokens::token_kind))]
 fn plain_kind(text: &[u8]) -> TokenKind
     requires { starts_number text.now ≡ false }
@@ -60,7 +60,7 @@ fn plain_kind(text: &[u8]) -> TokenKind
     }
 }
 
-/// What a token is, or what is wrong with it.
+/// Returns the kind of a token, or its fault.
 #[tactic(auto, unfolding(kmn_lines::specs::Tokens::token_kind, kmn_lines::specs::Tokens::token_fault))]
 fn kind(text: &[u8]) -> Result<TokenKind, Code>
     ensures { Gives (token_fault text.now) (token_kind text.now) result }
@@ -77,7 +77,7 @@ fn kind(text: &[u8]) -> Result<TokenKind, Code>
     Ok(TokenKind::Number(number(behind(text, 2))?))
 }
 
-/// The token with a text at a place of a physical line.
+/// Returns the token with a text at a position of a physical line, or its fault.
 pub(crate) fn token_at(line: u32, at: usize, text: &[u8]) -> Result<Token, Code>
     requires { at + length text.now < 2 ^ 32 }
     ensures { Gives (token_fault text.now) (token_at line at text.now) result }

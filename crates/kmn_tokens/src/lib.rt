@@ -1,9 +1,8 @@
-//! The tokens of a logical line, or the first fault among them.
+//! Splits a logical line into tokens, or returns the first fault among them.
 //!
-//! It stands on `kmn_base` and `kmn_lines`, whose `specs/Tokens` says what the tokens of a line are and which fault
-//! comes first. The layer above calls `tokens` for each line that `kmn_lines::lines` gives, and reads statements from
-//! what it answers. What a text is of a token can be asked of it alone: `word_size`, `starts_number`, `number`,
-//! `has_forbidden`.
+//! Depends on `kmn_base` and `kmn_lines`, whose `specs/Tokens` defines the tokens of a line and their first fault. The layer
+//! above calls `tokens` for each line that `kmn_lines::lines` returns, and reads statements from the result. It can also
+//! classify a text as a token on its own: `word_size`, `starts_number`, `number`, `has_forbidden`.
 #![tactic(auto)]
 
 mod faults;

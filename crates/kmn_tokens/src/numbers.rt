@@ -9,7 +9,7 @@ use kmn_base::Code;
 use kmn_base::bytes::hex_digit;
 use kmn_base::texts::{NO_CHARACTER, is_forbidden};
 
-/// The number that digits write, capped past all characters.
+/// Returns the number that digits denote, limited to a value past all characters.
 fn hex_value(digits: &[u8]) -> u32
     ensures is { result ≡ hex_value 0 digits.now }
     ensures within { result ≤ NO_CHARACTER }
@@ -21,14 +21,14 @@ fn hex_value(digits: &[u8]) -> u32
     value
 }
 
-/// Whether each byte is a hexadecimal digit.
+/// Returns whether each byte is a hexadecimal digit.
 fn all_digits(digits: &[u8]) -> bool
     ensures { result ≡ all_digits digits.now }
 {
     digits.iter().all(|digit| hex_digit(*digit).is_some())
 }
 
-/// The character of a number.
+/// Returns the character of a number. Errors: L02 or L04 as in `number`.
 fn char_of(value: u32) -> Result<char, Code>
     ensures { Gives (value_fault value) value result }
 {
@@ -38,8 +38,8 @@ fn char_of(value: u32) -> Result<char, Code>
     char::from_u32(value).ok_or(Code::L04)
 }
 
-/// The character of 4 to 6 hexadecimal digits: L04 where there are others or more, or no character has the number, L02 for
-/// U+0000 and U+FFFF.
+/// Returns the character of 4 to 6 hexadecimal digits. Errors: L04 if there are fewer or more digits, if a byte is not a digit,
+/// or if no character has the number; L02 for U+0000 and U+FFFF.
 pub fn number(digits: &[u8]) -> Result<char, Code>
     ensures { Gives (digits_fault digits.now) (hex_value 0 digits.now) result }
 {

@@ -1,4 +1,4 @@
-//! The scan of a logical line: one step, a part, all parts, the line.
+//! Scans a logical line: one step, a part, all parts, the line.
 
 ghost use Rattle.std.specs.Prelude.{◌≡◌, ◌+◌, ◌^◌, ◌<◌, ◌≤◌, length, drop};
 ghost use Rattle.kmn_base.specs.Answers.{Answers};
@@ -17,7 +17,7 @@ use kmn_base::{CompileError, Seq};
 use kmn_lines::{Logical, Part, Parts, Token, parts};
 use std::alloc::Global;
 
-/// Appends the token with which the bytes from a place on begin, none at a blank, and answers how far it reaches.
+/// Appends the token at the beginning of the bytes, or no token if they begin with a blank, and returns the number of bytes that it used.
 fn add_next(out: &mut Seq<Token>, line: u32, at: usize, bytes: &[u8]) -> Result<usize, TokenError>
     requires some { 0 < length bytes.now }
     requires few { at + length bytes.now < 2 ^ 32 }
@@ -32,7 +32,7 @@ fn add_next(out: &mut Seq<Token>, line: u32, at: usize, bytes: &[u8]) -> Result<
     Ok(size)
 }
 
-/// Appends the tokens of the bytes from a place on.
+/// Appends the tokens of the bytes from a position on.
 fn add_tokens(out: &mut Seq<Token>, line: u32, from: usize, bytes: &[u8]) -> Result<(), TokenError>
     requires { length bytes.now ≤ TEXT_BYTES }
     ensures { Appends out.old out.new (first_fault 0 (drop from bytes.now)) (scanned line 0 from (drop from bytes.now)) result }
@@ -56,9 +56,10 @@ fn add_all(out: &mut Seq<Token>, source: &[u8], walk: Parts<'_>) -> Result<(), T
     Ok(())
 }
 
-/// The tokens of a logical line of this source, in their order. A refusal bears the number of the line's first physical
-/// line: L02 for U+0000 or U+FFFF, as itself or as a number, L03 for an unclosed quote, L04 for a `U+` number that has
-/// not 4 to 6 hexadecimal digits or is no character; of several the one at the first token. `TooLarge` never comes.
+/// Returns the tokens of a logical line of this source, in order. Errors: `Memory` if an allocation fails; else the refusal of
+/// the first token with a fault, with the number of the line's first physical line: L02 for U+0000 or U+FFFF, as a character or
+/// as a number, L03 for an unclosed quote, L04 for a `U+` number that does not have 4 to 6 hexadecimal digits or is not a
+/// character. `TooLarge` is never returned.
 #[tactic(auto, unfolding(kmn_lines::specs::Tokens::line_tokens, kmn_lines::specs::Tokens::line_refusal))]
 pub fn tokens(alloc: Global, source: &str, logical: Logical) -> Result<Seq<Token>, CompileError>
     requires few { length source.now ≤ TEXT_BYTES }

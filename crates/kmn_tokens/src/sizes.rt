@@ -1,4 +1,4 @@
-//! How far the token reaches that a text begins with.
+//! The size of the token at the beginning of a text.
 
 ghost use Rattle.std.specs.Prelude.{◌≡◌, ◌<◌, ◌≤◌, length, true, false};
 ghost use Rattle.kmn_base.specs.Bytes.{is_blank, hex_digit};
@@ -10,7 +10,7 @@ use kmn_base::slices::behind;
 use kmn_lines::TokenKind;
 use kmn_lines::bytes::byte_or_end;
 
-/// The byte as a token by itself.
+/// Returns the kind of a byte that is a token by itself.
 pub(crate) fn single(byte: u8) -> Option<TokenKind>
     ensures { result ≡ single byte }
 {
@@ -27,14 +27,14 @@ pub(crate) fn single(byte: u8) -> Option<TokenKind>
     }
 }
 
-/// Whether two bytes are `!=`.
+/// Returns whether two bytes are `!=`.
 pub(crate) fn is_unequal(byte: u8, next: u8) -> bool
     ensures { result ≡ is_unequal byte next }
 {
     byte == b'!' && next == b'='
 }
 
-/// Whether a byte belongs to a word, by the byte that comes next.
+/// Returns whether a byte belongs to a word, given the next byte.
 #[tactic(auto, unfolding(kmn_lines::specs::Tokens::in_word))]
 fn in_word(byte: u8, next: u8) -> bool
     ensures { result ≡ in_word byte next }
@@ -42,7 +42,7 @@ fn in_word(byte: u8, next: u8) -> bool
     !(is_blank(byte) || is_quote(byte) || single(byte).is_some() || is_unequal(byte, next))
 }
 
-/// How many bytes of a word a text begins with.
+/// Returns the number of bytes of a word at the beginning of a text.
 pub fn word_size(text: &[u8]) -> usize
     ensures is { result ≡ word_size text.now }
     ensures within { result ≤ length text.now }
@@ -54,7 +54,7 @@ pub fn word_size(text: &[u8]) -> usize
     size
 }
 
-/// How many bytes there are up to a quote and with it, all where there is none.
+/// Returns the number of bytes up to and including a quote, or of all bytes if there is no quote.
 fn quoted_size(quote: u8, text: &[u8]) -> usize
     ensures is { result ≡ quoted_size quote text.now }
     ensures within { result ≤ length text.now }
@@ -69,7 +69,7 @@ fn quoted_size(quote: u8, text: &[u8]) -> usize
     size
 }
 
-/// Whether a text begins with `U+` and a hexadecimal digit.
+/// Returns whether a text begins with `U+` and a hexadecimal digit.
 pub fn starts_number(text: &[u8]) -> bool
     ensures is { result ≡ starts_number text.now }
     ensures long { result ≡ true → 3 ≤ length text.now }
@@ -82,7 +82,7 @@ pub fn starts_number(text: &[u8]) -> bool
     }
 }
 
-/// How many bytes the token has that a text begins with, if it is no number.
+/// Returns the size in bytes of the token at the beginning of a text, if it is not a number.
 #[tactic(auto, using(crate::proofs::Scans::word_some))]
 fn plain_size(text: &[u8]) -> usize
     requires { 0 < length text.now }
@@ -102,7 +102,7 @@ fn plain_size(text: &[u8]) -> usize
     }
 }
 
-/// How many bytes the token has that a text begins with.
+/// Returns the size in bytes of the token at the beginning of a text.
 #[tactic(auto, unfolding(kmn_lines::specs::Tokens::token_size))]
 pub(crate) fn token_size(text: &[u8]) -> usize
     requires { 0 < length text.now }

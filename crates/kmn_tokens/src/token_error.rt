@@ -1,6 +1,6 @@
 use kmn_base::{Code, CompileError, Memory, Refusal};
 
-/// Why a line has no tokens: what is wrong with one of them, or want of memory.
+/// Why a line has no tokens: the fault of one of them, or the program ran out of memory.
 #[derive(Clone, Copy)]
 pub(crate) enum TokenError {
     Fault(Code),
@@ -33,7 +33,7 @@ impl TokenError {
     ghost use Rattle.std.specs.Prelude.{◌≡◌};
     ghost use Rattle.kmn_tokens.specs.Scanning.{error_at};
 
-    /// The error that a line of this number answers.
+    /// Returns the error of the line with this number.
     pub(crate) fn at(self, line: u32) -> CompileError
         ensures { result ≡ error_at line self }
     {
