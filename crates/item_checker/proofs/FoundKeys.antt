@@ -1,4 +1,4 @@
--- The keys of the keyboard's own that a program's stores name are among its names.
+-- The custom keys that a program's stores name are among its names.
 use Rattle.std.proofs.Common.{◌≡◌, ℕ, zero, suc, ◌+◌, ◌<◌, Bool, true, false, List, [], ◌∷◌, ◌++◌, length, get_or, Option, Some, None, is_some, option_map, refl, sym, ap, ◌∙◌, arith, if◌then◌else◌}
 use Rattle.std.specs.Prelude.{flat_map, nat_eq, nat_lt, ◌||◌, ◌&&◌, not, unwrap_or}
 use Rattle.std.specs.List.{list_all, list_any}
@@ -25,7 +25,7 @@ use Rattle.compile_laws.proofs.Values.{list_all-flat_map}
 use Rattle.item_checker.specs.Items.{is_no_plain_key}
 use Rattle.item_checker.specs.Summaries.{are_found_keys, is_found_key, is_other_key}
 
--- one of items that pass
+-- one of several items that all pass
 pub passes_at : {X : Type 0} (p : X → Bool) (xs : List X) (i : ℕ) (x : X) → list_all p xs ≡ true → i < length xs → x ≡ get_or xs i x → p x ≡ true
 passes_at p xs i x all h e = ap p e ∙ by (p (get_or xs i x)) refl
   where
@@ -54,7 +54,7 @@ some_more : (o : Option ℕ) → is_some o ≡ true → is_some (option_map (λ 
 some_more None h = h
 some_more (Some n) h = refl
 
--- a key as a source has it is no plain key just where its element is none
+-- a key of a source is a plain key exactly where its element is one
 pub other_key : (names : SourceNames) (key : KeyName) → is_found_key names (source.Key key) ≡ true
     → is_other_key key ≡ is_no_plain_key (element.Key key.flags (key_number names key))
 unfolding code_in
@@ -72,7 +72,7 @@ pub other_brought : (names : SourceNames) (key : KeyName) → is_found_key names
     → is_other_key key ≡ (is_no_plain_key (element.Key key.flags (key_number names key)) || false)
 other_brought names key found = other_key names key found ∙ sym (or-false (is_no_plain_key (element.Key key.flags (key_number names key))))
 
--- the names that are gathered are each found
+-- the names that are collected are all found
 seen_stays : (seen xs : List (List ℕ)) (name : List ℕ) → list_any (λ known. same_name known name) seen ≡ true → list_any (λ known. same_name known name) (distinct_onto same_name seen xs) ≡ true
 seen_stays seen [] name h = h
 seen_stays seen (x ∷ xs) name h = seen_stays (if list_any (λ known. same_name known x) seen then seen else seen ++ x ∷ []) xs name (by (list_any (λ known. same_name known x) seen))
@@ -99,11 +99,11 @@ any_way : (name : List ℕ) (names : List (List ℕ)) → list_any (same_name na
 any_way name [] = refl
 any_way name (known ∷ names) = λ j. same_either_way name known j || any_way name names j
 
--- a name among others has a place
+-- a name among others has an index
 has_place : (names : List (List ℕ)) (name : List ℕ) → is_among names name ≡ true → is_some (place_in names name) ≡ true
 has_place names name h = some_place (same_name name) names ∙ any_way name names ∙ h
 
--- the items of a program are found, and so are those of its stores
+-- the keys in the items of a program are found, and so are the keys in the items of its stores
 key_found : (names : SourceNames) (item : SrcItem) → list_all (is_among names.keys) (key_names item) ≡ true → is_found_key names item ≡ true
 unfolding code_in
 key_found names (source.Key key) h = by key.code h

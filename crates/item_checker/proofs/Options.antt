@@ -5,7 +5,7 @@ use Rattle.std.proofs.lemmas.List.Concat.{flat_map-append}
 use Rattle.rule_model.specs.declared.program.RuleDef.{RuleDef}
 use Rattle.store_table.specs.Known.{option_named, rule_options}
 
--- those of a rule, of its context, its key and its output
+-- the names of a rule, of its context, its key and its output
 pub rule_options_are : (rule : RuleDef)
     → flat_map option_named rule.context ++ (flat_map option_named (option_to_list rule.key) ++ flat_map option_named rule.output) ≡ rule_options rule
 rule_options_are rule =

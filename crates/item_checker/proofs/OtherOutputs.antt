@@ -1,4 +1,4 @@
--- Items of an output that look at no context, as they are looked at in a rule, in match and in nomatch.
+-- Items of an output that do not refer to the context, as they are checked in a rule, in match and in nomatch.
 use Rattle.std.proofs.Common.{◌≡◌, ℕ, List, refl}
 use Rattle.rule_model.specs.declared.program.SrcItem.{SrcItem}
 use Rattle.rule_model.specs.declared.program.SrcItem.TheVariants as source

@@ -1,4 +1,4 @@
--- What is asked of elements, their summary tells.
+-- The summary of elements decides the tests of the elements.
 use Rattle.std.proofs.Common.{◌≡◌, ℕ, zero, suc, ◌≤◌, Bool, true, false, not, nat_eq, List, [], ◌∷◌, length, take, Option, Some, None, refl, sym, ap, ◌∙◌, arith, if◌then◌else◌}
 use Rattle.std.specs.Prelude.{◌||◌, ◌&&◌, nat_le, flat_map, find, option_map}
 use Rattle.std.specs.List.{list_any, list_all}
@@ -27,7 +27,7 @@ either_way false true true d = refl
 either_way false true false d = refl
 either_way false false c d = refl
 
--- elements pass one of two tests
+-- some element passes one of two tests
 any_either : {X : Type 0} (p q r : X → Bool) → ((x : X) → r x ≡ (p x || q x)) → (xs : List X) → list_any r xs ≡ (list_any p xs || list_any q xs)
 any_either p q r each [] = refl
 any_either p q r each (x ∷ xs) =
@@ -70,7 +70,7 @@ unfolding summary
 other_found None = refl
 other_found (Some store) = refl
 
--- the tests of the store of a name
+-- the tests of the store with a name
 pub unfit_named : (known : Known) (found : Summaries) (options : List (List ℕ)) (name : List ℕ) → AreFacts known found options
     → is_unfit_summary (found_summary found name) ≡ is_unfit_store known name
 unfit_named known found options name are =
@@ -86,13 +86,13 @@ pub other_named : (known : Known) (found : Summaries) (options : List (List ℕ)
 other_named known found options name are =
     ap has_other (found_is found known.stores name are.stores) ∙ other_found (find (λ (s : Store). same_name s.name name) known.stores)
 
--- the elements that the store of a name lacks characters
+-- whether the store with a name has elements that are not characters
 pub no_characters_named : (known : Known) (found : Summaries) (options : List (List ℕ)) (name : List ℕ) → AreFacts known found options
     → found_lacks_characters (found_summary found name) ≡ list_any is_no_character (store_elements (find (λ (s : Store). same_name s.name name) known.stores))
 no_characters_named known found options name are =
     ap found_lacks_characters (found_is found known.stores name are.stores) ∙ no_characters_found (find (λ (s : Store). same_name s.name name) known.stores)
 
--- a short text is told by a front that is longer
+-- a short text is determined by a longer front
 front_text : (n : ℕ) (text : List ℕ) (elements : List Element) → length text ≤ n → list_any is_no_character elements ≡ false
     → same_value (value_elements text) elements ≡ bytes_eq text (take (suc n) (flat_map element_characters elements))
 front_text n [] [] short all = refl
@@ -137,7 +137,7 @@ front_is : (elements : List Element) → (summary elements).front ≡ front_of e
 unfolding summary
 front_is elements = refl
 
--- another text of a system store, told by the summary of its statement
+-- whether a system store has another text is decided by the summary of its statement
 pub other_text_is : (known : Known) (found : Summaries) (options : List (List ℕ)) (store : StoreDef) (sum : Summary) → AreFacts known found options
     → are_found_keys known.names store.items ≡ true → sum ≡ with_items found (summary []) store.items
     → (not (lacks_characters sum) && not (is_system_front store.system sum.front)) ≡ is_other_text known store

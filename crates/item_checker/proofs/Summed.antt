@@ -1,4 +1,4 @@
--- What is kept of elements is their summary.
+-- What the code computes for elements is their summary.
 use Rattle.std.proofs.Common.{◌≡◌, ℕ, zero, suc, ◌<◌, ◌≤◌, Bool, true, false, cond, nat_lt, List, [], ◌∷◌, ◌++◌, length, map, take, Option, Some, None, refl, sym, ap, subst, ◌∙◌, arith, if◌then◌else◌, append-nil, append_assoc, length-append, inl, inr}
 use Rattle.std.specs.Prelude.{◌||◌, ◌&&◌, flat_map, find, option_map}
 use Rattle.std.proofs.Math.Bool.{and-false, or-false, or-true}
@@ -28,7 +28,7 @@ use Rattle.store_table.specs.Known.{known, rule_options}
 use Rattle.item_checker.specs.Items.{is_key_element, is_no_plain_key}
 use Rattle.item_checker.specs.Summaries.{AreFacts, AreSummaries, are_found_keys, element_characters, found_summary, front_of, is_far_element, is_found_key, is_mark_element, is_other_key, is_nothing, joined, joined_found, no_summaries, summary, summary_at, with_character, with_characters, with_item, with_items, with_store, with_stores}
 
--- a front with one character more, where there is room and where there is none
+-- a front with another character, while the front is short enough, and after that
 room : (n : ℕ) (xs : List ℕ) (c : ℕ) → length xs < n → (if nat_lt (length xs) n then xs ++ c ∷ [] else xs) ≡ xs ++ c ∷ []
 room n xs c h = grind (arith, nat_tests, h)
 
@@ -66,7 +66,7 @@ fronts a b =
     ∙ take_behind FRONT_CHARACTERS FRONT_CHARACTERS (flat_map element_characters a) (flat_map element_characters b) (omega arith)
     ∙ ap (take FRONT_CHARACTERS) (sym (flat_map-append element_characters a b))
 
--- elements and others behind them
+-- elements followed by others
 pub joined_is : (a b : List Element) → joined (summary a) (summary b) ≡ summary (a ++ b)
 unfolding summary
 joined_is a b =
@@ -110,7 +110,7 @@ one_key sum flags code is_other is =
     let other = ap (λ b. sum.has_other || b) (is ∙ sym (or-false (is_no_plain_key (element.Key flags code)))) in
     λ j. record { is_empty = empty j; has_mark = mark j; has_key = key j; has_far = far j; has_other = other j; front = sum.front }
 
--- the store of a name
+-- the store with a name
 
 here_or_later : (here : Bool) (store : Store) (summaries : List Summary) (place : Option ℕ) (found : Option Store)
     → summary_at summaries place ≡ option_map (λ (s : Store). summary s.elements) found
@@ -188,7 +188,7 @@ pub stores_are : (program : Program) → AreSummaries (with_stores no_summaries 
 unfolding stores_of
 stores_are program = stores_behind (names_of program) no_summaries [] program.stores (record { names = refl; summaries = refl }) (stores_found program)
 
--- what code keeps of a program
+-- what the code computes for a program
 pub facts_are : (program : Program) (found : Summaries) (options : List (List ℕ)) → found ≡ with_stores no_summaries program.stores
     → options ≡ flat_map rule_options (all_rules program) → AreFacts (known program) found options
 unfolding known

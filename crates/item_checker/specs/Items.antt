@@ -1,5 +1,4 @@
--- What of a program's items and system stores is refused, where every name is stated. Statements that are read and
--- dropped are looked at as well.
+-- The refusals for a program's items and system stores, if every name is defined. Statements that are read and dropped are also checked.
 use Rattle.std.specs.Prelude.{ℕ, zero, suc, ◌+◌, Bool, true, false, not, ◌&&◌, nat_eq, nat_lt, if◌then◌else◌, List, [], ◌∷◌, ◌++◌, length, slice_get, Option, Some, None, is_some}
 use Rattle.std.specs.List.{list_any}
 use Rattle.std.specs.Option.{option_or}
@@ -27,7 +26,7 @@ use Rattle.store_table.specs.Names.{is_named}
 use Rattle.rule_model.specs.declared.system.TheConstants.{CASED_KEYS, MNEMONIC_LAYOUT, VERSION, BITMAP, LEFT_OUT}
 use Rattle.virtual_keys.specs.declared.dictionary.TheConstants.{FIRST_OWN_CODE}
 
--- some rule uses the store of a name as an option
+-- whether some rule uses the store with a name as an option
 abbrev pub is_option : Known → List ℕ → Bool
 is_option known name = is_named known.options name
 
@@ -39,17 +38,17 @@ abbrev pub is_no_character : Element → Bool
 is_no_character (element.Char c) = false
 is_no_character other = true
 
--- a character past U+FFFF, which no key is
+-- whether a character is above U+FFFF, so that it cannot be a key
 abbrev pub is_far : ℕ → Bool
 is_far c = nat_lt 0xFFFF c
 
--- a mark, or such a character: no key is one
+-- whether an element cannot be a key: a mark, or such a character
 abbrev pub is_unfit_key : Element → Bool
 is_unfit_key (element.Char c) = is_far c
 is_unfit_key (element.Mark mark) = true
 is_unfit_key (element.Key flags code) = false
 
--- an item of a context is matched with an item of the text, as conditions and `nul` aren't
+-- whether an item of a context is matched with an item of the text; conditions and `nul` are not
 abbrev pub is_pattern_item : SrcItem → Bool
 is_pattern_item (source.Char c) = true
 is_pattern_item (source.Dead name) = true
@@ -63,7 +62,7 @@ abbrev pub is_any_item : SrcItem → Bool
 is_any_item (source.Any store) = true
 is_any_item other = false
 
--- an offset, which counts from 1, is that of an item which passes a test
+-- whether the item at an offset, which counts from 1, passes a test
 abbrev pub item_at : List SrcItem → ℕ → Option SrcItem
 item_at items zero = None
 item_at items (suc place) = slice_get items place
@@ -75,7 +74,7 @@ passes test (Some item) = test item
 abbrev pub points_to : (SrcItem → Bool) → List SrcItem → ℕ → Bool
 points_to test items offset = passes test (item_at items offset)
 
--- the place of the key, one behind the items of the context
+-- whether an offset is the key's, which is one after the items of the context
 abbrev pub is_key_place : RuleDef → ℕ → Bool
 is_key_place rule offset = is_some rule.key && nat_eq offset (length rule.context + 1)
 
@@ -83,15 +82,15 @@ abbrev pub is_any_key : Option SrcItem → Bool
 is_any_key None = false
 is_any_key (Some item) = is_any_item item
 
--- C08: an offset is 0, or past the items that it may point to, or points at a condition or `nul`
+-- C08: an offset is 0, or past the items that it may refer to, or refers to a condition or `nul`
 abbrev pub misses_pattern : List SrcItem → ℕ → Bool
 misses_pattern items offset = not (points_to is_pattern_item items offset)
 
--- C09: an `index` offset stands at an item other than `any`
+-- C09: an `index` offset refers to an item other than `any`
 abbrev pub misses_any : List SrcItem → ℕ → Bool
 misses_any items offset = not (points_to is_any_item items offset)
 
--- C10: a key store is empty, has a mark or has a character past U+FFFF
+-- C10: a key store is empty, or has a mark or a character above U+FFFF
 abbrev pub are_unfit_keys : List Element → Bool
 are_unfit_keys [] = true
 are_unfit_keys (e ∷ elements) = list_any is_unfit_key (e ∷ elements)
@@ -103,11 +102,11 @@ is_unfit_store known store = are_unfit_keys (elements_named known.stores store)
 abbrev pub puts_key : Known → List ℕ → Bool
 puts_key known store = list_any is_key_element (elements_named known.stores store)
 
--- C12: a system store that is left out
+-- C12: a system store that is not supported
 abbrev pub is_left_out : StoreDef → Bool
 is_left_out store = nat_eq store.system LEFT_OUT
 
--- C12: another text of `&version` or `&mnemoniclayout`, where all elements are characters
+-- C12: another text of `&version` or `&mnemoniclayout`, if all elements are characters
 abbrev pub is_version_text : List Element → Bool
 is_version_text elements = list_any (λ row. same_value (value_elements row.0) elements) file_versions
 
@@ -124,12 +123,12 @@ is_other_text known store =
     not (list_any is_no_character (statement_elements known store))
     && not (is_system_text store.system (statement_elements known store))
 
--- C13: an option store is in `outs` or `$`
+-- C13: `outs` or `$` names an option store
 abbrev pub puts_option : Known → SrcItem → Bool
 puts_option known (source.Outs store) = is_option known store
 puts_option known item = false
 
--- C14: an element is no character, of an option store, `&bitmap`, `&version` or `&mnemoniclayout`
+-- C14: an element is not a character, in an option store, `&bitmap`, `&version` or `&mnemoniclayout`
 abbrev pub wants_characters : Known → StoreDef → Bool
 wants_characters known store =
     if nat_eq store.system 0 then is_option known store.name
@@ -138,19 +137,19 @@ wants_characters known store =
 abbrev pub brings_no_character : Known → SrcItem → Bool
 brings_no_character known item = list_any is_no_character (brought known item)
 
--- C25: an element of `&casedkeys` is no virtual key of the key table without modifiers
+-- C25: an element of `&casedkeys` is not a virtual key of the key table without modifiers
 abbrev pub is_no_plain_key : Element → Bool
 is_no_plain_key (element.Key flags code) = not (nat_eq flags VIRTUAL_KEY && nat_lt code FIRST_OWN_CODE)
 is_no_plain_key other = true
 
--- whether a statement is of `&casedkeys`, whose keys are plain
+-- whether a statement is `&casedkeys`, whose keys must be plain
 abbrev pub wants_plain_keys : StoreDef → Bool
 wants_plain_keys store = nat_eq store.system CASED_KEYS
 
 abbrev pub brings_no_plain_key : Known → SrcItem → Bool
 brings_no_plain_key known item = list_any is_no_plain_key (brought known item)
 
--- a store statement: what it is or says, then its items
+-- a store statement: its kind or its text is checked first, then its items
 abbrev pub store_item_code : Known → Bool → Bool → SrcItem → Option Code
 store_item_code known characters keys item =
     broken ((C13, puts_option known item) ∷ (C14, characters && brings_no_character known item)
@@ -166,14 +165,14 @@ store_code known store =
 abbrev pub store_refusal : Known → List StoreDef → StoreDef → Option Refusal
 store_refusal known before store = at_line store.line (store_code known store)
 
--- `index` and `context(k)` that point among these items
+-- `index` and `context(k)` that refer to one of these items
 abbrev pub index_code : List SrcItem → ℕ → Option Code
 index_code items offset = broken ((C08, misses_pattern items offset) ∷ (C09, misses_any items offset) ∷ [])
 
 abbrev pub context_at_code : List SrcItem → ℕ → Option Code
 context_at_code items offset = broken ((C08, misses_pattern items offset) ∷ [])
 
--- an item of a context points among those before it; C12: an item that is left out
+-- an item of a context refers to one of those before it; C12: an item that is not supported
 abbrev pub context_item_code : List SrcItem → SrcItem → Option Code
 context_item_code before (source.Index store offset) = index_code before offset
 context_item_code before (source.ContextAt offset) = context_at_code before offset
@@ -185,31 +184,31 @@ context_code before [] = None
 context_code before (item ∷ items) =
     option_or (context_item_code before item) (context_code (before ++ item ∷ []) items)
 
--- a key: a character, or a key store, which C13 says is no option
+-- a key: a character, or a key store, which must not be an option (C13)
 abbrev pub key_code : Known → Option SrcItem → Option Code
 key_code known (Some (source.Char c)) = broken ((C10, is_far c) ∷ [])
 key_code known (Some (source.Any store)) = broken ((C10, is_unfit_store known store) ∷ (C13, is_option known store) ∷ [])
 key_code known item = None
 
--- an item of an output that looks at no context; C11: `call`, C12: an item that is left out
+-- an item of an output that does not refer to the context; C11: `call`, C12: an item that is not supported
 abbrev pub output_code : Known → SrcItem → Option Code
 output_code known (source.Call text) = Some C11
 output_code known source.OutOfProfile = Some C12
 output_code known (source.Outs store) = broken ((C12, puts_key known store) ∷ (C13, is_option known store) ∷ [])
 output_code known item = None
 
--- `index` at the key's place: C09 where the key isn't `any`, C13 for an option store
+-- `index` at the key's offset: C09 if the key isn't `any`, C13 for an option store
 abbrev pub key_index_code : Known → RuleDef → List ℕ → Option Code
 key_index_code known rule store = broken ((C09, not (is_any_key rule.key)) ∷ (C13, is_option known store) ∷ [])
 
--- an item of a rule's output; of the offsets past the context `index` may have the key's place
+-- an item of a rule's output; `index` may have the key's offset, which is past the context
 abbrev pub rule_output_code : Known → RuleDef → SrcItem → Option Code
 rule_output_code known rule (source.Index store offset) =
     if is_key_place rule offset then key_index_code known rule store else index_code rule.context offset
 rule_output_code known rule (source.ContextAt offset) = context_at_code rule.context offset
 rule_output_code known rule item = output_code known item
 
--- C12: `context`, `context(k)` or `index` in match or nomatch; an offset 0 is C08 there too
+-- C12: `context`, `context(k)` or `index` in match or nomatch; an offset of 0 is C08 there too
 abbrev pub offset_code : ℕ → Option Code
 offset_code offset = broken ((C08, nat_eq offset 0) ∷ (C12, true) ∷ [])
 
@@ -237,7 +236,7 @@ rule_refusal known before rule = at_line rule.line (rule_code known rule.kind ru
 abbrev pub rules_refusal : Known → List GroupDef → GroupDef → Option Refusal
 rules_refusal known before group = first_of (rule_refusal known) [] group.rules
 
--- the first refusal for items, of all statements
+-- the first refusal for items among all statements
 unfoldable pub items_refusal : Program → Option Refusal
 items_refusal program =
     earlier (first_of (store_refusal (known program)) [] program.stores)

@@ -1,5 +1,4 @@
--- What is kept of the elements of a store, of which there may be far more than a source has bytes: enough for each test
--- of them.
+-- The summary of the elements of a store: enough for each test of them. There may be far more elements than a source has bytes.
 use Rattle.std.specs.Prelude.{◌≡◌, ℕ, Bool, true, false, not, ◌&&◌, ◌||◌, nat_eq, nat_lt, if◌then◌else◌, List, [], ◌∷◌, ◌++◌, length, map, flat_map, take, slice_get, Option, Some, None, is_some}
 use Rattle.std.specs.List.{list_any, list_all}
 use Rattle.std.specs.Str.{bytes_eq}
@@ -30,7 +29,7 @@ abbrev pub is_mark_element : Element → Bool
 is_mark_element (element.Mark mark) = true
 is_mark_element other = false
 
--- a character past U+FFFF
+-- whether an element is a character above U+FFFF
 abbrev pub is_far_element : Element → Bool
 is_far_element (element.Char c) = is_far c
 is_far_element other = false
@@ -42,7 +41,7 @@ element_characters other = []
 abbrev pub front_of : List Element → List ℕ
 front_of elements = take FRONT_CHARACTERS (flat_map element_characters elements)
 
--- the summary of elements; of their characters the first few
+-- the summary of elements, with their first few characters
 unfoldable pub summary : List Element → Summary
 summary elements =
     record {
@@ -54,7 +53,7 @@ summary elements =
       front = front_of elements;
     }
 
--- a front with further characters, as far as there is room
+-- a front with further characters, while it is short enough
 abbrev pub with_character : List ℕ → ℕ → List ℕ
 with_character front c = if nat_lt (length front) FRONT_CHARACTERS then front ++ c ∷ [] else front
 
@@ -62,7 +61,7 @@ abbrev pub with_characters : List ℕ → List ℕ → List ℕ
 with_characters front [] = front
 with_characters front (c ∷ characters) = with_characters (with_character front c) characters
 
--- the summary of elements and of others behind them
+-- the summary of elements followed by others
 abbrev pub joined : Summary → Summary → Summary
 joined one other =
     record {
@@ -78,7 +77,7 @@ abbrev pub joined_found : Summary → Option Summary → Summary
 joined_found one None = one
 joined_found one (Some other) = joined one other
 
--- the summary of the store of a name
+-- the summary of the store with a name
 abbrev pub summary_at : List Summary → Option ℕ → Option Summary
 summary_at summaries None = None
 summary_at summaries (Some place) = slice_get summaries place
@@ -86,11 +85,11 @@ summary_at summaries (Some place) = slice_get summaries place
 abbrev pub found_summary : Summaries → List ℕ → Option Summary
 found_summary stores name = summary_at stores.summaries (place_in stores.names name)
 
--- a key of a source is no plain key; the keyboard's own keys have no code in a source, and one from 256 on in a file
+-- whether a key of a source is not a plain key; custom keys have no code in a source, and a code from 256 on in a file
 abbrev pub is_other_key : KeyName → Bool
 is_other_key key = not (nat_eq key.flags VIRTUAL_KEY && (nat_lt 0 key.code && nat_lt key.code FIRST_OWN_CODE))
 
--- keys of the keyboard's own, which items name, are among its names
+-- whether the custom key that an item names is among the names
 abbrev pub is_found_key : SourceNames → SrcItem → Bool
 is_found_key names (source.Key key) = nat_lt 0 key.code || is_some (code_in names.keys key.name)
 is_found_key names item = true
@@ -98,7 +97,7 @@ is_found_key names item = true
 abbrev pub are_found_keys : SourceNames → List SrcItem → Bool
 are_found_keys names items = list_all (is_found_key names) items
 
--- a summary with the elements that an item of a store stands for
+-- a summary with the elements that an item of a store denotes
 abbrev pub with_item : Summaries → Summary → SrcItem → Summary
 with_item stores sum (source.Char c) =
     record sum { is_empty = false; has_far = sum.has_far || is_far c; has_other = true; front = with_character sum.front c }
@@ -111,7 +110,7 @@ abbrev pub with_items : Summaries → Summary → List SrcItem → Summary
 with_items stores sum [] = sum
 with_items stores sum (item ∷ items) = with_items stores (with_item stores sum item) items
 
--- the stores of the file so far, and one statement more
+-- the stores of the file so far, with another statement
 abbrev pub with_store : Summaries → StoreDef → Summaries
 with_store stores store =
     if is_dropped store then stores
@@ -127,17 +126,17 @@ with_stores summaries (store ∷ stores) = with_stores (with_store summaries sto
 abbrev pub no_summaries : Summaries
 no_summaries = record { names = []; summaries = [] }
 
--- summaries are those of stores
+-- summaries are the summaries of stores
 pub record AreSummaries (found : Summaries) (stores : List Store) : Type 0 where
   pub names : found.names ≡ map (λ (store : Store). store.name) stores
   pub summaries : found.summaries ≡ map (λ (store : Store). summary store.elements) stores
 
--- what code keeps is what a program's items are looked at with
+-- what the code computes is what a program's items are checked with
 pub record AreFacts (known : Known) (found : Summaries) (options : List (List ℕ)) : Type 0 where
   pub stores : AreSummaries found known.stores
   pub named : options ≡ known.options
 
--- the tests of elements, said of their summary
+-- the tests of elements, by their summary
 abbrev pub is_unfit_summary : Option Summary → Bool
 is_unfit_summary None = true
 is_unfit_summary (Some sum) = sum.is_empty || (sum.has_mark || sum.has_far)
@@ -157,7 +156,7 @@ abbrev pub has_other : Option Summary → Bool
 has_other None = false
 has_other (Some sum) = sum.has_other
 
--- a front is that of a text that a system store may have
+-- whether a front is the front of a text that a system store may have
 abbrev pub is_version_front : List ℕ → Bool
 is_version_front front = list_any (λ row. bytes_eq row.0 front) file_versions
 

@@ -1,4 +1,4 @@
-//! What the items of a program are looked at with.
+//! The facts that the items of a program are checked with.
 
 ghost use Rattle.std.specs.Prelude.{◌≡◌, ℕ, List, ◌&&◌, not, true, ◌++◌, IfOk, OnOk, map, option_to_list};
 ghost use Rattle.std.specs.List.{flat_map, list_any};
@@ -17,8 +17,8 @@ use std::alloc::Global;
 use std::marker::Model;
 use store_table::NameTable;
 
-/// The stores of a program, each with a summary of its elements, and the names of its options. Contracts see what the
-/// program's items are looked at with.
+/// The stores of a program, each with a summary of its elements, and the names of its options. Contracts model it as the facts
+/// that the program's items are checked with.
 #[derive(Drop)]
 pub struct Facts<'a> {
     program: &'a Program,
@@ -42,7 +42,7 @@ impl<'a> Facts<'a> {
     ghost use Rattle.rule_model.specs.Naming.{elements_named};
     ghost use Rattle.item_checker.specs.Items.{is_no_character, is_no_plain_key, is_option, is_other_text, is_unfit_store, puts_key};
 
-    /// What the items of a program are looked at with.
+    /// Returns the facts that the items of a program are checked with. Errors: `Memory` if an allocation fails.
     #[tactic(auto, unfolding(store_table::specs::Known::known))]
     pub fn of(alloc: Global, program: &'a Program) -> Result<Facts<'a>, Memory>
         ensures { IfOk result (λ facts. facts ≡ known program.now) }
@@ -56,42 +56,42 @@ impl<'a> Facts<'a> {
         })
     }
 
-    /// Whether a store is an option.
+    /// Returns whether a store is an option.
     pub fn is_option(&self, name: &[u8]) -> bool
         ensures { result ≡ is_option self.now name.now }
     {
         self.options.has(name)
     }
 
-    /// Whether some element of a store can be no key, or there is none.
+    /// Returns whether a store is empty or has an element that cannot be a key.
     pub fn is_unfit_store(&self, name: &[u8]) -> bool
         ensures { result ≡ is_unfit_store self.now name.now }
     {
         is_unfit(found_summary(&self.stores, name))
     }
 
-    /// Whether a store has a virtual key.
+    /// Returns whether a store has a virtual key.
     pub fn puts_key(&self, name: &[u8]) -> bool
         ensures { result ≡ puts_key self.now name.now }
     {
         has_key(found_summary(&self.stores, name))
     }
 
-    /// Whether an element of a store is no character.
+    /// Returns whether an element of a store is not a character.
     pub fn lacks_characters(&self, name: &[u8]) -> bool
         ensures { result ≡ list_any is_no_character (elements_named self.now.stores name.now) }
     {
         found_lacks_characters(found_summary(&self.stores, name))
     }
 
-    /// Whether an element of a store is no plain key.
+    /// Returns whether an element of a store is not a plain key.
     pub fn lacks_plain_keys(&self, name: &[u8]) -> bool
         ensures { result ≡ list_any is_no_plain_key (elements_named self.now.stores name.now) }
     {
         has_other(found_summary(&self.stores, name))
     }
 
-    /// Whether a store statement has another text than its system store may have.
+    /// Returns whether a store statement has another text than its system store may have. Errors: `Memory` if an allocation fails.
     pub fn is_other_text(&self, alloc: Global, store: &StoreDef) -> Result<bool, Memory>
         requires { are_found_keys self.now.names store.now.items ≡ true }
         ensures { IfOk result (λ other. other ≡ is_other_text self.now store.now) }
@@ -105,14 +105,14 @@ impl<'a> Facts<'a> {
     }
 }
 
-/// Whether a summary is of a text other than that of a system store.
+/// Returns whether a summary is the summary of another text than the system store may have.
 fn is_other(system: u32, sum: &Summary) -> bool
     ensures { result ≡ (not (lacks_characters sum.now) && not (is_system_front system sum.now.front)) }
 {
     !lacks_characters(sum) && !is_system_front(system, sum.front.as_slice())
 }
 
-/// Whether an element of a summary can be no key, or there is none.
+/// Returns whether a summary is empty or has an element that cannot be a key.
 fn is_unfit(found: Option<&Summary>) -> bool
     ensures { result ≡ is_unfit_summary (option_copied found.entry) }
 {
@@ -122,7 +122,7 @@ fn is_unfit(found: Option<&Summary>) -> bool
     }
 }
 
-/// Whether a summary is of a virtual key, among others.
+/// Returns whether a summary has a virtual key.
 fn has_key(found: Option<&Summary>) -> bool
     ensures { result ≡ has_key (option_copied found.entry) }
 {
@@ -132,7 +132,7 @@ fn has_key(found: Option<&Summary>) -> bool
     }
 }
 
-/// Whether an element of a summary is no plain key.
+/// Returns whether an element of a summary is not a plain key.
 fn has_other(found: Option<&Summary>) -> bool
     ensures { result ≡ has_other (option_copied found.entry) }
 {
@@ -142,14 +142,14 @@ fn has_other(found: Option<&Summary>) -> bool
     }
 }
 
-/// Whether an element of a summary is no character.
+/// Returns whether an element of a summary is not a character.
 fn lacks_characters(sum: &Summary) -> bool
     ensures { result ≡ lacks_characters sum.now }
 {
     sum.has_mark || sum.has_key
 }
 
-/// Whether an element of a summary that there may be is no character.
+/// Returns whether an element of an optional summary is not a character.
 fn found_lacks_characters(found: Option<&Summary>) -> bool
     ensures { result ≡ found_lacks_characters (option_copied found.entry) }
 {
@@ -159,7 +159,7 @@ fn found_lacks_characters(found: Option<&Summary>) -> bool
     }
 }
 
-/// Whether characters are an ASCII text.
+/// Returns whether characters are an ASCII text.
 fn is_text(text: &[u8], front: &[char]) -> bool
     ensures { result ≡ bytes_eq text.now front.now }
 {
@@ -172,7 +172,7 @@ fn is_text(text: &[u8], front: &[char]) -> bool
     }
 }
 
-/// Whether characters are a text of a table.
+/// Returns whether characters are a text of a table.
 fn is_text_in(table: &[(&str, u16)], front: &[char]) -> bool
     ensures { result ≡ list_any (λ (row : List ℕ × ℕ). bytes_eq row.0 front.now) (map (λ row. (row.0.now, row.1)) table.now) }
 {
@@ -184,14 +184,14 @@ fn is_text_in(table: &[(&str, u16)], front: &[char]) -> bool
     false
 }
 
-/// Whether the first characters are a version that a file can have.
+/// Returns whether the first characters are a version that a file can have.
 fn is_version_front(front: &[char]) -> bool
     ensures { result ≡ is_version_front front.now }
 {
     is_text_in(file_versions(), front)
 }
 
-/// Whether the first characters are what a system store may have.
+/// Returns whether the first characters are a text that a system store may have.
 fn is_system_front(system: u32, front: &[char]) -> bool
     ensures { result ≡ is_system_front system front.now }
 {
@@ -226,7 +226,7 @@ fn add_options(options: &mut NameTable, items: &[SrcItem]) -> Result<(), Memory>
     Ok(())
 }
 
-/// Adds the names of the options that the key of a rule uses: none where it is a key.
+/// Adds the names of the options that the key of a rule uses.
 fn add_key_options(options: &mut NameTable, key: &Option<SrcItem>) -> Result<(), Memory>
     ensures { OnOk result (options.new ≡ options.old ++ flat_map option_named (option_to_list key.now)) }
 {
@@ -256,7 +256,7 @@ fn add_rules_options(options: &mut NameTable, rules: &[RuleDef]) -> Result<(), M
     Ok(())
 }
 
-/// The names of the options of a program, as often as its rules use them.
+/// Returns the names of the options of a program, as often as its rules use them. Errors: `Memory` if an allocation fails.
 fn options_of(alloc: Global, groups: &[GroupDef]) -> Result<NameTable, Memory>
     ensures { IfOk result (λ options. options ≡ flat_map rule_options (flat_map (λ (group : GroupDef). group.rules) groups.now)) }
 {

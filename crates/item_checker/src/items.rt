@@ -11,7 +11,7 @@ use rule_model::Program;
 use std::alloc::Global;
 use store_table::earlier;
 
-/// The first refusal for items that there is.
+/// Returns the first refusal for items, if any. Errors: `Memory` if an allocation fails.
 #[tactic(auto, unfolding(crate::specs::Items::items_refusal))]
 pub fn items_refusal(alloc: Global, program: &Program) -> Result<Option<Refusal>, Memory>
     ensures { IfOk result (λ refusal. refusal ≡ items_refusal program.now) }

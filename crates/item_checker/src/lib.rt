@@ -1,10 +1,10 @@
-//! What of a program's items is refused.
+//! Checks the items of a program and returns the first refusal.
 //!
-//! It stands on `store_table` for tables of names, for what is `known` of a program and for the words of "the first", on
-//! `kmx_format` for the versions that a file can have, and on `virtual_keys` for where the codes of the key table end.
-//! `specs/Items` says which refusal for items is the first (`items_refusal`: C08 to C14 and C25), and `specs/Summaries`
-//! what is kept of the elements of stores, which are never built. The layer above calls `items_refusal`, which answers
-//! exactly that refusal.
+//! Depends on `kmn_base`; `rule_model` for programs; `store_table` for tables of names, for what is `known` of a program and
+//! for the terms of the first refusal; `kmx_format` for the versions that a file can have; `virtual_keys` for the end of the
+//! codes of the key table; and `compile_laws` for a lemma. `specs/Items` defines the first refusal for items (`items_refusal`:
+//! C08 to C14 and C25), and `specs/Summaries` defines the summaries of the elements of stores, which are never built. The layer
+//! above calls `items_refusal`, which returns exactly that refusal.
 #![tactic(auto)]
 
 mod facts;

@@ -1,4 +1,4 @@
-//! Offsets, which point at the items of a context and count them from 1.
+//! Offsets, which refer to the items of a context and count them from 1.
 
 ghost use Rattle.std.specs.Prelude.{◌≡◌, [], if◌then◌else◌};
 ghost use Rattle.std.specs.Option.{option_copied};
@@ -7,7 +7,7 @@ ghost use Rattle.item_checker.specs.Items.{context_at_code, context_code, contex
 use kmn_base::Code;
 use rule_model::SrcItem;
 
-/// Whether an item of a context is matched with an item of the text.
+/// Returns whether an item of a context is matched with an item of the text.
 fn is_pattern_item(item: &SrcItem) -> bool
     ensures { result ≡ is_pattern_item item.now }
 {
@@ -22,7 +22,7 @@ fn is_pattern_item(item: &SrcItem) -> bool
     }
 }
 
-/// Whether an item is `any`.
+/// Returns whether an item is `any`.
 pub fn is_any_item(item: &SrcItem) -> bool
     ensures { result ≡ is_any_item item.now }
 {
@@ -32,7 +32,7 @@ pub fn is_any_item(item: &SrcItem) -> bool
     }
 }
 
-/// The item at an offset.
+/// Returns the item at an offset.
 fn item_at(items: &[SrcItem], offset: u32) -> Option<&SrcItem>
     ensures { option_copied result ≡ item_at items.now offset }
 {
@@ -40,7 +40,7 @@ fn item_at(items: &[SrcItem], offset: u32) -> Option<&SrcItem>
     items.get(place as usize)
 }
 
-/// Whether an offset points at no item of these, or at one that is no pattern.
+/// Returns whether an offset is outside these items, or refers to an item that is not a pattern.
 fn misses_pattern(items: &[SrcItem], offset: u32) -> bool
     ensures { result ≡ misses_pattern items.now offset }
 {
@@ -50,7 +50,7 @@ fn misses_pattern(items: &[SrcItem], offset: u32) -> bool
     }
 }
 
-/// Whether an offset points at no item of these, or at one that isn't `any`.
+/// Returns whether an offset is outside these items, or refers to an item that is not `any`.
 fn misses_any(items: &[SrcItem], offset: u32) -> bool
     ensures { result ≡ misses_any items.now offset }
 {
@@ -60,7 +60,7 @@ fn misses_any(items: &[SrcItem], offset: u32) -> bool
     }
 }
 
-/// What `index` with an offset among these items breaks.
+/// Returns the rule that `index` with an offset among these items breaks.
 pub fn index_code(items: &[SrcItem], offset: u32) -> Option<Code>
     ensures { result ≡ index_code items.now offset }
 {
@@ -73,7 +73,7 @@ pub fn index_code(items: &[SrcItem], offset: u32) -> Option<Code>
     }
 }
 
-/// What `context(k)` with an offset among these items breaks.
+/// Returns the rule that `context(k)` with an offset among these items breaks.
 pub fn context_at_code(items: &[SrcItem], offset: u32) -> Option<Code>
     ensures { result ≡ context_at_code items.now offset }
 {
@@ -84,7 +84,7 @@ pub fn context_at_code(items: &[SrcItem], offset: u32) -> Option<Code>
     }
 }
 
-/// What an item with an offset breaks in match or nomatch.
+/// Returns the rule that an item with an offset breaks in match or nomatch.
 pub fn offset_code(offset: u32) -> Option<Code>
     ensures { result ≡ offset_code offset }
 {
@@ -95,7 +95,7 @@ pub fn offset_code(offset: u32) -> Option<Code>
     }
 }
 
-/// What an item of a context breaks, behind others.
+/// Returns the rule that an item of a context breaks, after others.
 fn context_item_code(before: &[SrcItem], item: &SrcItem) -> Option<Code>
     ensures { result ≡ context_item_code before.now item.now }
 {
@@ -107,7 +107,7 @@ fn context_item_code(before: &[SrcItem], item: &SrcItem) -> Option<Code>
     }
 }
 
-/// The first code of a context.
+/// Returns the first code of a context.
 #[tactic(auto, using(crate::proofs::FirstItems::context_step))]
 pub fn context_code(context: &[SrcItem]) -> Option<Code>
     ensures { result ≡ context_code [] context.now }

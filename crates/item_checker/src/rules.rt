@@ -11,7 +11,7 @@ use kmn_base::{Code, Refusal};
 use rule_model::{GroupDef, RuleDef, RuleKind, SrcItem};
 use store_table::{at_line, earlier};
 
-/// What a key that is a character breaks.
+/// Returns the rule that a character breaks as a key.
 fn character_key_code(character: char) -> Option<Code>
     ensures { result ≡ broken ((C10, is_far character) ∷ []) }
 {
@@ -22,7 +22,7 @@ fn character_key_code(character: char) -> Option<Code>
     }
 }
 
-/// What a key store breaks.
+/// Returns the rule that a key store breaks.
 fn key_store_code(facts: &Facts<'_>, store: &[u8]) -> Option<Code>
     ensures { result ≡ broken ((C10, is_unfit_store facts.now store.now) ∷ (C13, is_option facts.now store.now) ∷ []) }
 {
@@ -35,7 +35,7 @@ fn key_store_code(facts: &Facts<'_>, store: &[u8]) -> Option<Code>
     }
 }
 
-/// What the key of a rule breaks.
+/// Returns the rule that the key of a rule breaks.
 fn key_code(facts: &Facts<'_>, key: &Option<SrcItem>) -> Option<Code>
     ensures { result ≡ key_code facts.now key.now }
 {
@@ -46,7 +46,7 @@ fn key_code(facts: &Facts<'_>, key: &Option<SrcItem>) -> Option<Code>
     }
 }
 
-/// What `outs` or `$` breaks in an output.
+/// Returns the rule that `outs` or `$` breaks in an output.
 fn put_code(facts: &Facts<'_>, store: &[u8]) -> Option<Code>
     ensures { result ≡ broken ((C12, puts_key facts.now store.now) ∷ (C13, is_option facts.now store.now) ∷ []) }
 {
@@ -59,7 +59,7 @@ fn put_code(facts: &Facts<'_>, store: &[u8]) -> Option<Code>
     }
 }
 
-/// What an item of an output breaks that looks at no context.
+/// Returns the rule that an item of an output that does not refer to the context breaks.
 fn output_code(facts: &Facts<'_>, item: &SrcItem) -> Option<Code>
     ensures { result ≡ output_code facts.now item.now }
 {
@@ -71,7 +71,7 @@ fn output_code(facts: &Facts<'_>, item: &SrcItem) -> Option<Code>
     }
 }
 
-/// Whether the key of a rule is `any`.
+/// Returns whether the key of a rule is `any`.
 fn is_any_key(key: &Option<SrcItem>) -> bool
     ensures { result ≡ is_any_key key.now }
 {
@@ -81,7 +81,7 @@ fn is_any_key(key: &Option<SrcItem>) -> bool
     }
 }
 
-/// Whether an offset is the place of the key of a rule.
+/// Returns whether an offset is the offset of a rule's key.
 fn is_key_place(rule: &RuleDef, offset: u32) -> bool
     ensures { result ≡ is_key_place rule.now offset }
 {
@@ -89,7 +89,7 @@ fn is_key_place(rule: &RuleDef, offset: u32) -> bool
     rule.key.is_some() && offset as usize > count && offset as usize - count == 1
 }
 
-/// What `index` at the place of the key breaks.
+/// Returns the rule that `index` at the key's offset breaks.
 fn key_index_code(facts: &Facts<'_>, rule: &RuleDef, store: &[u8]) -> Option<Code>
     ensures { result ≡ key_index_code facts.now rule.now store.now }
 {
@@ -102,7 +102,7 @@ fn key_index_code(facts: &Facts<'_>, rule: &RuleDef, store: &[u8]) -> Option<Cod
     }
 }
 
-/// What `index` in the output of a rule breaks.
+/// Returns the rule that `index` in the output of a rule breaks.
 fn rule_index_code(facts: &Facts<'_>, rule: &RuleDef, store: &[u8], offset: u32) -> Option<Code>
     ensures { result ≡ (if is_key_place rule.now offset then key_index_code facts.now rule.now store.now else index_code rule.now.context offset) }
 {
@@ -113,7 +113,7 @@ fn rule_index_code(facts: &Facts<'_>, rule: &RuleDef, store: &[u8], offset: u32)
     }
 }
 
-/// What an item of the output of a rule breaks.
+/// Returns the rule that an item of a rule's output breaks.
 fn rule_output_code(facts: &Facts<'_>, rule: &RuleDef, item: &SrcItem) -> Option<Code>
     ensures { result ≡ rule_output_code facts.now rule.now item.now }
 {
@@ -124,7 +124,7 @@ fn rule_output_code(facts: &Facts<'_>, rule: &RuleDef, item: &SrcItem) -> Option
     }
 }
 
-/// The first code of the output of a rule.
+/// Returns the first code of the output of a rule.
 fn rule_outputs_code(facts: &Facts<'_>, rule: &RuleDef) -> Option<Code>
     ensures { result ≡ first_code (rule_output_code facts.now rule.now) rule.now.output }
 {
@@ -137,7 +137,7 @@ fn rule_outputs_code(facts: &Facts<'_>, rule: &RuleDef) -> Option<Code>
     None
 }
 
-/// What a rule breaks.
+/// Returns the rule of the language that a rule breaks.
 fn plain_code(facts: &Facts<'_>, rule: &RuleDef) -> Option<Code>
     ensures { result ≡ plain_code facts.now rule.now }
 {
@@ -152,7 +152,7 @@ fn plain_code(facts: &Facts<'_>, rule: &RuleDef) -> Option<Code>
     rule_outputs_code(facts, rule)
 }
 
-/// What an item of match or nomatch breaks.
+/// Returns the rule that an item of match or nomatch breaks.
 fn match_output_code(facts: &Facts<'_>, item: &SrcItem) -> Option<Code>
     ensures { result ≡ match_output_code facts.now item.now }
 {
@@ -164,7 +164,7 @@ fn match_output_code(facts: &Facts<'_>, item: &SrcItem) -> Option<Code>
     }
 }
 
-/// The first code of the output of match or nomatch.
+/// Returns the first code of the output of match or nomatch.
 fn match_outputs_code(facts: &Facts<'_>, output: &[SrcItem]) -> Option<Code>
     ensures { result ≡ first_code (match_output_code facts.now) output.now }
 {
@@ -177,7 +177,7 @@ fn match_outputs_code(facts: &Facts<'_>, output: &[SrcItem]) -> Option<Code>
     None
 }
 
-/// What a rule, match or nomatch statement breaks.
+/// Returns the rule that a rule, match or nomatch statement breaks.
 fn rule_code(facts: &Facts<'_>, rule: &RuleDef) -> Option<Code>
     ensures { result ≡ rule_code facts.now rule.now.kind rule.now }
 {
@@ -187,7 +187,7 @@ fn rule_code(facts: &Facts<'_>, rule: &RuleDef) -> Option<Code>
     }
 }
 
-/// The first refusal of the statements of a group.
+/// Returns the first refusal of the statements of a group.
 #[tactic(auto, using(store_table::proofs::Firsts::first_kept))]
 fn rules_refusal(facts: &Facts<'_>, rules: &[RuleDef]) -> Option<Refusal>
     ensures { result ≡ first_of (rule_refusal facts.now) [] rules.now }
@@ -199,7 +199,7 @@ fn rules_refusal(facts: &Facts<'_>, rules: &[RuleDef]) -> Option<Refusal>
     first
 }
 
-/// The first refusal of the statements of all groups.
+/// Returns the first refusal of the statements of all groups.
 #[tactic(auto, using(store_table::proofs::Firsts::first_kept))]
 pub fn groups_refusal(facts: &Facts<'_>, groups: &[GroupDef]) -> Option<Refusal>
     ensures { result ≡ first_of (rules_refusal facts.now) [] groups.now }

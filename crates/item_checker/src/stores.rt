@@ -15,7 +15,7 @@ use rule_model::{SrcItem, StoreDef};
 use std::alloc::Global;
 use store_table::{at_line, earlier};
 
-/// What a store statement breaks by what it is, or by the whole of its text.
+/// Returns the rule that a store statement breaks by its kind, or by its whole text. Errors: `Memory` if an allocation fails.
 fn store_head_code(
     alloc: Global,
     facts: &Facts<'_>,
@@ -31,7 +31,7 @@ fn store_head_code(
     }
 }
 
-/// Whether all elements of a store must be characters.
+/// Returns whether all elements of a store must be characters.
 fn wants_characters(facts: &Facts<'_>, store: &StoreDef) -> bool
     ensures { result ≡ wants_characters facts.now store.now }
 {
@@ -42,14 +42,14 @@ fn wants_characters(facts: &Facts<'_>, store: &StoreDef) -> bool
     }
 }
 
-/// Whether all elements of a store must be plain keys.
+/// Returns whether all elements of a store must be plain keys.
 fn wants_plain_keys(store: &StoreDef) -> bool
     ensures { result ≡ wants_plain_keys store.now }
 {
     store.system == CASED_KEYS
 }
 
-/// Whether an item puts an option store.
+/// Returns whether an `outs` or `$` item names an option store.
 fn puts_option(facts: &Facts<'_>, item: &SrcItem) -> bool
     ensures { result ≡ puts_option facts.now item.now }
 {
@@ -59,7 +59,7 @@ fn puts_option(facts: &Facts<'_>, item: &SrcItem) -> bool
     }
 }
 
-/// Whether an item brings an element that is no character.
+/// Returns whether an item adds an element that is not a character.
 fn brings_no_character(facts: &Facts<'_>, item: &SrcItem) -> bool
     ensures { result ≡ brings_no_character facts.now item.now }
 {
@@ -71,7 +71,7 @@ fn brings_no_character(facts: &Facts<'_>, item: &SrcItem) -> bool
     }
 }
 
-/// Whether an item brings an element that is no plain key.
+/// Returns whether an item adds an element that is not a plain key.
 #[tactic(auto, using(crate::proofs::FoundKeys::other_brought))]
 fn brings_no_plain_key(facts: &Facts<'_>, item: &SrcItem) -> bool
     requires { is_found_key facts.now.names item.now ≡ true }
@@ -86,7 +86,7 @@ fn brings_no_plain_key(facts: &Facts<'_>, item: &SrcItem) -> bool
     }
 }
 
-/// What an item of a store breaks.
+/// Returns the rule that an item of a store breaks.
 fn store_item_code(facts: &Facts<'_>, characters: bool, keys: bool, item: &SrcItem) -> Option<Code>
     requires { is_found_key facts.now.names item.now ≡ true }
     ensures { result ≡ store_item_code facts.now characters keys item.now }
@@ -102,7 +102,7 @@ fn store_item_code(facts: &Facts<'_>, characters: bool, keys: bool, item: &SrcIt
     }
 }
 
-/// The first code of the items of a store.
+/// Returns the first code of the items of a store.
 #[tactic(auto, using(crate::proofs::FoundKeys::found_item))]
 fn store_items_code(
     facts: &Facts<'_>,
@@ -122,7 +122,7 @@ fn store_items_code(
     None
 }
 
-/// What a store statement breaks.
+/// Returns the rule that a store statement breaks. Errors: `Memory` if an allocation fails.
 fn store_code(alloc: Global, facts: &Facts<'_>, store: &StoreDef) -> Result<Option<Code>, Memory>
     requires { are_found_keys facts.now.names store.now.items ≡ true }
     ensures { IfOk result (λ code. code ≡ store_code facts.now store.now) }
@@ -137,7 +137,7 @@ fn store_code(alloc: Global, facts: &Facts<'_>, store: &StoreDef) -> Result<Opti
     }
 }
 
-/// The first refusal of store statements.
+/// Returns the first refusal of store statements. Errors: `Memory` if an allocation fails.
 #[tactic(auto, using(store_table::proofs::Firsts::first_kept, crate::proofs::FoundKeys::found_store))]
 pub fn stores_refusal(
     alloc: Global,

@@ -1,5 +1,5 @@
-//! What is kept of the elements of each store, which are never built: stores that put one another may come to far more
-//! elements than there is memory.
+//! The summaries of the elements of each store. The elements are never built: stores that include one another can expand to far
+//! more elements than fit in memory.
 
 ghost use Rattle.std.specs.Prelude.{◌≡◌, ◌||◌, ◌&&◌, true, false, nat_lt, [], IfOk, OnOk};
 ghost use Rattle.std.specs.Option.{option_copied};
@@ -13,11 +13,11 @@ use std::alloc::Global;
 use store_table::NameTable;
 use virtual_keys::FIRST_OWN_CODE;
 
-/// How many characters are kept of elements: one more than the longest text that a store is compared with.
+/// The number of characters that are kept of elements: one more than the longest text that a store is compared with.
 pub const FRONT_CHARACTERS: usize = 5;
 
-/// What is kept of elements: whether there are any, whether a mark, a virtual key, a character past U+FFFF or anything
-/// but a plain key is among them, and of their characters the first few.
+/// The summary of elements: whether there are any, whether a mark, a virtual key, a character above U+FFFF or an element other
+/// than a plain key is among them, and their first few characters.
 #[derive(Drop)]
 pub struct Summary {
     pub is_empty: bool,
@@ -28,14 +28,14 @@ pub struct Summary {
     pub front: Seq<char>,
 }
 
-/// The names of the stores of a file, in their order, with a summary for each.
+/// The names of the stores of a file, in order, with a summary for each.
 #[derive(Drop)]
 pub struct Summaries {
     pub names: NameTable,
     pub summaries: Seq<Summary>,
 }
 
-/// The summary of no elements.
+/// Returns the summary of no elements.
 #[tactic(auto, unfolding(crate::specs::Summaries::summary))]
 fn empty_summary(alloc: Global) -> Summary
     ensures { result ≡ summary [] }
@@ -50,7 +50,7 @@ fn empty_summary(alloc: Global) -> Summary
     }
 }
 
-/// Adds a character to a front that has room for it.
+/// Adds a character to a front, if the front is short enough.
 fn add_character(front: &mut Seq<char>, character: char) -> Result<(), Memory>
     ensures { OnOk result (front.new ≡ with_character front.old character) }
 {
@@ -61,7 +61,7 @@ fn add_character(front: &mut Seq<char>, character: char) -> Result<(), Memory>
     }
 }
 
-/// Adds characters to a front, as far as there is room.
+/// Adds characters to a front, while the front is short enough.
 fn add_characters(front: &mut Seq<char>, characters: &[char]) -> Result<(), Memory>
     ensures { OnOk result (front.new ≡ with_characters front.old characters.now) }
 {
@@ -71,14 +71,14 @@ fn add_characters(front: &mut Seq<char>, characters: &[char]) -> Result<(), Memo
     Ok(())
 }
 
-/// Whether one of two holds.
+/// Returns whether one of two conditions is true.
 fn either(one: bool, other: bool) -> bool
     ensures { result ≡ (one || other) }
 {
     one || other
 }
 
-/// Whether both of two hold.
+/// Returns whether two conditions are true.
 fn both(one: bool, other: bool) -> bool
     ensures { result ≡ (one && other) }
 {
@@ -97,7 +97,7 @@ fn join(sum: &mut Summary, other: &Summary) -> Result<(), Memory>
     add_characters(&mut sum.front, other.front.as_slice())
 }
 
-/// Adds the elements of a summary that there may be.
+/// Adds the elements of an optional summary.
 fn join_found(sum: &mut Summary, found: Option<&Summary>) -> Result<(), Memory>
     ensures { OnOk result (sum.new ≡ joined_found sum.old (option_copied found.entry)) }
 {
@@ -117,14 +117,14 @@ fn add_element_character(sum: &mut Summary, character: char) -> Result<(), Memor
     add_character(&mut sum.front, character)
 }
 
-/// Whether a key is no plain key of the key table.
+/// Returns whether a key is not a plain key of the key table.
 pub fn is_other_key(key: &KeyName) -> bool
     ensures { result ≡ is_other_key key.now }
 {
     !(key.flags == VIRTUAL_KEY && (key.code > 0 && key.code < FIRST_OWN_CODE))
 }
 
-/// Adds the elements that an item of a store stands for.
+/// Adds the elements that an item of a store denotes.
 fn add_item(stores: &Summaries, sum: &mut Summary, item: &SrcItem) -> Result<(), Memory>
     ensures { OnOk result (sum.new ≡ with_item stores.now sum.old item.now) }
 {
@@ -147,7 +147,7 @@ fn add_item(stores: &Summaries, sum: &mut Summary, item: &SrcItem) -> Result<(),
     }
 }
 
-/// The summary of the store of a name.
+/// Returns the summary of the store with a name.
 pub fn found_summary<'a>(stores: &'a Summaries, name: &[u8]) -> Option<&'a Summary>
     ensures { option_copied result ≡ found_summary stores.now name.now }
 {
@@ -155,7 +155,7 @@ pub fn found_summary<'a>(stores: &'a Summaries, name: &[u8]) -> Option<&'a Summa
     stores.summaries.as_slice().get(place)
 }
 
-/// The summary of the elements that items of a store stand for.
+/// Returns the summary of the elements that items of a store denote. Errors: `Memory` if an allocation fails.
 pub fn items_summary(
     alloc: Global,
     stores: &Summaries,
@@ -182,7 +182,7 @@ fn add_store(alloc: Global, stores: &mut Summaries, store: &StoreDef) -> Result<
     stores.summaries.add(summary)
 }
 
-/// The summaries of stores, each by those before it.
+/// Returns the summaries of stores, each computed from those before it. Errors: `Memory` if an allocation fails.
 pub fn stores_summaries(alloc: Global, stores: &[StoreDef]) -> Result<Summaries, Memory>
     ensures { IfOk result (λ summaries. summaries ≡ with_stores no_summaries stores.now) }
 {

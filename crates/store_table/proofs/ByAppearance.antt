@@ -26,14 +26,14 @@ pub items_append : (appeared : Appeared) (xs ys : List SrcItem) → with_items a
 items_append appeared [] ys = refl
 items_append appeared (x ∷ xs) ys = items_append (with_item appeared x) xs ys
 
--- one store more
+-- the names with those of another store
 pub next_store : (appeared : Appeared) (stores : List StoreDef) (i : ℕ) (store : StoreDef) → i < length stores → store ≡ get_or stores i store
     → with_items appeared (store_items (drop i stores)) ≡ with_items (with_items appeared store.items) (store_items (drop (i + 1) stores))
 next_store appeared stores i store h e =
     ap (λ (ss : List StoreDef). with_items appeared (store_items ss)) (drop_more stores i store h ∙ ap (λ (s : StoreDef). s ∷ drop (i + 1) stores) (sym e))
     ∙ items_append appeared store.items (store_items (drop (i + 1) stores))
 
--- one rule more, with the stores before it
+-- the names with those of another rule and of the stores before it
 pub next_rule : (appeared : Appeared) (stores : List StoreDef) (rules : List RuleDef) (i : ℕ) (rule : RuleDef) (more : List RuleDef) → i < length rules → rule ≡ get_or rules i rule
     → with_items appeared (items_from stores (drop i rules ++ more))
     ≡ with_items (with_items (with_items appeared (store_items (stores_before rule.line stores))) (rule_items rule)) (items_from (stores_after rule.line stores) (drop (i + 1) rules ++ more))
@@ -51,7 +51,7 @@ keys_append : (keys xs ys : List (List ℕ)) → with_keys keys (xs ++ ys) ≡ w
 keys_append keys [] ys = refl
 keys_append keys (x ∷ xs) ys = keys_append (with_key keys x) xs ys
 
--- the two lists, each by itself
+-- the two lists are independent
 marks_apart : (appeared : Appeared) (items : List SrcItem) → (with_items appeared items).marks ≡ with_marks appeared.marks (flat_map mark_names items)
 marks_apart appeared [] = refl
 marks_apart appeared (item ∷ items) =
@@ -66,7 +66,7 @@ marks_distinct : (marks names : List (List ℕ)) → with_marks marks names ≡ 
 marks_distinct marks [] = refl
 marks_distinct marks (name ∷ names) = marks_distinct (with_name marks name) names ∙ ap (λ ms. distinct_onto same_name ms names) (with_name_new marks name)
 
--- distinct names with one more
+-- distinct names with another name
 abbrev with_new : List (List ℕ) → List ℕ → List (List ℕ)
 with_new names name = if list_any (λ known. same_name known name) names then names else names ++ name ∷ []
 
@@ -118,14 +118,14 @@ keys_next false keys names name room few rest =
     ∙ ap (λ ks. with_keys ks names) (with_name_new keys name)
     ∙ rest room
 
--- of distinct keys as many as have a code
+-- of distinct keys, as many as have a code
 keys_distinct : (keys names : List (List ℕ)) → length keys ≤ KEY_NAMES → with_keys keys names ≡ take KEY_NAMES (distinct_onto same_name keys names)
 keys_distinct keys [] few = sym (take_all KEY_NAMES keys few)
 keys_distinct keys (name ∷ names) few =
     keys_next (nat_le KEY_NAMES (length keys)) keys names name refl few
     (λ room. keys_distinct (with_new keys name) names (still_few (list_any (λ k. same_name k name) keys) keys name few room))
 
--- what appears in a program is its names of marks, and of its names of keys as many as have a code
+-- the names that appear in a program are its names of marks, and its names of keys that have a code
 pub appeared_marks : (program : Program) → (with_items none_appeared (source_items program)).marks ≡ (names_of program).marks
 unfolding names_of
 appeared_marks program = marks_apart none_appeared (source_items program) ∙ marks_distinct [] (flat_map mark_names (source_items program))

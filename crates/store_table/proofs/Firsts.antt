@@ -16,7 +16,7 @@ use Rattle.std.proofs.lemmas.List.{map-append}
 use Rattle.rule_model.specs.declared.program.GroupDef.{GroupDef}
 use Rattle.store_table.specs.Names.{store_names, group_names}
 
--- the earlier of three
+-- the earliest of three refusals
 pub earlier_later : (a b c : Option Refusal) → earlier (earlier a b) c ≡ earlier a (earlier b c)
 earlier_later None b c = refl
 earlier_later (Some a) None c = refl
@@ -53,7 +53,7 @@ pub first_code_append : {X : Type 0} (code : X → Option Code) (xs ys : List X)
 first_code_append code [] ys = refl
 first_code_append code (x ∷ xs) ys = ap (option_or (code x)) (first_code_append code xs ys) ∙ sym (or_else_later (code x) (first_code code xs) (first_code code ys))
 
--- the first so far with one statement more
+-- the first refusal so far with another statement
 pub first_kept : {X : Type 0} (f : List X → X → Option Refusal) (xs : List X) (i : ℕ) (x : X) (best found : Option Refusal) → i < length xs → x ≡ get_or xs i x → found ≡ f (take i xs) x
     → earlier (earlier best found) (first_of f (take (i + 1) xs) (drop (i + 1) xs)) ≡ earlier best (first_of f (take i xs) (drop i xs))
 first_kept f xs i x best found h e is =

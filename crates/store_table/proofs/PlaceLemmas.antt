@@ -1,4 +1,4 @@
--- The entries of a table of names: where a name stands, and how one is appended.
+-- The entries of a table of names: the index of a name, and how a name is appended.
 use Rattle.std.proofs.Common.{◌≡◌, ℕ, ◌+◌, ◌<◌, ◌≤◌, Bool, true, false, not, cond, eqb, nat_lt, List, [], ◌∷◌, ◌++◌, length, length-append, Option, Some, None, Vec, refl, sym, ap, subst, get_or, ◌∙◌, true≢false, arith}
 use Rattle.std.proofs.lemmas.Bool.Decides.{nat_tests}
 use Rattle.std.proofs.lemmas.List.{map-append, length-map}
@@ -19,7 +19,7 @@ use Rattle.std.specs.Option.{option_or}
 use Rattle.std.proofs.lemmas.List.{drop_more}
 use Rattle.virtual_keys.proofs.NamePlaces.{position_cons}
 
--- a place that there may be, counted from further on
+-- an optional index, counted from n
 abbrev pub place_behind : ℕ → Option ℕ → Option ℕ
 place_behind n None = None
 place_behind n (Some place) = Some (n + place)
@@ -28,7 +28,7 @@ pushed : (a b n m : ℕ) (passes : Bool) → a ≤ n → b ≡ cond (eqb a n) (n
     → cond (nat_lt b m) (Some b) None ≡ option_or (cond (nat_lt a n) (Some a) None) (cond passes (Some n) None)
 pushed a b n m passes near here more = grind (arith, nat_tests)
 
--- a place in a list with one more item
+-- the index in a list with another item
 pub position_push : {X : Type 0} (p : X → Bool) (xs : List X) (y : X) → position p (xs ++ y ∷ []) ≡ option_or (position p xs) (cond (p y) (Some (length xs)) None)
 position_push p xs y =
     pushed (position_or_len p xs) (position_or_len p (xs ++ y ∷ [])) (length xs) (length (xs ++ y ∷ [])) (p y)
@@ -38,7 +38,7 @@ found_later : {V : Type 0} (here : Bool) (v : V) (all some more : Option V) → 
 found_later true v all some more h = refl
 found_later false v all some more h = h
 
--- what is found among entries with one more
+-- a look-up among entries with another entry
 pub lookup_push : {K V : Type 0} (test : K → Bool) (es : List (K × V)) (k : K) (v : V) → lookup test (es ++ (k, v) ∷ []) ≡ option_or (lookup test es) (cond (test k) (Some v) None)
 lookup_push test [] k v = refl
 lookup_push test (e ∷ es) k v = found_later (test e.0) e.1 _ _ _ (lookup_push test es k v)
@@ -53,12 +53,12 @@ module _ {A : Type 0} (names : List (List ℕ)) (entries : List (Vec ℕ A × �
   abbrev among : List ℕ → List ℕ → Bool
   among query known = bytes_eq query (str_to_ascii_lowercase known)
 
-  -- the place of a name is found by the name in lower case
+  -- the index of a name is found by the name in lower case
   pub place_found : lookup (λ key. bytes_eq (str_to_ascii_lowercase name) key.items) entries ≡ place_in names name
   unfolding same_name
   place_found = are.found (str_to_ascii_lowercase name)
 
-  -- with a new name
+  -- the entries after a new name is appended
   pub new_are_places : (key : Vec ℕ A) → key.items ≡ str_to_ascii_lowercase name → ArePlaces (names ++ name ∷ []) (entries ++ (key, length names) ∷ [])
   new_are_places key folded = record {
     found = λ query.
@@ -67,7 +67,7 @@ module _ {A : Type 0} (names : List (List ℕ)) (entries : List (Vec ℕ A × �
         ∙ sym (position_push (among query) names name);
   }
 
-  -- with a name that stands there
+  -- the entries after a known name is appended
   pub again_are_places : IsSome (place_in names name) → ArePlaces (names ++ name ∷ []) entries
   unfolding same_name
   again_are_places stands = record {
@@ -86,13 +86,13 @@ not_here : {V X : Type 0} (here : Bool) (v : V) (rest : Option V) (xs ys zs : X)
 not_here true v rest xs ys zs none h = absurd (cc)
 not_here false v rest xs ys zs none h = h none
 
--- a key that isn't found is put last
+-- a new key is inserted last
 insert_last : {A : Type 0} (entries : List (Vec ℕ A × ℕ)) (key : Vec ℕ A) (place : ℕ) → lookup (λ k. bytes_eq key.items k.items) entries ≡ None
     → insert_entry (λ a b. bytes_eq a.items b.items) entries key place ≡ entries ++ (key, place) ∷ []
 insert_last [] key place none = refl
 insert_last (e ∷ entries) key place none = not_here (bytes_eq key.items e.0.items) e.1 (lookup (λ k. bytes_eq key.items k.items) entries) _ _ _ none (λ h. ap (λ es. e ∷ es) (insert_last entries key place h))
 
--- with a new name put into the map behind the others
+-- the entries after a new name is inserted into the map
 pub new_entries : {A : Type 0} (names : List (Vec ℕ A)) (entries : List (Vec ℕ A × ℕ)) (name key : Vec ℕ A) (now : List (Vec ℕ A)) (put : List (Vec ℕ A × ℕ)) (place : ℕ)
     → ArePlaces (written names) entries → place_in (written names) name.items ≡ None → place ≡ length names → key.items ≡ str_to_ascii_lowercase name.items
     → now ≡ names ++ name ∷ [] → put ≡ insert_entry (λ a b. bytes_eq a.items b.items) entries key place → ArePlaces (written now) put

@@ -1,4 +1,4 @@
--- Keys with texts, each text once: what a further key makes of the texts, and where a text stands.
+-- Keys with distinct texts: how an inserted key changes the texts, and the index of a text.
 use Rattle.std.proofs.Common.{◌≡◌, ℕ, Bool, true, false, List, [], ◌∷◌, ◌++◌, map, refl, sym, ap, ◌∙◌, if◌then◌else◌}
 use Rattle.std.specs.Prelude.{position, ◌||◌}
 use Rattle.std.specs.List.{list_any}
@@ -21,13 +21,13 @@ module _ {K : Type 0} (text : K → List ℕ) where
   put_behind true keys key = refl
   put_behind false keys key = map-append text keys (key ∷ [])
 
-  -- a key that is inserted puts its text behind the texts, where it is new
+  -- inserting a key appends its text to the texts if it is new
   pub inserted : (keys : List K) (key : K) → map text (insert_key (λ a b. bytes_eq (text a) (text b)) keys key) ≡ distinct_onto bytes_eq (map text keys) (text key ∷ [])
   inserted keys key =
       put_behind (list_any (λ k. bytes_eq (text key) (text k)) keys) keys key
       ∙ ap (λ known. if known then map text keys else map text keys ++ text key ∷ []) (any_text keys (text key))
 
-  -- the place of a text
+  -- the index of a text
   pub place_by_text : (keys : List K) (x : List ℕ) → position (λ k. bytes_eq x (text k)) keys ≡ position (λ known. bytes_eq known x) (map text keys)
   place_by_text keys x =
       (λ j. position (λ k. same_either_way x (text k) j) keys) ∙ sym (position-map text (λ known. bytes_eq known x) keys)

@@ -1,10 +1,10 @@
--- Which refusal of statements is the first: by line, then by reading order in the line, then by code.
+-- The first refusal of statements: by line, then by reading order in the line, then by code.
 use Rattle.std.specs.Prelude.{ℕ, nat_lt, Bool, if◌then◌else◌, List, [], ◌∷◌, ◌++◌, Option, None, Some, Result, Ok, Err}
 use Rattle.std.specs.Option.{option_or}
 use Rattle.kmn_base.specs.declared.codes.Code.{Code}
 use Rattle.kmn_base.specs.declared.refusals.Refusal.{Refusal}
 
--- of codes that rise, each with whether its rule is broken at one place, the first whose rule is
+-- the first broken rule of a list of codes in rising order, each with whether its rule is broken
 abbrev pub broken : List (Code × Bool) → Option Code
 broken [] = None
 broken (rule ∷ rules) = if rule.1 then Some rule.0 else broken rules
@@ -19,19 +19,19 @@ abbrev pub at_line : ℕ → Option Code → Option Refusal
 at_line line None = None
 at_line line (Some code) = Some (record { line = line; code = code })
 
--- of two refusals that there may be, that of the earlier line
+-- the refusal with the earlier line of two optional refusals
 abbrev pub earlier : Option Refusal → Option Refusal → Option Refusal
 earlier None other = other
 earlier (Some one) None = Some one
 earlier (Some one) (Some other) = if nat_lt other.line one.line then Some other else Some one
 
--- the first refusal of statements of one kind, each looked at with those of its kind that stand before it
+-- the first refusal of statements of one kind; each statement is checked with the statements of its kind that precede it
 abbrev pub first_of : {X : Type 0} → (List X → X → Option Refusal) → List X → List X → Option Refusal
 first_of refusal before [] = None
 first_of refusal before (statement ∷ statements) =
     earlier (refusal before statement) (first_of refusal (before ++ statement ∷ []) statements)
 
--- what is answered for a value that may be refused
+-- a value, or its refusal if there is one
 abbrev pub or_refusal : {A : Type 0} → A → Option Refusal → Result A Refusal
 or_refusal value None = Ok value
 or_refusal value (Some refusal) = Err refusal

@@ -1,4 +1,4 @@
--- What of a program its items and its limits are looked at with.
+-- The facts about a program that its items and its limits are checked with.
 use Rattle.std.specs.Prelude.{ℕ, List, [], ◌∷◌, flat_map}
 use Rattle.kmn_base.specs.declared.items.Element.{Element}
 use Rattle.rule_model.specs.declared.program.SrcItem.{SrcItem}
@@ -22,8 +22,8 @@ option_named item = []
 abbrev pub rule_options : RuleDef → List (List ℕ)
 rule_options rule = flat_map option_named (rule_items rule)
 
--- what a program's items are looked at with: the names of its deadkeys and keys, its stores with their elements, the names
--- of its options, and the codes of its cased keys
+-- the facts that a program's items are checked with: the names of its deadkeys and keys, its stores with their elements, the names of
+-- its options, and the codes of its cased keys
 pub record Known : Type 0 where
   pub names : SourceNames
   pub stores : List Store
@@ -39,7 +39,7 @@ known program =
       cased = cased_keys program;
     }
 
--- the elements that an item of a store stands for, and those of all items of a store statement
+-- the elements that an item of a store denotes, and the elements of all items of a store statement
 abbrev pub brought : Known → SrcItem → List Element
 brought known item = item_elements known.names known.stores item
 

@@ -1,4 +1,4 @@
--- What of a program's names is refused: what is stated twice, and what is named and not stated.
+-- The refusals for a program's names: names that are defined twice, and names that are used and not defined.
 use Rattle.std.specs.Prelude.{ℕ, Bool, false, not, ◌&&◌, nat_eq, if◌then◌else◌, List, [], ◌∷◌, map, flat_map, is_some, Option}
 use Rattle.std.specs.List.{list_any}
 use Rattle.std.specs.Option.{option_or}
@@ -20,12 +20,12 @@ use Rattle.rule_model.specs.Src.{is_unicode, is_on_match, is_on_nomatch}
 use Rattle.store_table.specs.declared.stating.Stated.{Stated}
 use Rattle.store_table.specs.First.{broken, first_code, at_line, earlier, first_of}
 
--- a name is among others
+-- whether a name is among others
 unfoldable pub is_named : List (List ℕ) → List ℕ → Bool
 is_named names name = is_some (place_in names name)
 
--- the names of stores in their order, without those that are read and dropped; that of a system store is empty, as the
--- name of no item is
+-- the names of stores in order, without those that are read and dropped; the name of a system store is empty, which is not the name of
+-- any item
 abbrev pub kept_name : StoreDef → List (List ℕ)
 kept_name store = if is_dropped store then [] else store.name ∷ []
 
@@ -35,7 +35,7 @@ store_names stores = flat_map kept_name stores
 abbrev pub group_names : List GroupDef → List (List ℕ)
 group_names groups = map (λ (group : GroupDef). group.name) groups
 
--- the names of all stores and groups that a program states
+-- the names of all stores and groups that a program defines
 abbrev pub stated : Program → Stated
 stated program = record { stores = store_names program.stores; groups = group_names program.groups }
 
@@ -62,7 +62,7 @@ abbrev pub group_named : SrcItem → List (List ℕ)
 group_named (source.Enter group) = group ∷ []
 group_named item = []
 
--- one of these names isn't among those that are stated
+-- whether one of some names is not among those that are defined
 abbrev pub lacks : List (List ℕ) → List (List ℕ) → Bool
 lacks stated [] = false
 lacks stated (name ∷ names) = not (is_named stated name)
@@ -70,34 +70,34 @@ lacks stated (name ∷ names) = not (is_named stated name)
 abbrev pub is_ansi : BeginDef → Bool
 is_ansi start = not (is_unicode start)
 
--- C02: a begin of the same kind is stated before
+-- C02: an earlier begin has the same kind
 abbrev pub is_begun : List BeginDef → BeginDef → Bool
 is_begun before start = if start.unicode then list_any is_unicode before else list_any is_ansi before
 
--- C03: a store name, system names apart, is among the names stated before
+-- C03: the name of an ordinary store is among the names defined before
 abbrev pub is_store_again : List (List ℕ) → StoreDef → Bool
 is_store_again before store = nat_eq store.system 0 && is_named before store.name
 
--- C04: a group name is among those stated before
+-- C04: the name of a group is among those defined before
 abbrev pub is_group_again : List (List ℕ) → GroupDef → Bool
 is_group_again before group = is_named before group.name
 
--- C05: a store name is nowhere stated
+-- C05: no statement defines a store name
 abbrev pub names_no_store : Stated → SrcItem → Bool
 names_no_store stated item = lacks stated.stores (store_named item)
 
--- C06: a group name is nowhere stated
+-- C06: no statement defines a group name
 abbrev pub names_no_group : Stated → SrcItem → Bool
 names_no_group stated item = lacks stated.groups (group_named item)
 
 abbrev pub begins_no_group : Stated → BeginDef → Bool
 begins_no_group stated start = not (is_named stated.groups start.group)
 
--- C07: in a store statement, `outs` or `$` of a store that isn't among those stated before it
+-- C07: `outs` or `$` in a store statement names a store that no earlier statement defines
 abbrev pub puts_later_store : List (List ℕ) → SrcItem → Bool
 puts_later_store before item = lacks before (store_put item)
 
--- whether a statement is the second of its kind, behind statements of which some are match and some nomatch
+-- whether a statement is the second match or nomatch, given whether there is a match and whether there is a nomatch before it
 abbrev pub is_second : Bool → Bool → RuleKind → Bool
 is_second matched unmatched kind.Plain = false
 is_second matched unmatched kind.OnMatch = matched
@@ -107,14 +107,14 @@ is_second matched unmatched kind.OnNoMatch = unmatched
 abbrev pub is_again : List RuleDef → RuleDef → Bool
 is_again before rule = is_second (list_any is_on_match before) (list_any is_on_nomatch before) rule.kind
 
--- a begin statement, which may be the second of its kind
+-- the code of a begin statement, which may be the second of its kind
 abbrev pub begin_code : Stated → Bool → BeginDef → Option Code
 begin_code stated again start = broken ((C02, again) ∷ (C06, begins_no_group stated start) ∷ [])
 
 abbrev pub begin_refusal : Stated → List BeginDef → BeginDef → Option Refusal
 begin_refusal stated before start = at_line start.line (begin_code stated (is_begun before start) start)
 
--- a store statement behind stores of these names: its name, then its items
+-- the code of a store statement after stores with these names: its name is checked first, then its items
 abbrev pub store_item_code : Stated → List (List ℕ) → SrcItem → Option Code
 store_item_code stated before item =
     broken ((C05, names_no_store stated item) ∷ (C07, puts_later_store before item) ∷ [])
@@ -126,14 +126,15 @@ store_code stated before store =
 abbrev pub store_refusal : Stated → List StoreDef → StoreDef → Option Refusal
 store_refusal stated before store = at_line store.line (store_code stated (store_names before) store)
 
--- a group statement behind groups of these names
+-- the code of a group statement after groups with these names
 abbrev pub group_code : List (List ℕ) → GroupDef → Option Code
 group_code before group = broken ((C04, is_group_again before group) ∷ [])
 
 abbrev pub group_refusal : List GroupDef → GroupDef → Option Refusal
 group_refusal before group = at_line group.line (group_code (group_names before) group)
 
--- a rule, match or nomatch statement, which may be the second of its kind in its group: its kind, then its items
+-- the code of a rule, match or nomatch statement, which may be the second of its kind in its group: its kind is checked first, then its
+-- items
 abbrev pub rule_item_code : Stated → SrcItem → Option Code
 rule_item_code stated item = broken ((C05, names_no_store stated item) ∷ (C06, names_no_group stated item) ∷ [])
 
@@ -145,11 +146,11 @@ abbrev pub rule_refusal : Stated → List RuleDef → RuleDef → Option Refusal
 rule_refusal stated before rule =
     at_line rule.line (rule_code stated (is_again before rule) rule)
 
--- the statements of a group
+-- the first refusal of the statements of a group
 abbrev pub rules_refusal : Stated → List GroupDef → GroupDef → Option Refusal
 rules_refusal stated before group = first_of (rule_refusal stated) [] group.rules
 
--- the first refusal for names, of all statements
+-- the first refusal for names among all statements
 unfoldable pub names_refusal : Program → Option Refusal
 names_refusal program =
     earlier (first_of (begin_refusal (stated program)) [] program.begins)

@@ -1,14 +1,14 @@
--- The entries of a table of names: each name in lower case, with the place at which it first stands.
+-- The entries of a table of names: each name in lower case, with its first index.
 use Rattle.std.specs.Prelude.{◌≡◌, ℕ, ◌+◌, List, map, Vec, Option, Some, None}
 use Rattle.std.specs.Str.{str_to_ascii_lowercase, bytes_eq}
 use Rattle.std.specs.List.{position}
 use Rattle.std.specs.Map.{lookup}
 
--- the names as they were appended
+-- the names as appended
 abbrev pub written : {A : Type 0} → List (Vec ℕ A) → List (List ℕ)
 written names = map (λ name. name.items) names
 
--- a name in lower case is found among the entries where it is found among the names
+-- the entries have a name in lower case exactly where the names have the name, with the same index
 pub record ArePlaces {A : Type 0} (names : List (List ℕ)) (entries : List (Vec ℕ A × ℕ)) : Type 0 where
   pub found :
       (query : List ℕ)

@@ -20,7 +20,7 @@ pub struct Appeared {
     pub keys: KeyDictionary,
 }
 
-/// Adds the name of a key while there is a code.
+/// Adds the name of a key, if there is a code left. Errors: `Memory` if an allocation fails.
 fn add_key(keys: &mut KeyDictionary, name: &[u8]) -> Result<(), Memory>
     ensures { OnOk result (keys.new ≡ with_key keys.old name.now) }
 {
@@ -30,7 +30,7 @@ fn add_key(keys: &mut KeyDictionary, name: &[u8]) -> Result<(), Memory>
     Ok(())
 }
 
-/// Adds what an item names.
+/// Adds the names in an item.
 fn add_item(appeared: &mut Appeared, item: &SrcItem) -> Result<(), Memory>
     ensures { OnOk result (appeared.new ≡ with_item appeared.old item.now) }
 {
@@ -47,7 +47,7 @@ fn add_item(appeared: &mut Appeared, item: &SrcItem) -> Result<(), Memory>
     }
 }
 
-/// Adds what items name.
+/// Adds the names in items.
 fn add_items(appeared: &mut Appeared, items: &[SrcItem]) -> Result<(), Memory>
     ensures { OnOk result (appeared.new ≡ with_items appeared.old items.now) }
 {
@@ -57,7 +57,7 @@ fn add_items(appeared: &mut Appeared, items: &[SrcItem]) -> Result<(), Memory>
     Ok(())
 }
 
-/// Adds what the key of a rule names.
+/// Adds the names in the key of a rule.
 fn add_rule_key(appeared: &mut Appeared, key: &Option<SrcItem>) -> Result<(), Memory>
     ensures { OnOk result (appeared.new ≡ with_items appeared.old (option_to_list key.now)) }
 {
@@ -67,7 +67,7 @@ fn add_rule_key(appeared: &mut Appeared, key: &Option<SrcItem>) -> Result<(), Me
     }
 }
 
-/// Adds what the items of a rule name.
+/// Adds the names in the items of a rule.
 #[tactic(auto, using(crate::proofs::ByAppearance::items_append))]
 fn add_rule(appeared: &mut Appeared, rule: &RuleDef) -> Result<(), Memory>
     ensures { OnOk result (appeared.new ≡ with_items appeared.old (rule_items rule.now)) }
@@ -77,7 +77,7 @@ fn add_rule(appeared: &mut Appeared, rule: &RuleDef) -> Result<(), Memory>
     add_items(appeared, rule.output.as_slice())
 }
 
-/// Adds what the items of stores name.
+/// Adds the names in the items of stores.
 #[tactic(auto, using(crate::proofs::ByAppearance::next_store))]
 fn add_stores(appeared: &mut Appeared, stores: &[StoreDef]) -> Result<(), Memory>
     ensures { OnOk result (appeared.new ≡ with_items appeared.old (store_items stores.now)) }
@@ -88,7 +88,7 @@ fn add_stores(appeared: &mut Appeared, stores: &[StoreDef]) -> Result<(), Memory
     Ok(())
 }
 
-/// Adds what the stores before a line name, and hands on the others.
+/// Adds the names in the stores before a line, and returns the other stores.
 fn add_before<'a>(
     appeared: &mut Appeared,
     stores: &'a [StoreDef],
@@ -102,7 +102,7 @@ fn add_before<'a>(
     Ok(others)
 }
 
-/// Adds what the rules of a group name, each behind the stores before it, and hands on the other stores.
+/// Adds the names in the rules of a group, each after the stores before it, and returns the other stores.
 #[tactic(auto, using(crate::proofs::ByAppearance::next_rule))]
 fn add_group<'a>(
     appeared: &mut Appeared,
@@ -119,7 +119,7 @@ fn add_group<'a>(
     Ok(waiting)
 }
 
-/// Adds what all statements name.
+/// Adds the names in all statements.
 fn add_all(appeared: &mut Appeared, stores: &[StoreDef], groups: &[GroupDef]) -> Result<(), Memory>
     ensures { OnOk result (appeared.new ≡ with_items appeared.old (items_from stores.now (flat_map (λ (group : GroupDef). group.rules) groups.now))) }
 {
@@ -130,7 +130,7 @@ fn add_all(appeared: &mut Appeared, stores: &[StoreDef], groups: &[GroupDef]) ->
     add_stores(appeared, waiting)
 }
 
-/// The names of marks and keys that appear in a program.
+/// Returns the names of marks and keys that appear in a program. Errors: `Memory` if an allocation fails.
 pub fn appeared_names(alloc: Global, program: &Program) -> Result<Appeared, Memory>
     ensures { IfOk result (λ appeared. appeared ≡ with_items none_appeared (source_items program.now)) }
 {

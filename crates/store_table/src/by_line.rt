@@ -7,7 +7,7 @@ ghost use Rattle.rule_model.specs.Naming.{stores_after, stores_before};
 
 use rule_model::StoreDef;
 
-/// How many of stores stand before a line.
+/// Returns the number of stores that precede a line.
 fn count_before(stores: &[StoreDef], line: u32) -> usize
     ensures is { result ≡ prefix_len (λ (store : StoreDef). nat_lt store.line line) stores.now }
     ensures within { result ≤ length stores.now }
@@ -20,7 +20,7 @@ fn count_before(stores: &[StoreDef], line: u32) -> usize
     stores.len()
 }
 
-/// The stores that stand before a line, and the others.
+/// Returns the stores that precede a line, and the others.
 pub fn parted_by_line(stores: &[StoreDef], line: u32) -> (&[StoreDef], &[StoreDef])
     ensures before { result.0.now ≡ stores_before line stores.now }
     ensures others { result.1.now ≡ stores_after line stores.now }

@@ -1,11 +1,11 @@
-//! The earlier of refusals.
+//! The earlier of two refusals.
 
 ghost use Rattle.std.specs.Prelude.{◌≡◌};
 ghost use Rattle.store_table.specs.First.{at_line, earlier};
 
 use kmn_base::{Code, Refusal};
 
-/// Of two refusals that there may be, that of the earlier line.
+/// Returns the refusal with the earlier line of two optional refusals.
 pub fn earlier(one: Option<Refusal>, other: Option<Refusal>) -> Option<Refusal>
     ensures { result ≡ earlier one other }
 {
@@ -16,7 +16,7 @@ pub fn earlier(one: Option<Refusal>, other: Option<Refusal>) -> Option<Refusal>
     }
 }
 
-/// The refusal of a statement that breaks a rule, at its line.
+/// Returns the refusal of a statement that breaks a rule, at its line.
 pub fn at_line(line: u32, code: Option<Code>) -> Option<Refusal>
     ensures { result ≡ at_line line code }
 {

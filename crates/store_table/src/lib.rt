@@ -1,12 +1,12 @@
-//! The names of a program: what of them is refused, and which numbers they get in the file.
+//! Checks the names of a program and numbers them as in its file.
 //!
-//! It stands on `kmn_base`, `virtual_keys`, `rule_model` and `indexmap`. `specs/Names` says which refusal for names is
-//! the first (`names_refusal`), by the words of `specs/First`, and `specs/Numbering` which numbers names get. The layer
-//! above calls `number`, which answers `numbered` of a program, and looks names up in the `Names` that it gives. The
-//! checkers above say their own refusals by the words of `specs/First` too, take `earlier` and `at_line` for them, and look
-//! at a program with what is `known` of it (`specs/Known`). `parted_by_line` gives the stores that stand before a statement to
-//! those who walk over a program line by line. A layer above that looks up names of its own puts them in a `NameTable`: contracts
-//! see the list of them, in which it finds the first place of a name without ASCII case.
+//! Depends on `kmn_base`, `virtual_keys`, `rule_model` and `indexmap`. `specs/Names` defines the first refusal for names
+//! (`names_refusal`) with the terms of `specs/First`, and `specs/Numbering` defines the numbers of names. The layer above calls
+//! `number`, which returns `numbered` of a program, and looks names up in the resulting `Names`. The checkers above also state
+//! their own refusals with the terms of `specs/First`, use `earlier` and `at_line` for them, and check a program with what is
+//! `known` of it (`specs/Known`). `parted_by_line` returns the stores that precede a statement to callers that scan a program
+//! line by line. A layer above that looks up its own names stores them in a `NameTable`: contracts model it as their list, in
+//! which it finds the first index of a name without ASCII case.
 #![tactic(auto)]
 
 mod appearing;

@@ -11,19 +11,19 @@ use kmn_base::names::{in_lower_case, same_name};
 use std::alloc::Global;
 use std::marker::Model;
 
-/// Names of at most so many bytes, as all of 80 characters are, are looked up by hash. A longer one is compared with
-/// each, since a look-up takes no memory and so folds a name in a buffer.
+/// Names of at most this many bytes, as all names of 80 characters are, are looked up by hash. A longer name is compared with
+/// each name, since a look-up does not allocate and so folds a name in a buffer.
 const HASHED_BYTES: usize = 320;
 
-/// A list of names in which a name is found without ASCII case. Contracts see it as the list of the names as they were
-/// appended, with those that come again.
+/// A list of names in which a name is found without ASCII case. Contracts model it as the list of the names as appended,
+/// including repeated names.
 pub struct NameTable {
     alloc: Global,
     names: Vec<Vec<u8>>,
     places: IndexMap<Vec<u8>, usize>,
 }
 
-/// One call in proofs, where a derived drop is written out in each exit.
+/// One call in proofs. A derived drop would be written out in each exit.
 impl Drop for NameTable {
     fn drop(self) {
         let NameTable {
@@ -46,7 +46,7 @@ impl Model for NameTable {
 }
 
 impl NameTable {
-    /// A table without names.
+    /// Creates a table without names.
     pub fn new(alloc: Global) -> NameTable
         ensures { result ≡ [] }
     {
@@ -57,7 +57,7 @@ impl NameTable {
         }
     }
 
-    /// Appends a name, or nothing for want of memory.
+    /// Appends a name. Errors: `Memory` if an allocation fails; the table is then unchanged.
     pub fn push(&mut self, name: &[u8]) -> Result<(), Memory>
         ensures { MatchResult result (λ _. self.new ≡ self.old ++ name.now ∷ []) (λ _. self.new ≡ self.old) }
     {
@@ -68,7 +68,7 @@ impl NameTable {
         }
     }
 
-    /// Appends a name where it is new.
+    /// Appends a name if it is new. Errors: `Memory` if an allocation fails.
     #[tactic(auto, unfolding(crate::specs::Names::is_named))]
     pub fn add_new(&mut self, name: &[u8]) -> Result<(), Memory>
         ensures { OnOk result (self.new ≡ with_name self.old name.now) }
@@ -80,14 +80,14 @@ impl NameTable {
         }
     }
 
-    /// How many names were appended.
+    /// Returns the number of names that were appended.
     pub fn len(&self) -> usize
         ensures { result ≡ length self.now }
     {
         self.names.len()
     }
 
-    /// Whether a name is one of the table's.
+    /// Returns whether the table contains a name.
     #[tactic(auto, unfolding(crate::specs::Names::is_named))]
     pub fn has(&self, name: &[u8]) -> bool
         ensures { result ≡ is_named self.now name.now }
@@ -95,7 +95,7 @@ impl NameTable {
         self.place_of(name).is_some()
     }
 
-    /// The place at which a name first stands.
+    /// Returns the first index of a name.
     pub fn place_of(&self, name: &[u8]) -> Option<usize>
         ensures { result ≡ place_in self.now name.now }
     {
@@ -106,7 +106,7 @@ impl NameTable {
         }
     }
 
-    /// Appends a name that stands in the table.
+    /// Appends a name that the table already contains. Errors: `Memory` if an allocation fails; the table is then unchanged.
     #[tactic(auto, using(crate::proofs::PlaceLemmas::again_are_places, crate::proofs::PlaceLemmas::written_push))]
     fn push_again(&mut self, name: Vec<u8>) -> Result<(), Memory>
         requires { IsSome (place_in self.old name.items) }
@@ -116,7 +116,7 @@ impl NameTable {
         Ok(())
     }
 
-    /// Appends a new name.
+    /// Appends a new name. Errors: `Memory` if an allocation fails; the table is then unchanged.
     fn push_new(&mut self, name: Vec<u8>) -> Result<(), Memory>
         requires { place_in self.old name.items ≡ None }
         ensures { MatchResult result (λ _. self.new ≡ self.old ++ name.items ∷ []) (λ _. self.new ≡ self.old) }
@@ -134,7 +134,7 @@ impl NameTable {
     }
 }
 
-/// The place of a name of any length, by comparing.
+/// Returns the first index of a name of any length, by comparing.
 #[tactic(auto, using(crate::proofs::PlaceLemmas::place_next, crate::proofs::PlaceLemmas::place_from_start))]
 fn compared_place(names: &[Vec<u8>], name: &[u8]) -> Option<usize>
     ensures { result ≡ place_in (written names.now) name.now }
@@ -147,7 +147,7 @@ fn compared_place(names: &[Vec<u8>], name: &[u8]) -> Option<usize>
     None
 }
 
-/// The place of a name that fits a buffer, by the hash of the name in lower case.
+/// Returns the first index of a name that fits in a buffer, by the hash of the name in lower case.
 fn hashed_place(places: &IndexMap<Vec<u8>, usize>, name: &[u8]) -> Option<usize>
     requires { length name.now ≤ HASHED_BYTES }
     ensures { result ≡ lookup (λ key. bytes_eq (str_to_ascii_lowercase name.now) key.items) places.now.entries }

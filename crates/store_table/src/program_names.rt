@@ -12,8 +12,7 @@ use std::alloc::Global;
 use std::marker::Model;
 use virtual_keys::KeyDictionary;
 
-/// The names of a program, which are found without ASCII case. Contracts see them as lists, each in the order of its
-/// numbers.
+/// The names of a program, which are found without ASCII case. Contracts model them as lists, each in the order of its numbers.
 pub struct Names {
     stores: NameTable,
     groups: NameTable,
@@ -21,7 +20,7 @@ pub struct Names {
     keys: KeyDictionary,
 }
 
-/// One call in proofs, where a derived drop is written out in each exit.
+/// One call in proofs. A derived drop would be written out in each exit.
 impl Drop for Names {
     fn drop(self) {
         let Names {
@@ -42,8 +41,8 @@ impl Model for Names {
 }
 
 impl Names {
-    /// The number in the file of the first store of a name, from 0. Statements that are read and dropped are no stores, and
-    /// system stores have no name.
+    /// Returns the number in the file of the first store with a name, from 0. Statements that are read and dropped are not
+    /// stores, and system stores have no name.
     pub fn store(&self, name: &[u8]) -> Option<u32>
         ensures { result ≡ named_store self.now.stores name.now }
     {
@@ -53,21 +52,21 @@ impl Names {
         number_in(&self.stores, name)
     }
 
-    /// The number in the file of the first system store, from 0.
+    /// Returns the number in the file of the first system store, from 0.
     pub fn system_store(&self) -> Option<u32>
         ensures { result ≡ number_in self.now.stores [] }
     {
         number_in(&self.stores, b"")
     }
 
-    /// The number in the file of the first group of a name, from 0.
+    /// Returns the number in the file of the first group with a name, from 0.
     pub fn group(&self, name: &[u8]) -> Option<u32>
         ensures { result ≡ number_in self.now.groups name.now }
     {
         number_in(&self.groups, name)
     }
 
-    /// The number of a mark, from 1. Names past the 65,535th have none.
+    /// Returns the number of a mark (a deadkey in the item list), from 1. Names past the 65,535th have none.
     pub fn mark(&self, name: &[u8]) -> Option<u16>
         ensures { result ≡ mark_in self.now.marks name.now }
     {
@@ -75,7 +74,7 @@ impl Names {
         u16::try_from(place).ok()?.checked_add(1)
     }
 
-    /// The first 65,280 names of keys, with their codes.
+    /// Returns the first 65,280 names of keys, with their codes.
     pub fn keys(&self) -> &KeyDictionary
         ensures { result.now ≡ self.now.keys }
     {
@@ -83,7 +82,7 @@ impl Names {
     }
 }
 
-/// The place of the first name of a table that is the same, where it has 32 bits.
+/// Returns the index of the first name of a table that is the same, if it has 32 bits.
 fn number_in(names: &NameTable, name: &[u8]) -> Option<u32>
     ensures { result ≡ number_in names.now name.now }
 {
@@ -91,7 +90,7 @@ fn number_in(names: &NameTable, name: &[u8]) -> Option<u32>
     u32::try_from(place).ok()
 }
 
-/// The names of a program, or its first refusal for names: C02 to C07 and C15.
+/// Returns the names of a program. Errors: its first refusal for names, C02 to C07 and C15; `Memory` if an allocation fails.
 pub fn number(alloc: Global, program: &Program) -> Result<Names, CompileError>
     ensures { Answers (numbered program.now) result }
 {

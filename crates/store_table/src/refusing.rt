@@ -1,4 +1,4 @@
-//! What of a program's names is refused.
+//! The refusals for a program's names.
 
 ghost use Rattle.std.specs.Prelude.{◌≡◌, IfOk, [], ◌||◌, option_to_list, if◌then◌else◌};
 ghost use Rattle.rule_model.specs.Src.{is_on_match, is_on_nomatch};
@@ -12,7 +12,7 @@ use kmn_base::{Code, Memory, Refusal};
 use rule_model::{BeginDef, GroupDef, Program, RuleDef, RuleKind, SrcItem, StoreDef};
 use std::alloc::Global;
 
-/// Whether an item names a store that isn't among these.
+/// Returns whether an item names a store that is not among these.
 fn names_no_store(stores: &NameTable, item: &SrcItem) -> bool
     ensures { result ≡ lacks stores.now (store_named item.now) }
 {
@@ -30,7 +30,7 @@ fn names_no_store(stores: &NameTable, item: &SrcItem) -> bool
     }
 }
 
-/// Whether an item puts a store that isn't among these.
+/// Returns whether an `outs` or `$` item names a store that isn't among these.
 fn puts_later_store(before: &NameTable, item: &SrcItem) -> bool
     ensures { result ≡ puts_later_store before.now item.now }
 {
@@ -40,7 +40,7 @@ fn puts_later_store(before: &NameTable, item: &SrcItem) -> bool
     }
 }
 
-/// Whether an item names a group that isn't among these.
+/// Returns whether an item names a group that is not among these.
 fn names_no_group(groups: &NameTable, item: &SrcItem) -> bool
     ensures { result ≡ lacks groups.now (group_named item.now) }
 {
@@ -50,7 +50,7 @@ fn names_no_group(groups: &NameTable, item: &SrcItem) -> bool
     }
 }
 
-/// What an item of a store breaks, behind stores of these names.
+/// Returns the rule that an item of a store breaks, after stores with these names.
 fn store_item_code(stated: &Stated, before: &NameTable, item: &SrcItem) -> Option<Code>
     ensures { result ≡ store_item_code stated.now before.now item.now }
 {
@@ -65,7 +65,7 @@ fn store_item_code(stated: &Stated, before: &NameTable, item: &SrcItem) -> Optio
     }
 }
 
-/// The first code of the items of a store.
+/// Returns the first code of the items of a store.
 fn store_items_code(stated: &Stated, before: &NameTable, items: &[SrcItem]) -> Option<Code>
     ensures { result ≡ first_code (store_item_code stated.now before.now) items.now }
 {
@@ -78,14 +78,14 @@ fn store_items_code(stated: &Stated, before: &NameTable, items: &[SrcItem]) -> O
     None
 }
 
-/// Whether the name of an ordinary store is among those before it.
+/// Returns whether the name of an ordinary store is among those before it.
 fn is_store_again(before: &NameTable, store: &StoreDef) -> bool
     ensures { result ≡ is_store_again before.now store.now }
 {
     store.system == 0 && before.has(store.name.as_slice())
 }
 
-/// What a store statement breaks, behind stores of these names.
+/// Returns the rule that a store statement breaks, after stores with these names.
 fn store_code(stated: &Stated, before: &NameTable, store: &StoreDef) -> Option<Code>
     ensures { result ≡ store_code stated.now before.now store.now }
 {
@@ -96,7 +96,7 @@ fn store_code(stated: &Stated, before: &NameTable, store: &StoreDef) -> Option<C
     }
 }
 
-/// The first refusal of store statements.
+/// Returns the first refusal of store statements. Errors: `Memory` if an allocation fails.
 #[tactic(auto, using(crate::proofs::Firsts::first_kept, crate::proofs::Firsts::names_step))]
 fn stores_refusal(
     alloc: Global,
@@ -115,7 +115,7 @@ fn stores_refusal(
     Ok(first)
 }
 
-/// What a group statement breaks, behind groups of these names.
+/// Returns the rule that a group statement breaks, after groups with these names.
 fn group_code(before: &NameTable, group: &GroupDef) -> Option<Code>
     ensures { result ≡ group_code before.now group.now }
 {
@@ -126,7 +126,7 @@ fn group_code(before: &NameTable, group: &GroupDef) -> Option<Code>
     }
 }
 
-/// The first refusal of group statements.
+/// Returns the first refusal of group statements. Errors: `Memory` if an allocation fails.
 #[tactic(auto, using(crate::proofs::Firsts::first_kept, crate::proofs::Firsts::groups_step))]
 fn groups_refusal(alloc: Global, groups: &[GroupDef]) -> Result<Option<Refusal>, Memory>
     ensures { IfOk result (λ refusal. refusal ≡ first_of group_refusal [] groups.now) }
@@ -141,21 +141,21 @@ fn groups_refusal(alloc: Global, groups: &[GroupDef]) -> Result<Option<Refusal>,
     Ok(first)
 }
 
-/// Whether one of two holds.
+/// Returns whether one of two conditions is true.
 fn either(one: bool, other: bool) -> bool
     ensures { result ≡ (one || other) }
 {
     one || other
 }
 
-/// Whether a begin statement is of a kind that stands before it.
+/// Returns whether an earlier begin statement has the same kind.
 fn is_begun(start: &BeginDef, unicode: bool, ansi: bool) -> bool
     ensures { result ≡ (if start.now.unicode then unicode else ansi) }
 {
     if start.unicode { unicode } else { ansi }
 }
 
-/// What a begin statement breaks.
+/// Returns the rule that a begin statement breaks.
 fn begin_code(stated: &Stated, again: bool, start: &BeginDef) -> Option<Code>
     ensures { result ≡ begin_code stated.now again start.now }
 {
@@ -168,7 +168,7 @@ fn begin_code(stated: &Stated, again: bool, start: &BeginDef) -> Option<Code>
     }
 }
 
-/// The first refusal of begin statements.
+/// Returns the first refusal of begin statements.
 #[tactic(auto, using(crate::proofs::Firsts::first_kept, crate::proofs::Firsts::any_step))]
 fn begins_refusal(stated: &Stated, begins: &[BeginDef]) -> Option<Refusal>
     ensures { result ≡ first_of (begin_refusal stated.now) [] begins.now }
@@ -186,7 +186,7 @@ fn begins_refusal(stated: &Stated, begins: &[BeginDef]) -> Option<Refusal>
     first
 }
 
-/// What an item of a rule, match or nomatch statement breaks.
+/// Returns the rule that an item of a rule, match or nomatch statement breaks.
 fn rule_item_code(stated: &Stated, item: &SrcItem) -> Option<Code>
     ensures { result ≡ rule_item_code stated.now item.now }
 {
@@ -199,7 +199,7 @@ fn rule_item_code(stated: &Stated, item: &SrcItem) -> Option<Code>
     }
 }
 
-/// The first code of items of a rule.
+/// Returns the first code of items of a rule.
 fn rule_items_code(stated: &Stated, items: &[SrcItem]) -> Option<Code>
     ensures { result ≡ first_code (rule_item_code stated.now) items.now }
 {
@@ -212,7 +212,7 @@ fn rule_items_code(stated: &Stated, items: &[SrcItem]) -> Option<Code>
     None
 }
 
-/// The code of a key.
+/// Returns the rule that the key of a rule breaks.
 fn rule_key_code(stated: &Stated, key: &Option<SrcItem>) -> Option<Code>
     ensures { result ≡ first_code (rule_item_code stated.now) (option_to_list key.now) }
 {
@@ -222,7 +222,7 @@ fn rule_key_code(stated: &Stated, key: &Option<SrcItem>) -> Option<Code>
     }
 }
 
-/// What a rule, match or nomatch statement breaks.
+/// Returns the rule that a rule, match or nomatch statement breaks.
 #[tactic(auto, using(crate::proofs::Firsts::first_code_append))]
 fn rule_code(stated: &Stated, again: bool, rule: &RuleDef) -> Option<Code>
     ensures { result ≡ rule_code stated.now again rule.now }
@@ -241,7 +241,7 @@ fn rule_code(stated: &Stated, again: bool, rule: &RuleDef) -> Option<Code>
     rule_items_code(stated, rule.output.as_slice())
 }
 
-/// Whether a statement says what a group does after a match.
+/// Returns whether a statement is a match statement.
 fn is_match(rule: &RuleDef) -> bool
     ensures { result ≡ is_on_match rule.now }
 {
@@ -251,7 +251,7 @@ fn is_match(rule: &RuleDef) -> bool
     }
 }
 
-/// Whether a statement says what a group does where nothing matches.
+/// Returns whether a statement is a nomatch statement.
 fn is_nomatch(rule: &RuleDef) -> bool
     ensures { result ≡ is_on_nomatch rule.now }
 {
@@ -261,7 +261,7 @@ fn is_nomatch(rule: &RuleDef) -> bool
     }
 }
 
-/// Whether a statement is the second match or nomatch, behind statements of which some are match and some nomatch.
+/// Returns whether a statement is the second match or nomatch, given whether there is a match and whether there is a nomatch before it.
 fn is_second(rule: &RuleDef, matched: bool, unmatched: bool) -> bool
     ensures { result ≡ is_second matched unmatched rule.now.kind }
 {
@@ -272,7 +272,7 @@ fn is_second(rule: &RuleDef, matched: bool, unmatched: bool) -> bool
     }
 }
 
-/// The first refusal of the statements of a group.
+/// Returns the first refusal of the statements of a group.
 #[tactic(auto, using(crate::proofs::Firsts::first_kept, crate::proofs::Firsts::any_step))]
 fn rules_refusal(stated: &Stated, rules: &[RuleDef]) -> Option<Refusal>
     ensures { result ≡ first_of (rule_refusal stated.now) [] rules.now }
@@ -289,7 +289,7 @@ fn rules_refusal(stated: &Stated, rules: &[RuleDef]) -> Option<Refusal>
     first
 }
 
-/// The first refusal of the statements of all groups.
+/// Returns the first refusal of the statements of all groups.
 #[tactic(auto, using(crate::proofs::Firsts::first_kept))]
 fn all_rules_refusal(stated: &Stated, groups: &[GroupDef]) -> Option<Refusal>
     ensures { result ≡ first_of (rules_refusal stated.now) [] groups.now }
@@ -301,7 +301,7 @@ fn all_rules_refusal(stated: &Stated, groups: &[GroupDef]) -> Option<Refusal>
     first
 }
 
-/// The first refusal for names.
+/// Returns the first refusal for names. Errors: `Memory` if an allocation fails.
 #[tactic(auto, unfolding(crate::specs::Names::names_refusal))]
 pub fn names_refusal(
     alloc: Global,

@@ -1,4 +1,4 @@
-//! The names that a program states.
+//! The names that a program defines.
 
 ghost use Rattle.std.specs.Prelude.{◌≡◌, ◌++◌, [], ◌∷◌, IfOk, OnOk};
 ghost use Rattle.store_table.specs.Names.{group_names, stated, store_names};
@@ -9,7 +9,7 @@ use rule_model::system::DROPPED;
 use rule_model::{GroupDef, Program, StoreDef};
 use std::alloc::Global;
 
-/// The names of all stores and groups that a program states, in their order.
+/// The names of all stores and groups that a program defines, in order.
 #[derive(Drop)]
 pub struct Stated {
     pub stores: NameTable,
@@ -27,7 +27,7 @@ pub fn add_store(names: &mut NameTable, store: &StoreDef) -> Result<(), Memory>
     }
 }
 
-/// The names of stores.
+/// Returns the names of stores. Errors: `Memory` if an allocation fails.
 #[tactic(auto, using(crate::proofs::Firsts::names_step))]
 fn store_names(alloc: Global, stores: &[StoreDef]) -> Result<NameTable, Memory>
     ensures { IfOk result (λ names. names ≡ store_names stores.now) }
@@ -39,7 +39,7 @@ fn store_names(alloc: Global, stores: &[StoreDef]) -> Result<NameTable, Memory>
     Ok(names)
 }
 
-/// The names of groups.
+/// Returns the names of groups. Errors: `Memory` if an allocation fails.
 #[tactic(auto, using(crate::proofs::Firsts::groups_step))]
 fn group_names(alloc: Global, groups: &[GroupDef]) -> Result<NameTable, Memory>
     ensures { IfOk result (λ names. names ≡ group_names groups.now) }
@@ -51,7 +51,7 @@ fn group_names(alloc: Global, groups: &[GroupDef]) -> Result<NameTable, Memory>
     Ok(names)
 }
 
-/// The names that a program states.
+/// Returns the names that a program defines. Errors: `Memory` if an allocation fails.
 pub fn stated_names(alloc: Global, program: &Program) -> Result<Stated, Memory>
     ensures { IfOk result (λ names. names ≡ stated program.now) }
 {
