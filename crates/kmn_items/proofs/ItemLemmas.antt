@@ -12,7 +12,7 @@ use Rattle.kmn_items.specs.declared.syntax.Taken.{Taken}
 use Rattle.kmn_items.specs.TokenTexts.{LineToken, Reads}
 use Rattle.kmn_items.specs.Item.{read_item, read_items, prepend, then_items, last_item}
 
--- tokens that an item has taken are passed over
+-- tokens that an item has used are skipped
 pub items_skip : (place : Where) (seen : Seen) (last skip at : ℕ) (tokens : List LineToken)
     → read_items place seen last skip at tokens ≡ read_items place seen last 0 (at + skip) (drop skip tokens)
 items_skip place seen last zero at [] = refl
@@ -27,7 +27,7 @@ pub prepend_prepend : (first second : List SrcItem) (rest : Result (List SrcItem
 prepend_prepend first second (Ok items) = ap Ok (sym (append_assoc first second items))
 prepend_prepend first second (Err fault) = refl
 
--- behind an item come those that the rest of the tokens have
+-- an item is followed by the items of the remaining tokens
 pub items_step : (place : Where) (seen : Seen) (last at : ℕ) (items : List SrcItem) (tokens : List LineToken) (taken : Taken)
     → 0 < length tokens → read_item place seen last at tokens ≡ Ok taken
     → prepend items (read_items place seen last 0 at tokens)
@@ -42,7 +42,7 @@ items_step place seen last at items (token ∷ tokens) taken some read =
     ∙ prepend_prepend items taken.items (read_items place taken.seen last taken.more (at + 1) tokens)
     ∙ ap (prepend (items ++ taken.items)) rest
 
--- where an item is refused, so are all
+-- if an item is refused, so are all items
 pub items_stop : (place : Where) (seen : Seen) (last at : ℕ) (items : List SrcItem) (tokens : List LineToken) (error : LineError)
     → 0 < length tokens → Reads (read_item place seen last at tokens) (Err error)
     → Reads (prepend items (read_items place seen last 0 at tokens)) (Err error)
@@ -51,13 +51,13 @@ items_stop place seen last at items (token ∷ tokens) Memory some read = tt
 items_stop place seen last at items (token ∷ tokens) (Refused fault) some read =
     ap (λ r. prepend items (then_items r (λ (k : Taken). read_items place k.seen last k.more (at + 1) tokens))) read
 
--- what is answered for an error is what the error says
+-- the result for an error is this error
 pub passed_on : {A : Type 0} (read : Result A TokenRefusal) (error : LineError) (answer : Result A LineError)
     → IsErrAnd answer (λ given. given ≡ error) → Reads read (Err error) → Reads read answer
 passed_on read error (Ok value) is says = absurd is
 passed_on read error (Err given) is says = subst (λ (t : LineError). Reads read (Err t)) (sym is) says
 
--- the item put last
+-- the last item after an item is appended
 pub last_item_push : (none : TokenRefusal) (items : List SrcItem) (item : SrcItem) → last_item none (items ++ item ∷ []) ≡ Ok item
 last_item_push none [] item = refl
 last_item_push none (first ∷ []) item = refl

@@ -1,4 +1,4 @@
--- The items of a section take up its tokens: none is left over, and none is taken twice.
+-- The items of a section use up its tokens: no token is left over, and no token is used twice.
 use Rattle.std.proofs.Common.{◌≡◌, ℕ, zero, suc, ◌+◌, ◌-◌, ◌<◌, ◌≤◌, Bool, true, false, if◌then◌else◌, List, [], ◌∷◌, ◌++◌, map, length, take, drop, Option, None, Some, Result, Ok, Err, refl, ap, subst, arith, length-drop}
 use Rattle.std.specs.Prelude.{flat_map}
 use Rattle.kmn_base.specs.declared.codes.Code.{Code}
@@ -27,7 +27,7 @@ later_none : (at : ℕ) (code : Option Code) (later : Option TokenRefusal) → o
 later_none at None later e = e
 later_none at (Some code) later e = cc
 
--- a form that is not broken has its tokens
+-- if a form is not broken, there are enough tokens
 enough : (last at : ℕ) (slots : List Slot) (tokens : List LineToken) → broken last at slots tokens ≡ None → length slots ≤ length tokens
 enough last at [] tokens e = omega arith
 enough last at (wanted ∷ slots) [] e = cc
@@ -35,7 +35,7 @@ enough last at (wanted ∷ slots) (token ∷ tokens) e =
     let rest = enough last (at + 1) slots tokens (later_none at (slot_fault wanted token) (broken last (at + 1) slots tokens) e) in
     omega (arith, rest)
 
--- an item that is read has fewer tokens behind its first than there are
+-- an item that is read has fewer tokens after its first than there are
 abbrev Fits : ℕ → Result Taken TokenRefusal → Type 0
 Fits n (Ok taken) = taken.more < n
 Fits n (Err found) = Unit {0}
@@ -92,7 +92,7 @@ item_fits place seen last at tokens some =
       | None ↦ form_fits place seen last at first tokens some
     ]
 
--- what is read, if anything, is the items that take up the tokens
+-- if items are read, they use up the tokens
 abbrev Parts : Where → Seen → ℕ → ℕ → List LineToken → Result (List SrcItem) TokenRefusal → Type 0
 Parts place seen last at tokens (Ok items) = (parts : List Taken) × TakesUp place seen last at parts tokens × (flat_map (λ (taken : Taken). taken.items) parts ≡ items)
 Parts place seen last at tokens (Err found) = Unit {0}

@@ -1,4 +1,4 @@
--- A key has room for one item.
+-- A key contains only one item.
 use Rattle.std.proofs.Common.{◌≡◌, ℕ, zero, suc, ◌+◌, ◌≤◌, Bool, true, false, if◌then◌else◌, List, [], ◌∷◌, length, length-append, ◌||◌, nat_lt, refl, arith}
 use Rattle.std.specs.Prelude.{Result, Ok, Err, Option, Some, None}
 use Rattle.std.proofs.lemmas.Bool.Decides.{nat_tests}
@@ -18,21 +18,21 @@ use Rattle.kmn_items.specs.TokenTexts.{LineToken}
 use Rattle.kmn_items.specs.Item.{unseen, formed, read_quoted, read_led, read_item, read_items, prepend, then_items, last_item}
 use Rattle.kmn_items.specs.ItemLaws.{KeysAreOneItem}
 
--- how many items there is room for
+-- the number of items that a key can still contain
 abbrev room : Seen → ℕ
 room seen = if seen.pattern then 0 else 1
 
--- an item, if it is one, fits, and so do those that may come behind it
+-- if an item is read, it fits, and so do those that may follow it
 abbrev ItemFits : Seen → Result Taken TokenRefusal → Type 0
 ItemFits seen (Ok taken) = length taken.items + room taken.seen ≤ room seen
 ItemFits seen (Err fault) = Unit {0}
 
--- items, if they are such, fit
+-- if items are read, they fit
 abbrev ItemsFit : Seen → Result (List SrcItem) TokenRefusal → Type 0
 ItemsFit seen (Ok items) = length items ≤ room seen
 ItemsFit seen (Err fault) = Unit {0}
 
--- one item takes all the room
+-- after one item, a key can contain no more
 formed_fits : (nul : Bool) (fault : Option TokenRefusal) (item : SrcItem) (more : ℕ)
     → ItemFits (record { pattern = false; nul = nul }) (formed fault (record { items = item ∷ []; more = more; seen = record { pattern = true; nul = nul } }))
 formed_fits nul None item more = omega arith

@@ -15,7 +15,7 @@ use Rattle.kmn_items.specs.Words.{is_modifier}
 abbrev pub flag_of : List ℕ → ℕ
 flag_of text = unwrap_or (shift_flag text) 0
 
--- flags with that of one more word
+-- flags with the flag of another word
 abbrev pub with_flag : ℕ → LineToken → ℕ
 with_flag flags token = bit_or flags (flag_of token.text)
 
@@ -23,14 +23,14 @@ with_flag flags token = bit_or flags (flag_of token.text)
 abbrev pub flags_of : List LineToken → ℕ
 flags_of tokens = fold with_flag VIRTUAL_KEY tokens
 
--- a virtual key by its name: the name is kept where the key has no code of its own
+-- a virtual key by its name; the name is kept if it has no code
 abbrev pub named_key : ℕ → List ℕ → KeyName
 named_key flags name = elim (key_code name) [
   | Some code ↦ record { flags = flags; code = code; name = [] }
   | None ↦ record { flags = flags; code = 0; name = name }
 ]
 
--- a virtual key, which is left out of outputs
+-- a virtual key as an item; in an output it is not supported
 abbrev pub key_item : Where → KeyName → SrcItem
 key_item section.Output key = source.OutOfProfile
 key_item other key = source.Key key
@@ -39,6 +39,6 @@ key_item other key = source.Key key
 abbrev pub is_modifier_token : LineToken → Bool
 is_modifier_token token = is_word token.kind && is_modifier token.text
 
--- how many modifiers tokens begin with
+-- the number of modifiers at the beginning of tokens
 abbrev pub modifier_count : List LineToken → ℕ
 modifier_count tokens = prefix_len is_modifier_token tokens

@@ -1,4 +1,4 @@
--- The forms of the items that begin with a word, and what they stand for.
+-- The forms of the items that begin with a word, and the items that they denote.
 use Rattle.std.specs.Prelude.{ℕ, Bool, false, ◌||◌, nat_eq, if◌then◌else◌, List, [], ◌∷◌, drop, slice_get, unwrap_or, option_map, codes, Option, Some, None}
 use Rattle.kmn_base.specs.Names.{named_in}
 use Rattle.rule_model.specs.declared.program.SrcItem.{SrcItem}
@@ -40,23 +40,23 @@ word_slots word.Layer = slot.Lead ∷ slot.Open ∷ slot.Value ∷ slot.Close �
 word_slots word.Platform = slot.Lead ∷ slot.Open ∷ slot.Value ∷ slot.Close ∷ []
 word_slots word.BaseLayout = slot.Lead ∷ slot.Open ∷ slot.Argument ∷ slot.Close ∷ []
 
--- whether the token at a place is `=`
+-- whether the token at an index is `=`
 abbrev pub equal_at : ℕ → List LineToken → Bool
 equal_at place tokens = unwrap_or (option_map (λ (token : LineToken). is_equal token.kind) (slice_get tokens place)) false
 
--- the system options that an item can name, behind `&`, each with its id
+-- the system options that an item can name after `&`, each with its id
 unfoldable pub option_ids : List (List ℕ × ℕ)
 option_ids = (codes "platform", PLATFORM) ∷ (codes "layer", LAYER) ∷ []
 
--- the id of the system option of a name; None for another system store
+-- the id of the system option with a name; None for another system store
 abbrev pub option_id : List ℕ → Option ℕ
 option_id name = named_in option_ids (bare_name name)
 
--- whether an id is that of a system option
+-- whether an id is the id of a system option
 abbrev pub is_option_id : ℕ → Bool
 is_option_id id = nat_eq id PLATFORM || nat_eq id LAYER
 
--- a condition on a system option, which is left out for other system stores
+-- a condition on a system option; other system stores are not supported
 abbrev pub system_condition : Option ℕ → Bool → List ℕ → SrcItem
 system_condition None equal value = source.OutOfProfile
 system_condition (Some id) equal value = if equal then source.SystemEqual id value else source.SystemUnequal id value
@@ -67,21 +67,21 @@ condition name equal value =
     if is_system_name name then system_condition (option_id name) equal value
     else (if equal then source.Equal name value else source.Unequal name value)
 
--- a set of a system option, which is left out but for the layer
+-- a `set` of a system option; only the layer is supported
 abbrev pub system_setting : Option ℕ → List ℕ → SrcItem
 system_setting None value = source.OutOfProfile
 system_setting (Some id) value = if nat_eq id LAYER then source.SetSystem id value else source.OutOfProfile
 
--- a set of a store or of the layer
+-- a `set` of a store or of the layer
 abbrev pub setting : List ℕ → List ℕ → SrcItem
 setting name value = if is_system_name name then system_setting (option_id name) value else source.Set name value
 
--- `layer` sets the layer in an output, and asks for it elsewhere
+-- the item of `layer`: it sets the layer in an output, and is a condition elsewhere
 abbrev pub layer_item : Where → List ℕ → SrcItem
 layer_item section.Output value = source.SetSystem LAYER value
 layer_item place value = source.SystemEqual LAYER value
 
--- the item of a word in a section, of tokens in its form; the word has the place 0
+-- the item of a word in a section, from tokens in its form; the word has the index 0
 abbrev pub word_item : Where → ItemWord → List LineToken → SrcItem
 word_item place word.Dead tokens = source.Dead (text_at 2 tokens)
 word_item place word.Any tokens = source.Any (text_at 2 tokens)

@@ -22,11 +22,11 @@ use Rattle.kmn_items.specs.Standing.{misplaced_code, standing_code, seen_word, s
 use Rattle.kmn_items.specs.Forms.{word_slots, word_item}
 use Rattle.kmn_items.specs.Brackets.{flags_of, named_key, key_item, modifier_count}
 
--- nothing stands before
+-- what a section has seen before its first item
 abbrev pub unseen : Seen
 unseen = record { pattern = false; nul = false }
 
--- whether a word begins an item: a number and a word with `$` do, too
+-- whether a word begins an item; a number and a word with `$` also do
 abbrev pub is_item_word : List ℕ → Bool
 is_item_word text = is_number_word text || is_some (item_word text)
 
@@ -51,7 +51,7 @@ read_quoted place seen at characters =
 abbrev pub one_character : Seen → ℕ → Taken
 one_character seen c = record { items = source.Char c ∷ []; more = 0; seen = seen_count seen 1 }
 
--- the key in brackets, of the tokens behind the first bracket, with so many modifiers
+-- the key in brackets, from the tokens after the opening bracket, with `count` modifiers
 abbrev pub read_bracket : Where → Seen → ℕ → ℕ → ℕ → List LineToken → Result Taken TokenRefusal
 read_bracket place seen last at count tokens =
     formed (broken last (at + 1 + count) (slot.KeyName ∷ slot.KeyEnd ∷ []) (drop count tokens))
@@ -61,7 +61,7 @@ read_bracket place seen last at count tokens =
       seen = seen_count seen 1;
     })
 
--- the item that tokens begin with, by what the first says, where it may stand
+-- the item at the beginning of tokens, by the kind of the first token, if it is allowed there
 abbrev pub read_form : Where → Seen → ℕ → ℕ → Lead → List LineToken → Result Taken TokenRefusal
 read_form place seen last at lead.Characters tokens = read_quoted place seen at (quoted (text_at 0 tokens))
 read_form place seen last at (lead.One c) tokens = Ok (one_character seen c)
@@ -70,29 +70,28 @@ read_form place seen last at lead.Bracket tokens = read_bracket place seen last 
 read_form place seen last at (lead.Wrong code) tokens = Err (fault at code)
 read_form place seen last at lead.Misplaced tokens = Err (fault at (misplaced_code place))
 
--- the item that tokens begin with, or the rule that the first token breaks by its place
+-- the item at the beginning of tokens, or the rule that the first token breaks by its position
 abbrev pub read_led : Where → Seen → ℕ → ℕ → Lead → List LineToken → Result Taken TokenRefusal
 read_led place seen last at lead tokens = elim (standing_code place seen lead) [
   | Some code ↦ Err (fault at code)
   | None ↦ read_form place seen last at lead tokens
 ]
 
--- one item, which tokens begin with: in a section, behind what is seen, from the place `at` of a line with its last
--- token at `last`
+-- one item at the beginning of tokens: in a section, after what was seen, from the index `at` of a line with its last token at `last`
 unfoldable pub read_item : Where → Seen → ℕ → ℕ → List LineToken → Result Taken TokenRefusal
 read_item place seen last at tokens = read_led place seen last at (lead_of tokens) tokens
 
--- items in front of those that are read behind them
+-- the items before those that are read after them
 abbrev pub prepend : List SrcItem → Result (List SrcItem) TokenRefusal → Result (List SrcItem) TokenRefusal
 prepend items (Ok more) = Ok (items ++ more)
 prepend items (Err fault) = Err fault
 
--- an item, then those behind it
+-- an item, followed by the items after it
 abbrev pub then_items : Result Taken TokenRefusal → (Taken → Result (List SrcItem) TokenRefusal) → Result (List SrcItem) TokenRefusal
 then_items (Ok taken) more = prepend taken.items (more taken)
 then_items (Err fault) more = Err fault
 
--- the items of a section from its place `at` on, behind some tokens that an item has taken
+-- the items of a section from its index `at` on, after tokens that an item has used
 abbrev pub read_items : Where → Seen → ℕ → ℕ → ℕ → List LineToken → Result (List SrcItem) TokenRefusal
 read_items place seen last skip at [] = Ok []
 read_items place seen last (suc skip) at (token ∷ tokens) = read_items place seen last skip (at + 1) tokens
@@ -100,13 +99,13 @@ read_items place seen last zero at (token ∷ tokens) =
     then_items (read_item place seen last at (token ∷ tokens))
     (λ (taken : Taken). read_items place taken.seen last taken.more (at + 1) tokens)
 
--- the last item; a key has one
+-- the last item; a key has only one
 abbrev pub last_item : TokenRefusal → List SrcItem → Result SrcItem TokenRefusal
 last_item none [] = Err none
 last_item none (item ∷ []) = Ok item
 last_item none (item ∷ next ∷ items) = last_item none (next ∷ items)
 
--- the one item of a key
+-- the item of a key
 abbrev pub read_key : ℕ → ℕ → List LineToken → Result SrcItem TokenRefusal
 read_key last at tokens =
     and_then (read_items section.Key unseen last 0 at tokens) (last_item (fault (min (at + length tokens) last) S05))

@@ -1,4 +1,4 @@
--- What holds of the readings of items.
+-- The laws of reading items.
 use Rattle.std.specs.Prelude.{◌≡◌, ℕ, ◌+◌, ◌<◌, List, [], ◌∷◌, length, drop, flat_map, Ok}
 use Rattle.rule_model.specs.declared.program.SrcItem.{SrcItem}
 use Rattle.kmn_items.specs.declared.syntax.Where.{Where}
@@ -8,20 +8,20 @@ use Rattle.kmn_items.specs.declared.syntax.Taken.{Taken}
 use Rattle.kmn_items.specs.TokenTexts.{LineToken}
 use Rattle.kmn_items.specs.Item.{unseen, read_item, read_items, read_key}
 
--- a key is the one item that its tokens stand for
+-- a key is the one item that its tokens denote
 abbrev pub KeysAreOneItem : Type 0
 KeysAreOneItem = (last at : ℕ) (tokens : List LineToken) (item : SrcItem)
     → read_key last at tokens ≡ Ok item → read_items section.Key unseen last 0 at tokens ≡ Ok (item ∷ [])
 
--- tokens are taken up from a place of their line on: each item is read where the one before it ends, has no more tokens
--- than there are, and none is left over
+-- items use up tokens from an index of their line on: each item is read at the end of the previous one, has at most as many tokens as
+-- there are, and no token is left over
 abbrev pub TakesUp : Where → Seen → ℕ → ℕ → List Taken → List LineToken → Type 0
 TakesUp place seen last at [] tokens = tokens ≡ []
 TakesUp place seen last at (taken ∷ parts) tokens =
     (read_item place seen last at tokens ≡ Ok taken) × (taken.more < length tokens)
     × TakesUp place taken.seen last (at + (1 + taken.more)) parts (drop (1 + taken.more) tokens)
 
--- the items of a section are those that take up its tokens
+-- the items of a section are those that use up its tokens
 abbrev pub TokensAreTakenUp : Type 0
 TokensAreTakenUp = (place : Where) (seen : Seen) (last at : ℕ) (tokens : List LineToken) (items : List SrcItem)
     → read_items place seen last 0 at tokens ≡ Ok items

@@ -1,4 +1,4 @@
--- What the first token of an item says of it.
+-- The kind of an item by its first token.
 use Rattle.std.specs.Prelude.{ℕ, Bool, true, List, [], ◌∷◌, Option, Some, None}
 use Rattle.kmn_lines.specs.declared.token.TokenKind.TheVariants as kind
 use Rattle.kmn_items.specs.declared.syntax.ItemWord.{ItemWord}
@@ -9,24 +9,24 @@ use Rattle.kmn_items.specs.TokenTexts.{LineToken, begins_open}
 use Rattle.kmn_items.specs.Words.{item_word}
 use Rattle.kmn_items.specs.Numbers.{number_base, number_digits, digits_lead}
 
--- a parenthesis tells `context(n)` from `context`
+-- a parenthesis distinguishes `context(n)` from `context`
 abbrev pub followed : Bool → ItemWord → ItemWord
 followed true word.Context = word.ContextAt
 followed opened other = other
 
--- what a word is that begins an item of this word
+-- the kind of the item that a word begins
 abbrev pub named_lead : Bool → Option ItemWord → Lead
 named_lead opened (Some word) = lead.Named (followed opened word)
 named_lead opened None = lead.Misplaced
 
--- what a word says of the item that it begins; the test is whether a parenthesis opens behind it
+-- the kind of the item that a word begins, given whether a parenthesis opens after it
 abbrev pub word_lead : Bool → List ℕ → Lead
 word_lead opened text = elim (number_base text) [
   | Some base ↦ digits_lead base (number_digits text)
   | None ↦ named_lead opened (item_word text)
 ]
 
--- what a token says of the item that it begins
+-- the kind of the item that a token begins
 abbrev pub token_lead : Bool → LineToken → Lead
 token_lead opened token = elim token.kind [
   | kind.Quoted ↦ lead.Characters
@@ -36,7 +36,7 @@ token_lead opened token = elim token.kind [
   | _ ↦ lead.Misplaced
 ]
 
--- what the first of tokens says of the item that it begins
+-- the kind of the item that the first of some tokens begins
 abbrev pub lead_of : List LineToken → Lead
 lead_of [] = lead.Misplaced
 lead_of (token ∷ tokens) = token_lead (begins_open tokens) token

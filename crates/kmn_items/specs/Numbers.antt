@@ -1,4 +1,4 @@
--- The numbers in words: characters in three bases, and offsets.
+-- Numbers in words: characters in three bases, and offsets.
 use Rattle.std.specs.Prelude.{ℕ, Bool, false, ◌&&◌, nat_eq, nat_le, if◌then◌else◌, List, [], ◌∷◌, length, drop, Option, Some, None, is_some}
 use Rattle.std.specs.Char.{is_digit}
 use Rattle.std.specs.Str.{byte}
@@ -15,7 +15,7 @@ abbrev pub begins_digit : ℕ → List ℕ → Bool
 begins_digit base [] = false
 begins_digit base (b ∷ bs) = is_digit b base
 
--- whether a text is a letter and then a digit of a base
+-- whether a text begins with a letter and then a digit of a base
 abbrev pub is_prefixed : ℕ → ℕ → List ℕ → Bool
 is_prefixed letter base [] = false
 is_prefixed letter base (b ∷ bs) = nat_eq b letter && begins_digit base bs
@@ -36,13 +36,13 @@ is_number_word text = is_some (number_base text)
 abbrev pub number_digits : List ℕ → List ℕ
 number_digits text = if begins_digit 10 text then text else drop 1 text
 
--- what a code point is as an item
+-- a code point as the kind of an item
 abbrev pub character_lead : ℕ → Lead
 character_lead c =
     if is_forbidden c then lead.Wrong L02
     else (if scalar c then lead.One c else lead.Wrong L04)
 
--- what digits of a base are as an item
+-- digits of a base as the kind of an item
 abbrev pub digits_lead : ℕ → List ℕ → Lead
 digits_lead base digits =
     if are_digits base digits then character_lead (bounded_value NO_CHARACTER base digits)

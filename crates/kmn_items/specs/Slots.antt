@@ -1,4 +1,4 @@
--- Forms: lists of what is wanted token by token, and the first token that breaks one.
+-- Forms: lists of the required tokens, and the first token that breaks a form.
 use Rattle.std.specs.Prelude.{ℕ, ◌+◌, min, Bool, true, false, not, ◌&&◌, ◌||◌, if◌then◌else◌, List, [], ◌∷◌, drop, Option, Some, None}
 use Rattle.kmn_base.specs.declared.codes.Code.{Code}
 use Rattle.kmn_base.specs.declared.codes.Code.TheVariants.{L04, S02, S11}
@@ -13,11 +13,11 @@ abbrev pub unless : Bool → Code → Option Code
 unless true code = None
 unless false code = Some code
 
--- the rule that a token breaks as an offset: a word or number is to be one, and nothing else stands for one
+-- the rule that a token breaks as an offset: a word or number must be an offset, and no other token is one
 abbrev pub offset_fault : LineToken → Option Code
 offset_fault token = if is_wordy token.kind then unless (is_offset token.text) L04 else Some S02
 
--- the rule that a token breaks at a place of a form
+-- the rule that a token breaks at an index of a form
 abbrev pub slot_fault : Slot → LineToken → Option Code
 slot_fault slot.Lead token = None
 slot_fault slot.DollarName token = unless (is_name (drop 1 token.text)) S02
@@ -34,19 +34,19 @@ slot_fault slot.Argument token = unless (not (is_close token.kind)) S02
 slot_fault slot.KeyName token = unless (is_word token.kind && is_key_name token.text) S11
 slot_fault slot.KeyEnd token = unless (is_bracket_close token.kind) S11
 
--- the rule that is broken where the tokens end before a place of a form
+-- the rule that is broken if the tokens end before an index of a form
 abbrev pub cut_code : Slot → Code
 cut_code slot.KeyName = S11
 cut_code slot.KeyEnd = S11
 cut_code other = S02
 
--- the fault of one token, else what comes behind it
+-- the fault of one token, else a later fault
 abbrev pub or_fault : ℕ → Option Code → Option TokenRefusal → Option TokenRefusal
 or_fault at (Some code) later = Some (fault at code)
 or_fault at None later = later
 
--- the first token that breaks a form, from the place `at` on; where the tokens end too soon, this is the token behind
--- them, or the line's last token, at `last`
+-- the first token that breaks a form, from the index `at` on; if the tokens end too soon, this is the token after them, or the line's
+-- last token, at `last`
 abbrev pub broken : ℕ → ℕ → List Slot → List LineToken → Option TokenRefusal
 broken last at [] tokens = None
 broken last at (slot ∷ slots) [] = Some (fault (min at last) (cut_code slot))

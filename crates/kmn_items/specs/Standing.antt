@@ -1,4 +1,4 @@
--- Where items may stand, and behind what.
+-- Where items are allowed, and after which items.
 use Rattle.std.specs.Prelude.{ℕ, Bool, true, false, ◌&&◌, ◌||◌, nat_lt, if◌then◌else◌, Option, Some, None}
 use Rattle.kmn_base.specs.declared.codes.Code.{Code}
 use Rattle.kmn_base.specs.declared.codes.Code.TheVariants.{S05, S06, S09, S10}
@@ -10,7 +10,7 @@ use Rattle.kmn_items.specs.declared.syntax.ItemWord.TheVariants as word
 use Rattle.kmn_items.specs.declared.syntax.Lead.{Lead}
 use Rattle.kmn_items.specs.declared.syntax.Lead.TheVariants as lead
 
--- whether an item stands in stores, contexts, keys and outputs
+-- whether an item is allowed in stores, contexts, keys and outputs
 pub record Stands : Type 0 where
   pub store : Bool
   pub context : Bool
@@ -23,11 +23,11 @@ stands_in section.Context stands = stands.context
 stands_in section.Key stands = stands.key
 stands_in section.Output stands = stands.output
 
--- the four truth values in the order store, context, key, output
+-- the four truth values, in the order store, context, key, output
 abbrev pub stands : Bool → Bool → Bool → Bool → Stands
 stands store context key output = record { store = store; context = context; key = key; output = output }
 
--- where the item of each word may stand
+-- where the item of each word is allowed
 abbrev pub word_stands : ItemWord → Stands
 word_stands word.Dead = stands true true false true
 word_stands word.Any = stands false true true false
@@ -44,21 +44,21 @@ word_stands word.Platform = stands false true false false
 word_stands word.BaseLayout = stands false true false false
 word_stands other = stands false false false true
 
--- where what a token says may stand
+-- where each kind of item is allowed
 abbrev pub lead_stands : Lead → Stands
 lead_stands (lead.Named word) = word_stands word
 lead_stands lead.Bracket = stands true false true true
 lead_stands lead.Misplaced = stands false false false false
 lead_stands other = stands true true true true
 
--- the rule that a token breaks where it may not stand
+-- the rule that a token breaks if it is not allowed in a section
 abbrev pub misplaced_code : Where → Code
 misplaced_code section.Store = S06
 misplaced_code section.Context = S05
 misplaced_code section.Key = S05
 misplaced_code section.Output = S06
 
--- whether an item is a condition, which stands before all patterns
+-- whether an item is a condition, which must precede all patterns
 abbrev pub is_condition : ItemWord → Bool
 is_condition word.If = true
 is_condition word.Layer = true
@@ -70,35 +70,35 @@ abbrev pub is_nul : ItemWord → Bool
 is_nul word.Nul = true
 is_nul other = false
 
--- the rule on the order of a context's items that a word breaks: no condition or `nul` behind a pattern, one `nul`
+-- the rule on the order of a context's items that a word breaks: no condition or `nul` after a pattern, and one `nul`
 abbrev pub order_code : Seen → ItemWord → Option Code
 order_code seen word =
     if seen.pattern && (is_nul word || is_condition word) then Some S09
     else (if seen.nul && is_nul word then Some S10 else None)
 
--- the rule on what stands before that a token breaks: a key has one item
+-- the rule that a token breaks because of the items before it: a key has one item
 abbrev pub crowded_code : Where → Seen → Lead → Option Code
 crowded_code section.Context seen (lead.Named word) = order_code seen word
 crowded_code section.Key seen lead.Characters = None
 crowded_code section.Key seen other = if seen.pattern then Some S05 else None
 crowded_code place seen other = None
 
--- the rule that a token breaks by its place alone
+-- the rule that a token breaks only by its position
 abbrev pub standing_code : Where → Seen → Lead → Option Code
 standing_code place seen lead =
     if stands_in place (lead_stands lead) then crowded_code place seen lead else Some (misplaced_code place)
 
--- what a section has seen behind an item of a word
+-- what a section has seen after the item of a word
 abbrev pub seen_word : Seen → ItemWord → Seen
 seen_word seen word =
     if is_nul word then record { pattern = seen.pattern; nul = true }
     else (if is_condition word then seen else record { pattern = true; nul = seen.nul })
 
--- what a section has seen behind a number of characters or keys
+-- what a section has seen after a number of characters or keys
 abbrev pub seen_count : Seen → ℕ → Seen
 seen_count seen count = record { pattern = seen.pattern || nat_lt 0 count; nul = seen.nul }
 
--- whether characters are too many for what is left of a key
+-- whether there are more characters than a key can still contain
 abbrev pub is_crowded : Where → Seen → ℕ → Bool
 is_crowded section.Key seen count = nat_lt (if seen.pattern then 0 else 1) count
 is_crowded other seen count = false

@@ -1,4 +1,4 @@
--- The tokens of a line with their texts, and what it means that code reads them.
+-- The tokens of a line with their texts, and what it means that code reads them correctly.
 use Rattle.std.specs.Prelude.{ℕ, ◌-◌, Bool, true, false, ◌||◌, List, [], ◌∷◌, map, length, take, drop, slice_get, unwrap_or, Option, Some, None, option_map, Result}
 use Rattle.kmn_base.specs.declared.codes.Code.{Code}
 use Rattle.kmn_base.specs.Answers.{AnswersBy}
@@ -27,11 +27,11 @@ with_text source token = record { kind = token.kind; text = text_of source token
 abbrev pub with_texts : List ℕ → List Token → List LineToken
 with_texts source tokens = map (with_text source) tokens
 
--- those of tokens that stand side by side in a line
+-- consecutive tokens of a line with their texts
 abbrev pub texts : LineTokens → List LineToken
 texts tokens = with_texts tokens.source.now tokens.tokens.now
 
--- the kinds of tokens that forms ask for
+-- the kinds of tokens that forms require
 abbrev pub is_quoted : TokenKind → Bool
 is_quoted kind.Quoted = true
 is_quoted other = false
@@ -68,15 +68,15 @@ abbrev pub is_unequal : TokenKind → Bool
 is_unequal kind.Unequal = true
 is_unequal other = false
 
--- a word, or a number's text
+-- whether a token is a word, or a number, whose text is a word
 abbrev pub is_wordy : TokenKind → Bool
 is_wordy kind = is_word kind || is_number kind
 
--- the text of the token at a place; empty where there is none
+-- the text of the token at an index; empty if there is none
 abbrev pub text_at : ℕ → List LineToken → List ℕ
 text_at place tokens = unwrap_or (option_map (λ (token : LineToken). token.text) (slice_get tokens place)) []
 
--- whether the first token is of a kind
+-- whether a parenthesis opens at the first token
 abbrev pub begins_open : List LineToken → Bool
 begins_open [] = false
 begins_open (token ∷ tokens) = is_open token.kind
@@ -89,15 +89,15 @@ inside text = take (length text - 2) (drop 1 text)
 abbrev pub quoted : List ℕ → List ℕ
 quoted text = decoded (inside text)
 
--- a rule broken at a token
+-- the refusal of a rule that is broken at a token
 abbrev pub fault : ℕ → Code → TokenRefusal
 fault at code = record { at = at; code = code }
 
--- the refusal that an error tells; want of memory tells none
+-- the refusal of an error; `Memory` has none
 abbrev pub fault_of : LineError → Option TokenRefusal
 fault_of (error.Refused fault) = Some fault
 fault_of error.Memory = None
 
--- what code answers of a reading: its value or its first fault, exactly, or want of memory at any time
+-- the result of code for a reading: exactly its value or its first fault, or `Memory` at any time
 abbrev pub Reads : {A : Type 0} → Result A TokenRefusal → Result A LineError → Type 0
 Reads read answer = AnswersBy fault_of read answer

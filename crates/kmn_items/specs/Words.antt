@@ -24,13 +24,13 @@ abbrev pub begins_with : ℕ → List ℕ → Bool
 begins_with wanted [] = false
 begins_with wanted (b ∷ bs) = nat_eq b wanted
 
--- the word that a text is, in any ASCII case; `$` begins one too
+-- the item word that a text is, in any ASCII case; a text that begins with `$` is one too
 abbrev pub item_word : List ℕ → Option ItemWord
 item_word text =
     if begins_with (byte "$") text then Some word.Dollar
     else named_in item_words text
 
--- whether a name is that of a system store
+-- whether a name is the name of a system store
 abbrev pub is_system_name : List ℕ → Bool
 is_system_name text = begins_with (byte "&") text
 
@@ -46,7 +46,7 @@ is_name text = nat_lt 0 (character_count text) && nat_le (character_count text) 
 abbrev pub is_touch_name : List ℕ → Bool
 is_touch_name text = same_name (take 2 text) (codes "T_") && nat_lt 2 (length text) && nat_le (character_count text) SOURCE_NAME_CHARS
 
--- whether a word names a key of the keyboard's own dictionary
+-- whether a word names a custom key
 abbrev pub is_own_key : List ℕ → Bool
 is_own_key text = is_touch_name text || is_some (name_chars text)
 

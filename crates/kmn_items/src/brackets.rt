@@ -14,10 +14,10 @@ use rule_model::{KeyName, SrcItem};
 use std::alloc::Global;
 use virtual_keys::{key_named, modifier_named};
 
-/// What stands behind the modifiers of a virtual key.
+/// The form of a virtual key after its modifiers.
 const KEY_AND_END: [Slot; 2] = [Slot::KeyName, Slot::KeyEnd];
 
-/// The shift flag of a word.
+/// Returns the shift flag of a word.
 fn flag_of(text: &[u8]) -> u16
     ensures { result ≡ flag_of text.now }
 {
@@ -27,7 +27,7 @@ fn flag_of(text: &[u8]) -> u16
     }
 }
 
-/// The shift flags of words, above the flag of a virtual key.
+/// Returns the shift flags of words, above the flag of a virtual key.
 fn flags_of(tokens: LineTokens<'_>) -> u16
     ensures { result ≡ flags_of (texts tokens.entry) }
 {
@@ -42,7 +42,7 @@ fn flags_of(tokens: LineTokens<'_>) -> u16
     flags
 }
 
-/// A virtual key by its name.
+/// Returns a virtual key by its name. Errors: `Memory` if an allocation fails.
 fn named_key(alloc: Global, flags: u16, name: &[u8]) -> Result<KeyName, Memory>
     ensures { IfOk result (λ key. key ≡ named_key flags name.now) }
 {
@@ -60,7 +60,7 @@ fn named_key(alloc: Global, flags: u16, name: &[u8]) -> Result<KeyName, Memory>
     }
 }
 
-/// A virtual key as an item, which is left out of outputs.
+/// Returns a virtual key as an item. In an output it is not supported.
 pub(crate) fn key_item(place: Where, key: KeyName) -> SrcItem
     ensures { result ≡ key_item place key }
 {
@@ -70,14 +70,14 @@ pub(crate) fn key_item(place: Where, key: KeyName) -> SrcItem
     }
 }
 
-/// Whether a token is a modifier.
+/// Returns whether a token is a modifier.
 fn is_modifier_token(source: &[u8], token: Token) -> bool
     ensures { result ≡ is_modifier_token (with_text source.now token) }
 {
     matches!(token.kind, TokenKind::Word) && is_modifier(text_in(source, token))
 }
 
-/// How many modifiers tokens begin with.
+/// Returns the number of modifiers at the beginning of tokens.
 #[tactic(auto, using(crate::proofs::TextLemmas::length_with_texts))]
 pub(crate) fn modifier_count(tokens: LineTokens<'_>) -> usize
     ensures count { result ≡ modifier_count (texts tokens.entry) }
@@ -95,7 +95,7 @@ pub(crate) fn modifier_count(tokens: LineTokens<'_>) -> usize
     all.len()
 }
 
-/// The first token that breaks a virtual key behind its modifiers; `at` is the place of the first modifier.
+/// Returns the first token that breaks a virtual key after its modifiers. `at` is the index of the first modifier.
 pub(crate) fn key_fault(
     last: usize,
     at: usize,
@@ -109,7 +109,7 @@ pub(crate) fn key_fault(
     broken(last, at + count, &KEY_AND_END, tokens.behind(count))
 }
 
-/// A virtual key with so many modifiers.
+/// Returns a virtual key with `count` modifiers. Errors: `Memory` if an allocation fails.
 pub(crate) fn modified_key(
     alloc: Global,
     count: usize,

@@ -63,10 +63,10 @@ const ASSIGNED: [Slot; 6] = [
     Slot::Close,
 ];
 
-/// The system options that an item can name, behind `&`, each with its id.
+/// The system options that an item can name after `&`, each with its id.
 static OPTION_IDS: [(&str, u32); 2] = [("platform", PLATFORM), ("layer", LAYER)];
 
-/// The form of the item of a word, its own word first.
+/// Returns the form of the item of a word, its own word first.
 pub(crate) fn word_slots(word: ItemWord) -> &'static [Slot]
     ensures slots { result.now ≡ word_slots word }
     ensures some { 0 < length result.now }
@@ -90,7 +90,7 @@ pub(crate) fn word_slots(word: ItemWord) -> &'static [Slot]
     }
 }
 
-/// Whether the token at a place is `=`.
+/// Returns whether the token at an index is `=`.
 #[tactic(auto, using(crate::proofs::TextLemmas::get_with_texts))]
 fn equal_at(place: usize, tokens: LineTokens<'_>) -> bool
     ensures { result ≡ equal_at place (texts tokens.entry) }
@@ -101,7 +101,7 @@ fn equal_at(place: usize, tokens: LineTokens<'_>) -> bool
     }
 }
 
-/// The id of the system option of a name; None for another system store.
+/// Returns the id of the system option with a name, and None for another system store.
 #[tactic(auto, unfolding(crate::specs::Forms::option_ids))]
 fn option_id(name: &[u8]) -> Option<u32>
     ensures { result ≡ option_id name.now }
@@ -109,7 +109,7 @@ fn option_id(name: &[u8]) -> Option<u32>
     named_in(&OPTION_IDS, bare_name(name))
 }
 
-/// A condition on a system option, which is left out for other system stores.
+/// Returns a condition on a system option. Other system stores are not supported.
 fn system_condition(id: Option<u32>, equal: bool, value: Seq<char>) -> SrcItem
     ensures { result ≡ system_condition id equal value }
 {
@@ -120,7 +120,7 @@ fn system_condition(id: Option<u32>, equal: bool, value: Seq<char>) -> SrcItem
     }
 }
 
-/// The condition of tokens in the form of `if`.
+/// Returns the condition of tokens in the form of `if`. Errors: `Memory` if an allocation fails.
 fn condition(alloc: Global, tokens: LineTokens<'_>) -> Result<SrcItem, Memory>
     ensures { IfOk result (λ item. item ≡ condition (text_at 2 (texts tokens.entry)) (equal_at 3 (texts tokens.entry)) (quoted (text_at 4 (texts tokens.entry)))) }
 {
@@ -138,7 +138,7 @@ fn condition(alloc: Global, tokens: LineTokens<'_>) -> Result<SrcItem, Memory>
     }
 }
 
-/// A set of a system option, which is left out but for the layer.
+/// Returns a `set` of a system option. Only the layer is supported.
 fn system_setting(id: Option<u32>, value: Seq<char>) -> SrcItem
     ensures { result ≡ system_setting id value }
 {
@@ -148,7 +148,7 @@ fn system_setting(id: Option<u32>, value: Seq<char>) -> SrcItem
     }
 }
 
-/// The set of tokens in the form of `set`.
+/// Returns the `set` of tokens in the form of `set`. Errors: `Memory` if an allocation fails.
 fn setting(alloc: Global, tokens: LineTokens<'_>) -> Result<SrcItem, Memory>
     ensures { IfOk result (λ item. item ≡ setting (text_at 2 (texts tokens.entry)) (quoted (text_at 4 (texts tokens.entry)))) }
 {
@@ -160,7 +160,7 @@ fn setting(alloc: Global, tokens: LineTokens<'_>) -> Result<SrcItem, Memory>
     Ok(SrcItem::Set(tokens.name(alloc, 2)?, value))
 }
 
-/// The item of `layer`, which sets the layer in an output and asks for it elsewhere.
+/// Returns the item of `layer`, which sets the layer in an output and is a condition elsewhere.
 fn layer_item(place: Where, value: Seq<char>) -> SrcItem
     ensures { result ≡ layer_item place value }
 {
@@ -170,7 +170,7 @@ fn layer_item(place: Where, value: Seq<char>) -> SrcItem
     }
 }
 
-/// The item of `$` and a name.
+/// Returns the item of `$` and a name. Errors: `Memory` if an allocation fails.
 fn dollar_item(alloc: Global, tokens: LineTokens<'_>) -> Result<SrcItem, Memory>
     ensures { IfOk result (λ item. item ≡ SrcItem.Outs (drop 1 (text_at 0 (texts tokens.entry)))) }
 {
@@ -178,7 +178,7 @@ fn dollar_item(alloc: Global, tokens: LineTokens<'_>) -> Result<SrcItem, Memory>
     Ok(SrcItem::Outs(Seq::from_slice(alloc, name)?))
 }
 
-/// The item of tokens in the form of `index`.
+/// Returns the item of tokens in the form of `index`. Errors: `Memory` if an allocation fails.
 fn index_item(alloc: Global, tokens: LineTokens<'_>) -> Result<SrcItem, Memory>
     ensures { IfOk result (λ item. item ≡ SrcItem.Index (text_at 2 (texts tokens.entry)) (offset_value (text_at 4 (texts tokens.entry)))) }
 {
@@ -186,7 +186,7 @@ fn index_item(alloc: Global, tokens: LineTokens<'_>) -> Result<SrcItem, Memory>
     Ok(SrcItem::Index(tokens.name(alloc, 2)?, offset))
 }
 
-/// The item of a word in a section, of tokens in its form.
+/// Returns the item of a word in a section, from tokens in its form. Errors: `Memory` if an allocation fails.
 pub(crate) fn word_item(
     alloc: Global,
     place: Where,

@@ -14,7 +14,7 @@ use kmn_base::{Code, Memory, Seq};
 use rule_model::SrcItem;
 use std::alloc::Global;
 
-/// Where an item is read: its section, what this has seen, the place of the line's last token, and the item's own.
+/// The position at which an item is read: its section, what this has seen, the index of the line's last token, and the item's own index.
 #[derive(Clone, Copy)]
 pub(crate) struct Spot {
     pub(crate) place: Where,
@@ -23,14 +23,14 @@ pub(crate) struct Spot {
     pub(crate) at: usize,
 }
 
-/// A rule that the token at a place breaks.
+/// Returns the error of a rule that the token at an index breaks.
 pub(crate) fn refused(at: usize, code: Code) -> LineError
     ensures { result ≡ LineError.Refused (fault at code) }
 {
     LineError::Refused(TokenRefusal { at, code })
 }
 
-/// A list of one item.
+/// Creates a list of one item. Errors: `Memory` if an allocation fails.
 fn single(alloc: Global, item: SrcItem) -> Result<Seq<SrcItem>, Memory>
     ensures { IfOk result (λ items. items ≡ item ∷ []) }
 {
@@ -39,7 +39,7 @@ fn single(alloc: Global, item: SrcItem) -> Result<Seq<SrcItem>, Memory>
     Ok(Seq::from_vec(items))
 }
 
-/// The item of a word in a section, or the fault of its form.
+/// Returns the item of a word in a section, or the fault of its form.
 fn read_word(
     alloc: Global,
     spot: Spot,
@@ -62,7 +62,7 @@ fn read_word(
     })
 }
 
-/// The characters as items.
+/// Returns the characters as items. Errors: `Memory` if an allocation fails.
 fn character_items(alloc: Global, characters: &[char]) -> Result<Seq<SrcItem>, Memory>
     ensures { IfOk result (λ items. items ≡ map SrcItem.Char characters.now) }
 {
@@ -73,7 +73,7 @@ fn character_items(alloc: Global, characters: &[char]) -> Result<Seq<SrcItem>, M
     Ok(Seq::from_vec(items))
 }
 
-/// The characters of a quoted token, each an item.
+/// Returns the characters of a quoted token, each an item.
 fn read_quoted(alloc: Global, spot: Spot, text: &[u8]) -> Result<Taken, LineError>
     ensures read { Reads (read_quoted spot.place spot.seen spot.at (quoted text.now)) result }
     ensures few { IfOk result (λ taken. taken.more ≡ 0) }
@@ -89,7 +89,7 @@ fn read_quoted(alloc: Global, spot: Spot, text: &[u8]) -> Result<Taken, LineErro
     })
 }
 
-/// The key in brackets, of the tokens behind the first bracket.
+/// Returns the key in brackets, from the tokens after the opening bracket.
 fn read_bracket(alloc: Global, spot: Spot, tokens: LineTokens<'_>) -> Result<Taken, LineError>
     requires { spot.at + 1 + length (texts tokens) < 2 ^ 62 }
     ensures read { Reads (read_bracket spot.place spot.seen spot.last spot.at (modifier_count (texts tokens.entry)) (texts tokens.entry)) result }
@@ -107,7 +107,7 @@ fn read_bracket(alloc: Global, spot: Spot, tokens: LineTokens<'_>) -> Result<Tak
     })
 }
 
-/// A character as an item.
+/// Returns a character as an item. Errors: `Memory` if an allocation fails.
 fn read_character(alloc: Global, seen: Seen, c: char) -> Result<Taken, Memory>
     ensures { IfOk result (λ taken. taken ≡ one_character seen c) }
 {
@@ -118,7 +118,7 @@ fn read_character(alloc: Global, seen: Seen, c: char) -> Result<Taken, Memory>
     })
 }
 
-/// The item that tokens begin with, by what the first says, where it may stand.
+/// Returns the item at the beginning of tokens, by the kind of the first token, if it is allowed there.
 fn read_form(
     alloc: Global,
     spot: Spot,
@@ -139,7 +139,7 @@ fn read_form(
     }
 }
 
-/// One item, which tokens begin with.
+/// Returns one item at the beginning of tokens.
 #[tactic(auto, unfolding(crate::specs::Item::read_item))]
 pub(crate) fn read_item(
     alloc: Global,

@@ -11,20 +11,20 @@ use kmn_base::{Code, Memory, Seq};
 use rule_model::SrcItem;
 use std::alloc::Global;
 
-/// What no item stands before.
+/// What a section has seen before its first item.
 const UNSEEN: Seen = Seen {
     pattern: false,
     nul: false,
 };
 
-/// Whether a word begins an item: a number and a word with `$` do, too.
+/// Returns whether a word begins an item. A number and a word with `$` also do.
 pub fn is_item_word(text: &[u8]) -> bool
     ensures { result ≡ is_item_word text.now }
 {
     is_number_word(text) || item_word(text).is_some()
 }
 
-/// Two lists as one. The second is taken as it is where the first is empty, so that one item takes no spare room.
+/// Joins two lists. If the first is empty, it returns the second, so that one item needs no spare room.
 fn joined(items: Seq<SrcItem>, more: Seq<SrcItem>) -> Result<Seq<SrcItem>, Memory>
     ensures { IfOk result (λ all. all ≡ items ++ more) }
 {
@@ -36,8 +36,8 @@ fn joined(items: Seq<SrcItem>, more: Seq<SrcItem>) -> Result<Seq<SrcItem>, Memor
     Ok(all)
 }
 
-/// The items of a section. `at` is the place of its first token in the line, and `last` that of the line's last token,
-/// where an item breaks off at the latest.
+/// Returns the items of a section. `at` is the index of its first token in the line. `last` is the index of the line's last
+/// token, the latest token at which an item can break off.
 #[tactic(auto, using(crate::proofs::ItemLemmas::items_step))]
 pub fn read_items(
     alloc: Global,
@@ -69,7 +69,7 @@ pub fn read_items(
     Ok(items)
 }
 
-/// The one item of a key. `at` is the place of its first token in the line, and `last` that of the line's last token.
+/// Returns the item of a key. `at` is the index of its first token in the line, and `last` is the index of the line's last token.
 #[tactic(auto, using(crate::proofs::ItemLemmas::last_item_push))]
 pub fn read_key(
     alloc: Global,

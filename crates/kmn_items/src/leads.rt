@@ -8,7 +8,7 @@ use crate::text::{LineTokens, begins_open, text_in};
 use crate::words::item_word;
 use kmn_lines::{Token, TokenKind};
 
-/// A word with a parenthesis behind it, or without.
+/// Returns a word as it is with or without a parenthesis after it.
 fn followed(opened: bool, word: ItemWord) -> ItemWord
     ensures { result ≡ followed opened word }
 {
@@ -18,7 +18,7 @@ fn followed(opened: bool, word: ItemWord) -> ItemWord
     }
 }
 
-/// What a word says of the item that it begins.
+/// Returns the kind of the item that a word begins.
 fn word_lead(opened: bool, text: &[u8]) -> Lead
     ensures { result ≡ word_lead opened text.now }
 {
@@ -31,7 +31,7 @@ fn word_lead(opened: bool, text: &[u8]) -> Lead
     }
 }
 
-/// What a token says of the item that it begins.
+/// Returns the kind of the item that a token begins.
 fn token_lead(source: &[u8], opened: bool, token: Token) -> Lead
     ensures { result ≡ token_lead opened (with_text source.now token) }
 {
@@ -44,7 +44,7 @@ fn token_lead(source: &[u8], opened: bool, token: Token) -> Lead
     }
 }
 
-/// What the first of tokens says of the item that it begins.
+/// Returns the kind of the item that the first of some tokens begins.
 pub(crate) fn lead_of(tokens: LineTokens<'_>) -> Lead
     ensures { result ≡ lead_of (texts tokens.entry) }
 {

@@ -1,12 +1,12 @@
-//! Reads the items of a line from its tokens, which `kmn_lines` describes: characters, virtual keys, and the forms that
-//! begin with a word.
+//! Reads the items of a line from its tokens, which `kmn_lines` describes: characters, virtual keys, and the forms that begin
+//! with a word.
 //!
-//! It stands on `kmn_lines` for the kinds of tokens, on `virtual_keys` for the names of keys, and on `rule_model` for the items.
-//! `specs/Item` says what items tokens stand for, by four questions: what its first token says of an item
-//! (`specs/Leads`), whether that may stand there (`specs/Standing`), which form it has (`specs/Forms`, `specs/Slots`), and
-//! what the form stands for in its section: `layer` sets the layer in an output and asks for it in a context, and the name
-//! behind `&` of `if` and `set` is looked up among the system options. The layer above calls `read_items` for a section,
-//! `read_key` for a key and `broken` for a form of its own; `laws` says that items take up their tokens.
+//! Depends on `kmn_base`, on `kmn_lines` for the kinds of tokens, on `virtual_keys` for the names of keys, and on `rule_model`
+//! for the items. `specs/Item` defines the items that tokens denote in four steps: the kind of an item by its first token
+//! (`specs/Leads`), whether the item is allowed there (`specs/Standing`), its form (`specs/Forms`, `specs/Slots`), and what the
+//! form denotes in its section. For instance, `layer` sets the layer in an output and is a condition in a context, and the name
+//! after `&` of `if` and `set` is looked up among the system options. The layer above calls `read_items` for a section,
+//! `read_key` for a key and `broken` for its own forms; `laws` states that items use up their tokens.
 #![tactic(auto)]
 
 mod brackets;

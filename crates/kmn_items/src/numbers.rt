@@ -10,7 +10,7 @@ use kmn_base::texts::{NO_CHARACTER, is_forbidden};
 /// The largest number of nine digits.
 const LARGEST_OFFSET: u32 = 999_999_999;
 
-/// Whether a text begins with a digit of a base.
+/// Returns whether a text begins with a digit of a base.
 fn begins_digit(base: u32, text: &[u8]) -> bool
     requires least { 2 ≤ base }
     requires most { base ≤ 16 }
@@ -22,7 +22,7 @@ fn begins_digit(base: u32, text: &[u8]) -> bool
     }
 }
 
-/// Whether a text is a letter and then a digit of a base.
+/// Returns whether a text begins with a letter and then a digit of a base.
 fn is_prefixed(letter: u8, base: u32, text: &[u8]) -> bool
     requires least { 2 ≤ base }
     requires most { base ≤ 16 }
@@ -34,7 +34,7 @@ fn is_prefixed(letter: u8, base: u32, text: &[u8]) -> bool
     }
 }
 
-/// The base of a word that is read as a number.
+/// Returns the base of a word that is read as a number.
 pub(crate) fn number_base(text: &[u8]) -> Option<u32>
     ensures base { result ≡ number_base text.now }
     ensures least { IfSome result (λ base. 2 ≤ base) }
@@ -51,14 +51,14 @@ pub(crate) fn number_base(text: &[u8]) -> Option<u32>
     }
 }
 
-/// Whether a word is read as a number.
+/// Returns whether a word is read as a number.
 pub fn is_number_word(text: &[u8]) -> bool
     ensures { result ≡ is_number_word text.now }
 {
     number_base(text).is_some()
 }
 
-/// The digits of a word that is read as a number.
+/// Returns the digits of a word that is read as a number.
 pub(crate) fn number_digits(text: &[u8]) -> &[u8]
     ensures { result.now ≡ number_digits text.now }
 {
@@ -69,7 +69,7 @@ pub(crate) fn number_digits(text: &[u8]) -> &[u8]
     }
 }
 
-/// What a code point is as an item.
+/// Returns a code point as the kind of an item.
 fn character_lead(code: u32) -> Lead
     ensures { result ≡ character_lead code }
 {
@@ -82,7 +82,7 @@ fn character_lead(code: u32) -> Lead
     }
 }
 
-/// What digits of a base are as an item.
+/// Returns digits of a base as the kind of an item.
 pub(crate) fn digits_lead(base: u32, digits: &[u8]) -> Lead
     requires least { 2 ≤ base }
     requires most { base ≤ 16 }
@@ -95,14 +95,14 @@ pub(crate) fn digits_lead(base: u32, digits: &[u8]) -> Lead
     }
 }
 
-/// Whether a text is 1 to 9 decimal digits.
+/// Returns whether a text is 1 to 9 decimal digits.
 pub(crate) fn is_offset(text: &[u8]) -> bool
     ensures { result ≡ is_offset text.now }
 {
     1 <= text.len() && text.len() <= 9 && are_digits(10, text)
 }
 
-/// The number of an offset.
+/// Returns the number of an offset.
 pub(crate) fn offset_value(text: &[u8]) -> u32
     ensures { result ≡ offset_value text.now }
 {

@@ -10,14 +10,14 @@ use kmn_base::Code;
 use kmn_base::slices::behind;
 use kmn_lines::{Token, TokenKind};
 
-/// The rule that is broken where a test fails.
+/// Returns the rule that is broken if a test fails.
 fn unless(holds: bool, code: Code) -> Option<Code>
     ensures { result ≡ unless holds code }
 {
     if holds { None } else { Some(code) }
 }
 
-/// The rule that a token breaks as an offset.
+/// Returns the rule that a token breaks as an offset.
 fn offset_fault(source: &[u8], token: Token) -> Option<Code>
     ensures { result ≡ offset_fault (with_text source.now token) }
 {
@@ -28,35 +28,35 @@ fn offset_fault(source: &[u8], token: Token) -> Option<Code>
     }
 }
 
-/// Whether a token is a name.
+/// Returns whether a token is a name.
 fn is_name_token(source: &[u8], token: Token) -> bool
     ensures { (slot_fault Slot.Name (with_text source.now token)) ≡ unless result Code.S02 }
 {
     is_wordy(token.kind) && is_name(text_in(source, token))
 }
 
-/// Whether a token is the name of a store or of a system store.
+/// Returns whether a token is the name of a store or of a system store.
 fn is_store_name(source: &[u8], token: Token) -> bool
     ensures { (slot_fault Slot.StoreName (with_text source.now token)) ≡ unless result Code.S02 }
 {
     is_wordy(token.kind) && is_name(bare_name(text_in(source, token)))
 }
 
-/// Whether a token is the name of a key.
+/// Returns whether a token is the name of a key.
 fn is_key_token(source: &[u8], token: Token) -> bool
     ensures { (slot_fault Slot.KeyName (with_text source.now token)) ≡ unless result Code.S11 }
 {
     matches!(token.kind, TokenKind::Word) && is_key_name(text_in(source, token))
 }
 
-/// Whether a token is `$` and a name.
+/// Returns whether a token is `$` and a name.
 fn is_dollar_name(source: &[u8], token: Token) -> bool
     ensures { (slot_fault Slot.DollarName (with_text source.now token)) ≡ unless result Code.S02 }
 {
     is_name(behind(text_in(source, token), 1))
 }
 
-/// The rule that a token breaks at a place of a form.
+/// Returns the rule that a token breaks at an index of a form.
 fn slot_fault(source: &[u8], slot: Slot, token: Token) -> Option<Code>
     ensures { result ≡ slot_fault slot (with_text source.now token) }
 {
@@ -79,7 +79,7 @@ fn slot_fault(source: &[u8], slot: Slot, token: Token) -> Option<Code>
     unless(holds, Code::S02)
 }
 
-/// The rule that is broken where the tokens end before a place of a form.
+/// Returns the rule that is broken if the tokens end before an index of a form.
 fn cut_code(slot: Slot) -> Code
     ensures { result ≡ cut_code slot }
 {
@@ -89,8 +89,8 @@ fn cut_code(slot: Slot) -> Code
     }
 }
 
-/// The first token that breaks a form. `at` is the place of the first token in the line and `last` that of the line's
-/// last token, where a form breaks off at the latest.
+/// Returns the first token that breaks a form. `at` is the index of the first token in the line. `last` is the index of the
+/// line's last token, the latest token at which a form can break off.
 pub fn broken(
     last: usize,
     at: usize,

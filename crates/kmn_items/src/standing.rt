@@ -4,7 +4,7 @@ ghost use Rattle.kmn_items.specs.Standing.{stands_in, word_stands, lead_stands, 
 use crate::syntax::{ItemWord, Lead, Seen, Where};
 use kmn_base::Code;
 
-/// Whether the item of a word may stand in a section.
+/// Returns whether the item of a word is allowed in a section.
 fn word_may_stand(place: Where, word: ItemWord) -> bool
     ensures { result ≡ stands_in place (word_stands word) }
 {
@@ -22,7 +22,7 @@ fn word_may_stand(place: Where, word: ItemWord) -> bool
     }
 }
 
-/// Whether what a token says may stand in a section.
+/// Returns whether a kind of item is allowed in a section.
 fn may_stand(place: Where, lead: Lead) -> bool
     ensures { result ≡ stands_in place (lead_stands lead) }
 {
@@ -34,7 +34,7 @@ fn may_stand(place: Where, lead: Lead) -> bool
     }
 }
 
-/// The rule that a token breaks where it may not stand.
+/// Returns the rule that a token breaks if it is not allowed in a section.
 pub(crate) fn misplaced_code(place: Where) -> Code
     ensures { result ≡ misplaced_code place }
 {
@@ -44,7 +44,7 @@ pub(crate) fn misplaced_code(place: Where) -> Code
     }
 }
 
-/// Whether an item is a condition.
+/// Returns whether an item is a condition.
 fn is_condition(word: ItemWord) -> bool
     ensures { result ≡ is_condition word }
 {
@@ -60,7 +60,7 @@ fn is_nul(word: ItemWord) -> bool
     matches!(word, ItemWord::Nul)
 }
 
-/// The rule on the order of a context's items that a word breaks.
+/// Returns the rule on the order of a context's items that a word breaks.
 fn order_code(seen: Seen, word: ItemWord) -> Option<Code>
     ensures { result ≡ order_code seen word }
 {
@@ -73,7 +73,7 @@ fn order_code(seen: Seen, word: ItemWord) -> Option<Code>
     }
 }
 
-/// The rule on what stands before that a token breaks.
+/// Returns the rule that a token breaks because of the items before it.
 fn crowded_code(place: Where, seen: Seen, lead: Lead) -> Option<Code>
     ensures { result ≡ crowded_code place seen lead }
 {
@@ -85,7 +85,7 @@ fn crowded_code(place: Where, seen: Seen, lead: Lead) -> Option<Code>
     }
 }
 
-/// The rule that a token breaks by its place alone.
+/// Returns the rule that a token breaks only by its position.
 pub(crate) fn standing_code(place: Where, seen: Seen, lead: Lead) -> Option<Code>
     ensures { result ≡ standing_code place seen lead }
 {
@@ -96,7 +96,7 @@ pub(crate) fn standing_code(place: Where, seen: Seen, lead: Lead) -> Option<Code
     }
 }
 
-/// What a section has seen behind the item of a word.
+/// Returns what a section has seen after the item of a word.
 pub(crate) fn seen_word(seen: Seen, word: ItemWord) -> Seen
     ensures { result ≡ seen_word seen word }
 {
@@ -112,7 +112,7 @@ pub(crate) fn seen_word(seen: Seen, word: ItemWord) -> Seen
     }
 }
 
-/// What a section has seen behind a number of characters or keys.
+/// Returns what a section has seen after a number of characters or keys.
 pub(crate) fn seen_count(seen: Seen, count: usize) -> Seen
     ensures { result ≡ seen_count seen count }
 {
@@ -122,7 +122,7 @@ pub(crate) fn seen_count(seen: Seen, count: usize) -> Seen
     }
 }
 
-/// Whether characters are too many for what is left of a key.
+/// Returns whether there are more characters than a key can still contain.
 pub(crate) fn is_crowded(place: Where, seen: Seen, count: usize) -> bool
     ensures { result ≡ is_crowded place seen count }
 {

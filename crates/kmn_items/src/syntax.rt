@@ -3,8 +3,7 @@ ghost use Rattle.std.specs.Prelude.{◌≡◌};
 use kmn_base::{Code, Memory, Seq};
 use rule_model::SrcItem;
 
-/// The first token of a line that breaks the grammar, and the rule that it breaks. `at` counts the line's tokens
-/// before it.
+/// The first token of a line that breaks the grammar, and the rule that it breaks. `at` is the number of the line's tokens before it.
 #[derive(Clone, Copy, PartialEq, Eq)]
 pub struct TokenRefusal {
     pub at: usize,
@@ -28,7 +27,7 @@ impl From<Memory> for LineError {
     }
 }
 
-/// A section of a statement in which items stand.
+/// A section of a statement that contains items.
 #[derive(Clone, Copy)]
 pub enum Where {
     Store,
@@ -37,7 +36,7 @@ pub enum Where {
     Output,
 }
 
-/// What the items before have in a section: a pattern (in a key: an item), and a `nul`.
+/// What the previous items of a section contain: a pattern (in a key: an item), and a `nul`.
 #[derive(Clone, Copy)]
 pub struct Seen {
     pub pattern: bool,
@@ -52,7 +51,7 @@ pub enum ItemWord {
     NotAny,
     Index,
     Context,
-    /// `context` with a parenthesis behind it.
+    /// `context` with a parenthesis after it.
     ContextAt,
     If,
     Nul,
@@ -74,23 +73,23 @@ pub enum ItemWord {
     BaseLayout,
 }
 
-/// What the first token of an item says of it.
+/// The kind of an item by its first token.
 #[derive(Clone, Copy)]
 pub enum Lead {
-    /// A quoted token: its characters.
+    /// A quoted token, which contains characters.
     Characters,
-    /// A number: one character.
+    /// A number, which is one character.
     One(char),
     Named(ItemWord),
     /// The bracket that opens a virtual key.
     Bracket,
     /// A number that breaks a rule by itself.
     Wrong(Code),
-    /// A token that begins no item.
+    /// A token that does not begin an item.
     Misplaced,
 }
 
-/// What is wanted at one place of a form.
+/// What is required at one index of a form.
 #[derive(Clone, Copy)]
 pub enum Slot {
     /// The word that begins the form.
@@ -104,12 +103,12 @@ pub enum Slot {
     /// `=` or `!=`.
     Comparison,
     Name,
-    /// The name of a store or, behind a `&`, of a system store.
+    /// The name of a store or, after a `&`, of a system store.
     StoreName,
     Offset,
     /// One quoted token.
     Value,
-    /// Any one token but `)`.
+    /// Any token except `)`.
     Argument,
     /// The name of a key.
     KeyName,
@@ -117,8 +116,7 @@ pub enum Slot {
     KeyEnd,
 }
 
-/// An item as it was read: what it stands for, how many tokens it has behind its first, and what its section has seen
-/// behind it.
+/// An item that was read: what it denotes, the number of its tokens after the first, and what its section has seen after it.
 #[derive(Drop)]
 pub struct Taken {
     pub items: Seq<SrcItem>,

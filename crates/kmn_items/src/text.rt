@@ -7,14 +7,14 @@ use kmn_base::{Memory, Seq, Text};
 use kmn_lines::{Token, TokenKind};
 use std::alloc::Global;
 
-/// The text of a token.
+/// Returns the text of a token.
 pub fn text_in<'a>(source: &'a [u8], token: Token) -> &'a [u8]
     ensures { result.now ≡ text_of source.now token }
 {
     behind(before(source, token.to as usize), token.from as usize)
 }
 
-/// Tokens that stand side by side in a line, with the source that has their texts.
+/// Consecutive tokens of a line, with the source that contains their texts.
 #[derive(Clone, Copy)]
 pub struct LineTokens<'a> {
     pub source: &'a [u8],
@@ -24,7 +24,7 @@ pub struct LineTokens<'a> {
 impl<'a> LineTokens<'a> {
     ghost use Rattle.std.specs.Prelude.{◌==◌, take, drop, length};
 
-    /// How many they are.
+    /// Returns the number of tokens.
     #[tactic(auto, using(crate::proofs::TextLemmas::length_with_texts))]
     pub fn len(self) -> usize
         ensures { result ≡ length (texts self.entry) }
@@ -39,7 +39,7 @@ impl<'a> LineTokens<'a> {
         self.tokens.is_empty()
     }
 
-    /// All but the first tokens.
+    /// Returns the tokens after the first `count`.
     #[tactic(auto, using(crate::proofs::TextLemmas::drop_with_texts))]
     pub fn behind(self, count: usize) -> LineTokens<'a>
         ensures { texts result ≡ drop count (texts self.entry) }
@@ -50,7 +50,7 @@ impl<'a> LineTokens<'a> {
         }
     }
 
-    /// The first tokens, or all where there are fewer.
+    /// Returns the first `count` tokens, or all if there are fewer.
     #[tactic(auto, using(crate::proofs::TextLemmas::take_with_texts))]
     pub fn before(self, count: usize) -> LineTokens<'a>
         ensures { texts result ≡ take count (texts self.entry) }
@@ -61,7 +61,7 @@ impl<'a> LineTokens<'a> {
         }
     }
 
-    /// The text of the token at a place; empty where there is none.
+    /// Returns the text of the token at an index, or an empty text if there is none.
     #[tactic(auto, using(crate::proofs::TextLemmas::get_with_texts))]
     pub fn text(self, place: usize) -> &'a [u8]
         ensures { result.now ≡ text_at place (texts self.entry) }
@@ -72,7 +72,7 @@ impl<'a> LineTokens<'a> {
         }
     }
 
-    /// The text of the token at a place, as a text of its own.
+    /// Copies the text of the token at an index. Errors: `Memory` if an allocation fails.
     pub fn name(self, alloc: Global, place: usize) -> Result<Text, Memory>
         ensures { IfOk result (λ name. name ≡ text_at place (texts self.entry)) }
     {
@@ -80,7 +80,7 @@ impl<'a> LineTokens<'a> {
     }
 }
 
-/// Whether a parenthesis opens at the first token.
+/// Returns whether a parenthesis opens at the first token.
 pub fn begins_open(tokens: LineTokens<'_>) -> bool
     ensures { result ≡ begins_open (texts tokens.entry) }
 {
@@ -90,14 +90,14 @@ pub fn begins_open(tokens: LineTokens<'_>) -> bool
     }
 }
 
-/// Whether a token is a word, or a number, whose text can stand for one.
+/// Returns whether a token is a word, or a number, whose text can be a word.
 pub(crate) fn is_wordy(kind: TokenKind) -> bool
     ensures { result ≡ is_wordy kind }
 {
     matches!(kind, TokenKind::Word | TokenKind::Number(_))
 }
 
-/// The text between the quotes of a quoted token.
+/// Returns the text between the quotes of a quoted token.
 fn inside(text: &[u8]) -> &[u8]
     ensures { result.now ≡ inside text.now }
 {
@@ -107,7 +107,7 @@ fn inside(text: &[u8]) -> &[u8]
     before(behind(text, 1), text.len() - 2)
 }
 
-/// The characters of a quoted token.
+/// Returns the characters of a quoted token. Errors: `Memory` if an allocation fails.
 pub(crate) fn quoted(alloc: Global, text: &[u8]) -> Result<Seq<char>, Memory>
     ensures { IfOk result (λ characters. characters ≡ quoted text.now) }
 {

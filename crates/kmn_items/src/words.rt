@@ -34,7 +34,7 @@ static ITEM_WORDS: [(&str, ItemWord); 22] = [
     ("baselayout", ItemWord::BaseLayout),
 ];
 
-/// Whether a text begins with a byte.
+/// Returns whether a text begins with a byte.
 pub fn begins_with(wanted: u8, text: &[u8]) -> bool
     ensures { result ≡ begins_with wanted text.now }
 {
@@ -44,7 +44,7 @@ pub fn begins_with(wanted: u8, text: &[u8]) -> bool
     }
 }
 
-/// The word of the table that a text is.
+/// Returns the item word of the table that a text is.
 #[tactic(auto, unfolding(crate::specs::Words::item_words))]
 fn listed_word(text: &[u8]) -> Option<ItemWord>
     ensures { result ≡ named_in item_words text.now }
@@ -52,7 +52,7 @@ fn listed_word(text: &[u8]) -> Option<ItemWord>
     named_in(&ITEM_WORDS, text)
 }
 
-/// The word that a text is, in any ASCII case; `$` begins one too.
+/// Returns the item word that a text is, in any ASCII case. A text that begins with `$` is one too.
 pub fn item_word(text: &[u8]) -> Option<ItemWord>
     ensures { result ≡ item_word text.now }
 {
@@ -62,14 +62,14 @@ pub fn item_word(text: &[u8]) -> Option<ItemWord>
     listed_word(text)
 }
 
-/// Whether a name is that of a system store.
+/// Returns whether a name is the name of a system store.
 pub fn is_system_name(text: &[u8]) -> bool
     ensures { result ≡ is_system_name text.now }
 {
     begins_with(b'&', text)
 }
 
-/// A name without the `&` of a system store.
+/// Returns a name without the `&` of a system store.
 pub fn bare_name(text: &[u8]) -> &[u8]
     ensures { result.now ≡ bare_name text.now }
 {
@@ -80,7 +80,7 @@ pub fn bare_name(text: &[u8]) -> &[u8]
     }
 }
 
-/// Whether a name has 1 to 80 characters.
+/// Returns whether a name has 1 to 80 characters.
 pub fn is_name(text: &[u8]) -> bool
     ensures { result ≡ is_name text.now }
 {
@@ -88,7 +88,7 @@ pub fn is_name(text: &[u8]) -> bool
     0 < count && count <= SOURCE_NAME_CHARS
 }
 
-/// Whether a word is `T_` and at least one more character, of at most 80 characters.
+/// Returns whether a word is `T_` and at least one more character, of at most 80 characters.
 fn is_touch_name(text: &[u8]) -> bool
     ensures { result ≡ is_touch_name text.now }
 {
@@ -97,21 +97,21 @@ fn is_touch_name(text: &[u8]) -> bool
         && character_count(text) <= SOURCE_NAME_CHARS
 }
 
-/// Whether a word names a key of the keyboard's own dictionary.
+/// Returns whether a word names a custom key.
 pub fn is_own_key(text: &[u8]) -> bool
     ensures { result ≡ is_own_key text.now }
 {
     is_touch_name(text) || named_chars(text).is_some()
 }
 
-/// Whether a word names a key.
+/// Returns whether a word names a key.
 pub(crate) fn is_key_name(text: &[u8]) -> bool
     ensures { result ≡ is_key_name text.now }
 {
     key_named(text).is_some() || is_own_key(text)
 }
 
-/// Whether a word is a modifier.
+/// Returns whether a word is a modifier.
 pub(crate) fn is_modifier(text: &[u8]) -> bool
     ensures { result ≡ is_modifier text.now }
 {
