@@ -1,4 +1,4 @@
--- Rules that turn one character into the next by a key: their texts, and that a text can say them.
+-- Rules that turn one character into the next by a key: their texts, and that a text can express them.
 use Rattle.std.proofs.Common.{◌≡◌, ℕ, ◌<◌, ◌≤◌, true, List, [], ◌∷◌, ◌++◌, Some, refl, sym, ◌∙◌, ap, arith}
 use Rattle.std.specs.Prelude.{codes, nat_lt}
 use Rattle.std.specs.Fmt.{digits}

@@ -1,4 +1,4 @@
--- Texts without U+0000 and U+FFFF, and how many characters a text has.
+-- Texts without U+0000 and U+FFFF, and the number of characters of a text.
 use Rattle.std.proofs.Common.{◌≡◌, ◌≢◌, ℕ, zero, suc, ◌+◌, ◌/◌, ◌%◌, ◌==◌, ◌<◌, ◌≤◌, Bool, true, false, ◌||◌, cond, nat_lt, nat_le, List, [], ◌∷◌, ◌++◌, length, take, drop, refl, sym, ◌∙◌, ap, subst, arith}
 use Rattle.std.specs.Prelude.{All, IsUtf8, chars}
 use Rattle.std.specs.List.{starts_with}
@@ -73,7 +73,7 @@ clean_encoded (c ∷ cs) valid clean =
     })
     (clean_encoded cs both.1 (clean-behind (encode c) (encodes cs) clean))
 
--- a clean text in UTF-8 has characters of a keyboard alone
+-- a clean text in UTF-8 has only characters of a keyboard
 pub clean-characters : (bytes : List ℕ) → IsUtf8 bytes → has_forbidden bytes ≡ false → All IsCharacter (chars bytes)
 clean-characters bytes utf8 clean =
     clean_encoded (chars bytes) (scalars-chars bytes utf8) (subst (λ (text : List ℕ). has_forbidden text ≡ false) (sym (encodes-chars bytes utf8)) clean)

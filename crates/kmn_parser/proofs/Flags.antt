@@ -1,4 +1,4 @@
--- The words of shift flags give the flags back.
+-- The modifier words of shift flags are read as the same flags.
 use Rattle.std.proofs.Common.{◌≡◌, ℕ, zero, suc, ◌+◌, ◌<◌, ◌≤◌, inl, inr, Bool, true, false, not, ◌||◌, map, refl, subst, arith}
 use Rattle.std.specs.Prelude.{nat_eq, bit_and}
 use Rattle.std.specs.List.{list_all, range_with_len}
@@ -14,7 +14,7 @@ use Rattle.kmn_parser.specs.Items.{flag_words}
 gives_back : ℕ → Bool
 gives_back flags = nat_eq (flags_of (map word (flag_words flags))) flags || not (nat_eq (bit_and flags SHIFT_FLAGS) flags)
 
--- each is looked at, a part at a time
+-- all flags are tested, one range at a time
 first : list_all gives_back (range_with_len 0x4000 128) ≡ true
 unfolding gives_back shift_flags same_name
 first = refl

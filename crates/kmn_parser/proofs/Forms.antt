@@ -1,4 +1,4 @@
--- Names, keys, values and items whose tokens are read as they: what the proofs rest on, by the words of the readings.
+-- Names, keys, values and items whose tokens are read as the same: what the proofs need, in the terms of reading.
 use Rattle.std.specs.Prelude.{◌≡◌, ℕ, nat_eq, true, false, List, [], ◌∷◌, map, None, Some}
 use Rattle.std.specs.Fmt.{decimal}
 use Rattle.std.specs.List.{list_all}
@@ -37,14 +37,14 @@ pub record IsPrintedValue (value : List ℕ) : Type 0 where
   pub read : quoted (value_token value).text ≡ value
   pub sound : IsTokenText kind.Quoted (value_token value).text
 
--- an option's name, which is not that of a system store, and a value
+-- an option's name, which is not the name of a system store, and a value
 pub record IsPrintedOption (name value : List ℕ) : Type 0 where
   pub named : IsPrintedName name
   pub ordinary : is_system_name name ≡ false
   pub read : quoted (value_token value).text ≡ value
   pub sound : IsTokenText kind.Quoted (value_token value).text
 
--- a system option, whose name is that of a system store, and a value
+-- a system option, whose name is the name of a system store, and a value
 pub record IsPrintedSystem (id : ℕ) (value : List ℕ) : Type 0 where
   pub named : IsPrintedName (option_name id)
   pub system : is_system_name (option_name id) ≡ true
@@ -87,7 +87,7 @@ IsPrinted place source.Beep = Unit {0}
 IsPrinted place source.Stop = Unit {0}
 IsPrinted place other = ⊥
 
--- items, each of which may stand behind those before it
+-- items, each of which is allowed after the previous ones
 abbrev pub ArePrinted : Where → Seen → List SrcItem → Type 0
 ArePrinted place seen [] = Unit {0}
 ArePrinted place seen (i ∷ items) = IsPrinted place i × (standing_code place seen (item_lead i) ≡ None) × ArePrinted place (seen_lead seen (item_lead i)) items

@@ -16,7 +16,7 @@ use Rattle.kmn_parser.specs.Names.{is_inner}
 use Rattle.kmn_parser.proofs.LineForms.{IsReadBack, IsNumberText, ends_word, is_plain_byte, is_still_byte}
 use Rattle.kmn_parser.proofs.Words.{word_size-ended}
 
--- a byte of a word that is no backslash
+-- whether a byte is a byte of a word and not a backslash
 abbrev pub is_safe_byte : ℕ → Bool
 is_safe_byte byte = is_still_byte byte && not (byte == 92)
 
@@ -73,7 +73,7 @@ glyph-digit n h = elim (cases_lt n 10) [
   ltb-no : (n : ℕ) → 10 ≤ n → nat_lt n 10 ≡ false
   ltb-no n g = grind (arith, g)
 
--- so many digits
+-- the bound of a number with `count` digits
 abbrev pub bound : ℕ → ℕ
 bound zero = 1
 bound (suc count) = bound count * 16
@@ -159,7 +159,7 @@ sound-value c ok =
     cond-false ((c == 0) || (c == 0xFFFF)) _ _ (or_from _ _ (ne_eqb c 0 ok.not_first) (ne_eqb c 0xFFFF ok.not_last))
     ∙ cond-true (is_scalar c) _ _ (valid-scalar c ok.valid)
 
--- a number before what ends a word
+-- a number before a byte that ends a word
 number-back : (first c : ℕ) (digits rest : List ℕ) → ((first == 85) || (first == 117)) ≡ true → is_ascii_byte first ≡ true → is_blank first ≡ false → 4 ≤ length digits → length digits ≤ 6
     → all_digits digits ≡ true → hex_value 0 digits ≡ c → value_fault c ≡ None → ends_word rest ≡ true → IsReadBack (record { kind = kind.Number c; text = first ∷ 43 ∷ digits }) rest
 unfolding token_size token_kind token_fault
@@ -195,7 +195,7 @@ scalar-small c e = elim (scalar_cases c e) [
   | inr h ↦ h.1
 ]
 
--- a character as it is written is such a number
+-- a written character is such a number
 pub char_number : (c : ℕ) → IsCharacter c → IsNumberText c (char_text c)
 char_number c ok =
     let small = scalar-small c ok.valid in

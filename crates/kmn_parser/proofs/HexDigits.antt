@@ -1,4 +1,4 @@
--- Four hexadecimal digits are those that a formatted number has.
+-- Four hexadecimal digits are the digits of a formatted number.
 use Rattle.std.proofs.Common.{◌≡◌, ℕ, ◌/◌, ◌<◌, ◌≤◌, ◌==◌, true, ◌∙◌, arith}
 use Rattle.std.specs.Fmt.{digits}
 use Rattle.std.proofs.lemmas.Bool.{ne_eqb, eq-eqb, cond-true, cond-false}

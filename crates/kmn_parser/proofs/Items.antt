@@ -38,7 +38,7 @@ use Rattle.kmn_parser.proofs.Forms.{IsPrinted, IsPrintedName, IsPrintedOffset, I
 use Rattle.kmn_parser.proofs.LineForms.{tokens_in}
 use Rattle.kmn_parser.proofs.SoundItems.{wordy-name}
 
--- tokens are read as items, wherever they stand in their line
+-- tokens are read as items, at each position in their line
 abbrev pub ReadsAs : Where → Seen → List LineToken → List SrcItem → Type 0
 ReadsAs place seen tokens items = (last at : ℕ) → read_items place seen last 0 at tokens ≡ Ok items
 
@@ -50,7 +50,7 @@ named-read place seen last at w tokens e f g =
     ∙ ap (λ (c : Option Code). elim c [ Some code ↦ Err (fault at code) | None ↦ read_form place seen last at (lead.Named w) tokens ]) f
     ∙ ap (λ (b : Option TokenRefusal). formed b (record { items = word_item place w tokens ∷ []; more = length (word_slots w) - 1; seen = seen_word seen w })) g
 
--- an item of one word and so many tokens more, then the rest
+-- an item of one word and `taken.more` more tokens, followed by the rest
 then-rest : (place : Where) (seen : Seen) (last at : ℕ) (token : LineToken) (tokens : List LineToken) (taken : Taken) (items : List SrcItem)
     → read_item place seen last at (token ∷ tokens) ≡ Ok taken → read_items place taken.seen last taken.more (at + 1) tokens ≡ Ok items
     → read_items place seen last 0 at (token ∷ tokens) ≡ Ok (taken.items ++ items)
@@ -76,7 +76,7 @@ call-fits : (last at : ℕ) (first : LineToken) (name : List ℕ) (rest : List L
     → broken last at (slot.Lead ∷ slot.Open ∷ slot.Name ∷ slot.Close ∷ []) (first ∷ opening ∷ name_token name ∷ closing ∷ rest) ≡ None
 call-fits last at first name rest ok = ap (λ f. or_fault (at + 1 + 1) f None) (name-fits name ok)
 
--- an item of a word, then those of the rest
+-- an item of a word, followed by the items of the rest
 named-then : (place : Where) (seen : Seen) (last at : ℕ) (w : ItemWord) (token : LineToken) (tokens : List LineToken) (items : List SrcItem)
     → lead_of (token ∷ tokens) ≡ lead.Named w → standing_code place seen (lead.Named w) ≡ None → broken last at (word_slots w) (token ∷ tokens) ≡ None
     → read_items place (seen_word seen w) last (length (word_slots w) - 1) (at + 1) tokens ≡ Ok items
@@ -92,7 +92,7 @@ in_call name rest = opening ∷ name_token name ∷ closing ∷ rest
 abbrev in_test : List ℕ → LineToken → List ℕ → List LineToken → List LineToken
 in_test name sign value rest = opening ∷ name_token name ∷ sign ∷ value_token value ∷ closing ∷ rest
 
--- a comparison's or a setting's form
+-- the form of a comparison or of a `set`
 test-fits : (last at : ℕ) (first : LineToken) (name value : List ℕ) (sign : LineToken) (rest : List LineToken) (s : Slot)
     → slot_fault slot.StoreName (name_token name) ≡ None → slot_fault s sign ≡ None
     → broken last at (slot.Lead ∷ slot.Open ∷ slot.StoreName ∷ s ∷ slot.Value ∷ slot.Close ∷ []) (first ∷ in_test name sign value rest) ≡ None
@@ -106,7 +106,7 @@ offset-fits offset ok = ap (λ b. unless b L04) ok.fits
 option-fits : (name value : List ℕ) → IsPrintedOption name value → slot_fault slot.StoreName (name_token name) ≡ None
 option-fits name value ok = store-name-fits name ok.named ok.ordinary
 
--- a condition and a setting stand for these items
+-- a condition and a `set` denote these items
 choose-condition : (equal : Bool) (name value read : List ℕ) → is_system_name name ≡ false → read ≡ value → condition name equal read ≡ (if equal then source.Equal name value else source.Unequal name value)
 choose-condition equal name value read e f = cond-false (is_system_name name) _ _ e ∙ ap (λ (v : List ℕ). if equal then source.Equal name v else source.Unequal name v) f
 

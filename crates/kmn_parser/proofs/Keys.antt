@@ -22,7 +22,7 @@ use Rattle.kmn_parser.proofs.Words.{number-second}
 use Rattle.kmn_parser.proofs.Names.{spelled_name}
 use Rattle.kmn_parser.proofs.Flags.{flags_back}
 
--- what a table has for a test passes each test that all rows pass
+-- the value that a table has for a test passes each test that all its rows pass
 pub record Found {A : Type 0} (f P : A → Bool) (o : Option A) : Type 0 where
   pub row : A
   pub is : o ≡ Some row
@@ -40,7 +40,7 @@ found f P (row ∷ rows) all some =
     let two = and_parts (P row) (list_all P rows) all in
     found-here f P row (find f rows) (f row) refl two.0 (found f P rows two.1) some
 
--- whether an answer is this number
+-- whether an optional number is this number
 abbrev pub answers : Option ℕ → ℕ → Bool
 answers None n = false
 answers (Some k) n = nat_eq k n
@@ -49,7 +49,7 @@ pub answer-is : (o : Option ℕ) (n : ℕ) → answers o n ≡ true → o ≡ So
 answer-is None n e = absurd cc
 answer-is (Some k) n e = ap Some (eqb-true k n e)
 
--- the name of a code is a word, and names the code
+-- whether the name of a code is a word and names the code
 is_code_name : List ℕ × ℕ → Bool
 is_code_name row =
     is_word_text row.0 && (list_all is_still_byte row.0 && (not (is_alone_c row.0) && (not (is_modifier row.0) && answers (key_code row.0) row.1)))
@@ -89,7 +89,7 @@ code-key key ok other =
       ]) code ∙ (λ i. record { flags = key.flags; code = key.code; name = sym known.1 i });
     }
 
--- names of the keyboard's own begin with t or u, and _ stands behind
+-- whether a name begins like a custom key's: with t or u, followed by _
 abbrev begins_own : List ℕ → Bool
 begins_own [] = false
 begins_own (a ∷ []) = false
@@ -140,7 +140,7 @@ own-begins name e = elim (is_touch_name name) as (λ b. is_touch_name name ≡ b
   | false ↦ λ is f. unicode-begins name f
 ] refl e
 
--- a row whose name begins with neither letter
+-- whether the name of a row begins with another letter
 abbrev begins_other : List ℕ → Bool
 begins_other [] = true
 begins_other (x ∷ xs) = not ((to_ascii_lowercase x == 116) || (to_ascii_lowercase x == 117))
@@ -172,7 +172,7 @@ flags-other : list_all (λ row. begins_other row.0) shift_flags ≡ true
 unfolding shift_flags
 flags-other = refl
 
--- what such a name is not
+-- what the name of a custom key is not
 pub record IsOwnName (name : List ℕ) : Type 0 where
   pub word : starts_number name ≡ false
   pub lone : is_alone_c name ≡ false

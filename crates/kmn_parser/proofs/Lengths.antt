@@ -1,4 +1,4 @@
--- How long a text is: line by line, and at least so long for each item.
+-- The length of a text: line by line, and at least a given length for each item.
 use Rattle.std.proofs.Common.{◌≡◌, ℕ, suc, ◌+◌, ◌<◌, ◌≤◌, true, false, ◌&&◌, ◌||◌, if◌then◌else◌, List, [], ◌∷◌, ◌++◌, length, take, ◌^◌, ◌==◌, Option, None, Some, is_some, refl, sym, ◌∙◌, ap, subst, arith, append_assoc, length-append}
 use Rattle.std.specs.Prelude.{codes, nat_eq, nat_lt, nat_le, option_map, unwrap_or}
 use Rattle.std.specs.Fmt.{decimal}
@@ -28,24 +28,24 @@ use Rattle.kmn_parser.proofs.Hex.{char_number}
 use Rattle.kmn_parser.proofs.Names.{spelled_name, name-some}
 use Rattle.kmn_parser.proofs.Keys.{found, some-mapped, tested}
 
--- the text of lines behind others
+-- the text of lines after other lines
 pub sheet_append : (xs ys : List (List (Option LineToken))) → sheet (xs ++ ys) ≡ sheet xs ++ sheet ys
 sheet_append [] ys = refl
 sheet_append (line ∷ xs) ys = ap (λ (text : List ℕ). printed line ++ 10 ∷ text) (sheet_append xs ys) ∙ sym (append_assoc (printed line) (10 ∷ sheet xs) (sheet ys))
 
--- a line has one byte more than its pieces
+-- a line is one byte longer than its pieces
 pub sheet_length : (line : List (Option LineToken)) (lines : List (List (Option LineToken))) → length (sheet (line ∷ lines)) ≡ length (printed line) + 1 + length (sheet lines)
 sheet_length line lines =
     let all : length (sheet (line ∷ lines)) ≡ length (printed line) + length (10 ∷ sheet lines) = length-append (printed line) (10 ∷ sheet lines) in
     omega (arith, all)
 
--- the text of pieces behind others
+-- the text of pieces after other pieces
 pub printed_append : (ps qs : List (Option LineToken)) → printed (ps ++ qs) ≡ printed ps ++ printed qs
 printed_append [] qs = refl
 printed_append (None ∷ ps) qs = ap (λ (text : List ℕ). 32 ∷ text) (printed_append ps qs)
 printed_append (Some token ∷ ps) qs = ap (λ (text : List ℕ). token.text ++ text) (printed_append ps qs) ∙ sym (append_assoc token.text (printed ps) (printed qs))
 
--- an item's text has at least so many bytes; all of a value's stand in it
+-- a lower bound for the length of an item's text, which includes all bytes of a value
 abbrev pub least_length : SrcItem → ℕ
 least_length (source.Char c) = 6
 least_length (source.Dead name) = 5
@@ -95,7 +95,7 @@ value-long value = quotes (if list_any (λ c. c == 34) value then 39 else 34)
     quotes : (quote : ℕ) → length (quote ∷ (encodes value ++ quote ∷ [])) ≡ 2 + length (encodes value)
     quotes quote = let a : length (encodes value ++ quote ∷ []) ≡ length (encodes value) + 1 = length-append (encodes value) (quote ∷ []) in omega (arith, a)
 
--- a comparison or a setting has all bytes of its value besides
+-- a comparison or a `set` also has all bytes of its value
 test-least : (lead name : List ℕ) (sign : LineToken) (value : List ℕ) → 0 < length name → length lead + length sign.text + 6 + length (encodes value) ≤ length (printed (compared lead name sign value))
 test-least lead name sign value some = let a = compared-long lead name sign value in let b = value-long value in omega (arith, a, b, some)
 
@@ -109,7 +109,7 @@ keys-long (text ∷ texts) more =
     let all : length (printed (spaced_words (text ∷ texts) more)) ≡ length text + length (32 ∷ printed (spaced_words texts more)) = length-append text (32 ∷ printed (spaced_words texts more)) in
     omega (arith, rest, all)
 
--- the name of a key has three bytes
+-- the name of each key has at least three bytes
 codes-long : list_all (λ row. nat_le 3 (length row.0)) key_codes ≡ true
 unfolding key_codes
 codes-long = refl
@@ -181,7 +181,7 @@ char-least c ok =
     let long : length (char_text c) ≡ suc (suc (length number.digits)) = ap length number.is in
     omega (arith, some, all, long)
 
--- each item that a text can say has at least so many bytes
+-- each item that a text can express has at least this length
 pub item_long : (place : Where) (i : SrcItem) → IsSpelledItem place i → least_length i ≤ length (printed (item_pieces i))
 item_long place (source.Char c) ok = char-least c ok
 item_long place (source.Dead name) ok = named-least (codes "dk") name ok

@@ -1,4 +1,4 @@
--- When written lines can be read: each token is told apart again, and each line is whole.
+-- When written lines can be read: each token can be separated again, and each line is whole.
 use Rattle.std.specs.Prelude.{◌≡◌, ℕ, ◌+◌, ◌<◌, ◌≤◌, ◌==◌, Bool, true, false, not, ◌&&◌, ◌||◌, if◌then◌else◌, List, [], ◌∷◌, ◌++◌, length, flat_map, is_some, Option, Some, None, Ok}
 use Rattle.std.specs.List.{list_all, list_any, starts_with}
 use Rattle.std.specs.Str.{is_utf8}
@@ -45,35 +45,35 @@ AreReadBack [] = Unit {0}
 AreReadBack (None ∷ ps) = AreReadBack ps
 AreReadBack (Some token ∷ ps) = IsReadBack token (printed ps) × AreReadBack ps
 
--- a byte that a word may have
+-- whether a byte is allowed in a word
 abbrev pub is_plain_byte : ℕ → Bool
 is_plain_byte byte = not (is_blank byte || is_quote byte || is_some (single byte))
 
--- a text that is a word
+-- whether a text is a word
 abbrev pub is_word_text : List ℕ → Bool
 is_word_text [] = false
 is_word_text (byte ∷ bytes) = list_all is_plain_byte (byte ∷ bytes) && not (has_forbidden (byte ∷ bytes))
 
--- a byte of a word, in a line
+-- whether a byte is a byte of a word, in a line
 abbrev pub is_still_byte : ℕ → Bool
 is_still_byte byte = is_plain_byte byte && is_inner byte
 
--- a byte that ends a word: a blank or one of ( ) , ]
+-- whether a byte ends a word: a blank or one of ( ) , ]
 abbrev pub ends_byte : ℕ → Bool
 ends_byte byte = is_blank byte || (byte == 40) || (byte == 41) || (byte == 44) || (byte == 93)
 
--- a text begins with what ends a word
+-- whether a text begins with a byte that ends a word
 abbrev pub ends_word : List ℕ → Bool
 ends_word [] = true
 ends_word (byte ∷ bytes) = ends_byte byte
 
--- whether a text ends in no backslash
+-- whether a text does not end with a backslash
 abbrev pub ends_clean : List ℕ → Bool
 ends_clean [] = true
 ends_clean (byte ∷ []) = not (byte == 92)
 ends_clean (byte ∷ next ∷ bytes) = ends_clean (next ∷ bytes)
 
--- c alone, which would begin a comment behind a blank
+-- whether a text is only a c, which would begin a comment after a blank
 abbrev pub is_alone_c : List ℕ → Bool
 is_alone_c [] = false
 is_alone_c (byte ∷ []) = (byte == 99) || (byte == 67)
@@ -113,18 +113,18 @@ IsTokenText kind.Equal text = text ≡ 61 ∷ []
 IsTokenText kind.Comma text = text ≡ 44 ∷ []
 IsTokenText kind.Unequal text = text ≡ 33 ∷ 61 ∷ []
 
--- what has to follow a token, behind a blank or not
+-- what must follow a token, given whether a blank precedes it
 abbrev pub IsFollowed : TokenKind → Bool → List ℕ → List ℕ → Type 0
 IsFollowed kind.Word blank text rest = (ends_word rest ≡ true) × (blank ≡ true → is_alone_c text ≡ false)
 IsFollowed (kind.Number c) blank text rest = ends_word rest ≡ true
 IsFollowed other blank text rest = Unit {0}
 
--- whether no backslash ends a token
+-- whether a token does not end with a backslash
 abbrev pub is_clean : TokenKind → List ℕ → Bool
 is_clean kind.Word text = ends_clean text
 is_clean other text = true
 
--- tokens that can be told apart again, behind a blank or not, and behind a backslash or not
+-- whether tokens can be separated again, given whether a blank precedes them, and whether a backslash does not
 abbrev pub AreSound : Bool → Bool → List (Option LineToken) → Type 0
 AreSound blank clean [] = clean ≡ true
 AreSound blank clean (None ∷ ps) = AreSound true clean ps
@@ -137,17 +137,17 @@ row_lines number at [] = []
 row_lines number at (line ∷ lines) =
     record { first_line = number; from = at; to = at + length line + 1 } ∷ row_lines (number + 1) (at + length line + 1) lines
 
--- what is known behind a text in a line
+-- the state after a text in a line
 abbrev pub read_on : LineState → ℕ → List ℕ → LineState
 read_on r at [] = r
 read_on r at (byte ∷ bytes) = read_on (after_byte r at byte (first_or_end bytes)) (at + 1) bytes
 
--- a line begins with no blank and no $
+-- whether a line does not begin with a blank or a $
 abbrev pub begins_plainly : List ℕ → Bool
 begins_plainly [] = false
 begins_plainly (byte ∷ bytes) = not (is_blank byte || (byte == 36))
 
--- a line that is one part whole: no comment, no join, no prefix
+-- a line that is one whole part: it has no comment, no join and no prefix
 pub record IsWholeLine (line : List ℕ) : Type 0 where
   pub inner : list_all is_inner line ≡ true
   pub start : begins_plainly line ≡ true
@@ -162,7 +162,7 @@ ReadAsStatements group number (line ∷ lines) (s ∷ statements) =
     AreReadBack line × IsWholeLine (printed line) × (read_line group number (tokens_in line) ≡ Ok s)
     × ReadAsStatements (group_after group s) (number + 1) lines statements
 
--- a text that a source can be
+-- a text that is allowed as a source
 pub record IsSourceText (text : List ℕ) : Type 0 where
   pub few : length text ≤ TEXT_BYTES
   pub utf8 : is_utf8 text ≡ true

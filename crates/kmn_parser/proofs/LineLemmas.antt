@@ -1,4 +1,4 @@
--- What a line's sections have of its tokens, what a walk over lines has left, and where a rule goes.
+-- The tokens of a line's sections, the remaining lines of an iteration, and the group of a rule.
 use Rattle.std.proofs.Common.{◌≡◌, ℕ, ◌+◌, ◌≤◌, nat_lt, List, [], ◌∷◌, ◌++◌, length, Option, None, Some, Result, Ok, Err, refl, sym, ap, cond, not, ◌∙◌}
 use Rattle.std.specs.Prelude.{IsUtf8}
 use Rattle.std.specs.Str.{is_utf8}
@@ -25,19 +25,19 @@ use Rattle.kmn_parser.specs.Line.{is_sign, place_of}
 use Rattle.kmn_parser.specs.Source.{line_statement, group_after, with_statement, read_lines, with_rule, read_text, parsed}
 use Rattle.kmn_parser.specs.Reading.{read_further, reading_after}
 
--- what is read, and all lines that are left
+-- what is read, followed by all remaining lines
 abbrev pub read_behind : List ℕ → Reading → List Logical → Result Program Refusal
 read_behind source reading lines = elim reading.refused [
   | None ↦ read_lines source reading.group reading.program lines
   | Some found ↦ Err found
 ]
 
--- a sign stands at the same place among the tokens with their texts
+-- a symbol has the same index among the tokens with their texts
 pub place_with_texts : (source : List ℕ) (wanted : Sign) (tokens : List Token) → place_of wanted (with_texts source tokens) ≡ position_or_len (λ (token : Token). is_sign wanted token.kind) tokens
 place_with_texts source wanted [] = refl
 place_with_texts source wanted (token ∷ tokens) = ap (λ n. cond (not (is_sign wanted token.kind)) (1 + n) 0) (place_with_texts source wanted tokens)
 
--- what holds of all, element by element
+-- a property of all elements, element by element
 pub by_recursion : {X : Type 0} (P : X → Type 0) (xs : List X) → All P xs → AllByRecursion P xs
 by_recursion P [] all = tt
 by_recursion P (x ∷ xs) all = (All-head P x xs all, by_recursion P xs (All-tail P x xs all))
@@ -52,7 +52,7 @@ read_one group program None source line lines =
     ]) [ Ok statement ↦ refl | Err found ↦ refl ]
 read_one group program (Some found) source line lines = refl
 
--- a line more is the first of those that were left
+-- the next line is the first of the remaining lines
 pub reads_on : (source : List ℕ) (reading : Reading) (line : Logical) (lines : List Logical)
     → read_behind source (reading_after source reading line) lines ≡ read_behind source reading (line ∷ lines)
 reads_on source reading line lines = read_one reading.group reading.program reading.refused source line lines
@@ -72,7 +72,7 @@ parsed_text source text short same utf8 =
     (le-ltb TEXT_BYTES (length source) short) (is_utf8-from_IsUtf8 source utf8)
     ∙ ap read_text (sym same)
 
--- one that is short enough and not in UTF-8 is refused as such
+-- a source that is short enough and not in UTF-8 is refused as such
 pub parsed_other : (source : List ℕ) → length source ≤ TEXT_BYTES → ¬ (IsUtf8 source) → parsed source ≡ Err (refusal 1 L01)
 unfolding parsed
 parsed_other source short other =

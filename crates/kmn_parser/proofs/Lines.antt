@@ -1,4 +1,4 @@
--- Items in a row are told apart again.
+-- Consecutive items can be separated again.
 use Rattle.std.specs.Prelude.{◌≡◌, true, false, List, [], ◌∷◌, Option, None}
 use Rattle.std.proofs.Common.{refl}
 use Rattle.rule_model.specs.declared.program.SrcItem.{SrcItem}

@@ -1,4 +1,4 @@
--- The statements of a program make it again.
+-- The statements of a program make up the program.
 use Rattle.std.proofs.Common.{◌≡◌, List, [], ◌∷◌, ◌++◌, map, refl, sym, ◌∙◌, ap, append_assoc}
 use Rattle.std.specs.Prelude.{fold, flat_map}
 use Rattle.std.proofs.lemmas.List.{append-nil}

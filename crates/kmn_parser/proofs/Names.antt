@@ -20,7 +20,7 @@ use Rattle.kmn_parser.specs.Spelled.{IsSpelledName}
 use Rattle.kmn_parser.proofs.LineForms.{is_plain_byte, is_word_text, is_still_byte, IsNumberText, IsTokenText}
 use Rattle.kmn_parser.proofs.Forms.{IsPrintedName}
 
--- what a token without a fault is
+-- the kind of a token without a fault
 fault-parts : (forbidden closed number : Bool) (digits : Option Code)
     → is_some (if forbidden then Some L02 else (if not closed then Some L03 else (if number then digits else None))) ≡ false
     → (forbidden ≡ false) × (number ≡ true → is_some digits ≡ false)

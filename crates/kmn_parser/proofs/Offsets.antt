@@ -51,7 +51,7 @@ no-less : (n : ℕ) (ds : List ℕ) → n ≤ digits_value_after 10 n ds
 no-less n [] = omega arith
 no-less n (d ∷ ds) = omega (arith, no-less (n * 10 + digit_value d) ds)
 
--- a number that keeps the bound is read without it
+-- a number within the bound is read without it
 unbounded : (bound n : ℕ) (ds : List ℕ) → digits_value_after 10 n ds ≤ bound → fold (with_digit bound 10) n ds ≡ digits_value_after 10 n ds
 unbounded bound n [] fits = refl
 unbounded bound n (d ∷ ds) fits =

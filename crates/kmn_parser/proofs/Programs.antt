@@ -1,4 +1,4 @@
--- The text of a program is read as it.
+-- The text of a program is read as the program.
 use Rattle.std.proofs.Common.{◌≡◌, ℕ, suc, ◌+◌, ◌≤◌, Bool, true, false, List, [], ◌∷◌, ◌++◌, length, map, Option, None, Some, refl, sym, ◌∙◌, ap, subst, arith}
 use Rattle.std.specs.Prelude.{Ok, codes, flat_map}
 use Rattle.kmn_lines.specs.Tokens.{begins_forbidden}

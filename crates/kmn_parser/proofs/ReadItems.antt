@@ -1,4 +1,4 @@
--- The items that are read of sound tokens, and which of them stand as a key.
+-- The items that are read from sound tokens, and which of them are allowed as a key.
 use Rattle.std.proofs.Common.{◌≡◌, ℕ, zero, suc, ◌+◌, Bool, true, false, ◌&&◌, ◌||◌, if◌then◌else◌, nat_eq, List, [], ◌∷◌, length, take, drop, Option, None, Some, Result, Ok, Err, refl, subst}
 use Rattle.std.specs.Prelude.{All, IsUtf8, chars}
 use Rattle.std.specs.List.{list_all}
@@ -47,7 +47,7 @@ pub record IsClean (text : List ℕ) : Type 0 where
   pub utf8 : IsUtf8 text
   pub clean : has_forbidden text ≡ false
 
--- the text of the token at a place, of which there may be none
+-- the text of the token at an index, or an empty text if there is none
 pub text-clean : (place : ℕ) (tokens : List LineToken) → All IsSoundToken tokens → IsClean (text_at place tokens)
 text-clean place [] sound = record { utf8 = IsUtf8-nil; clean = refl }
 text-clean zero (token ∷ tokens) sound =
@@ -61,7 +61,7 @@ quoted-characters text clean =
     (λ e. clean-characters (inside text) (IsUtf8-from_is_utf8 (inside text) e) (clean-take _ (drop 1 text) (clean-drop 1 text clean.clean)))
     (λ e. All-nil IsCharacter)
 
--- the number that a token says of an item is a character
+-- if a token begins a character item, its number is a character
 abbrev IsSoundLead : Lead → Type 0
 IsSoundLead (lead.One c) = IsCharacter c
 IsSoundLead other = Unit {0}
@@ -105,7 +105,7 @@ lead-sound : (tokens : List LineToken) → All IsSoundToken tokens → IsSoundLe
 lead-sound [] sound = tt
 lead-sound (token ∷ tokens) sound = token-lead-sound (begins_open tokens) token.kind token.text (All-head IsSoundToken token tokens sound).number
 
--- what an item stands as, in a section
+-- what an item is in a section
 abbrev StandsIn : Where → SrcItem → Type 0
 StandsIn section.Key item = StandsAsKey item
 StandsIn other item = Unit {0}
@@ -140,7 +140,7 @@ quoted-read place seen at characters sound =
     cond_both (is_crowded place seen (length characters)) _ _ (ItemsRead place) (λ e. tt)
     (λ e. All-map (IsReadIn place) source.Char characters (λ k d l. character-read place _ (sound k d l)))
 
--- the id of a system option that a name is found to have
+-- the id of the system option that a name names
 option-known : (name : List ℕ) (id : ℕ) → option_id name ≡ Some id → is_option_id id ≡ true
 unfolding option_ids
 option-known name id found = row-found is_option_id option_ids (bare_name name) id found refl
@@ -194,7 +194,7 @@ item-of-word place seen last at named tokens sound stands =
     formed-read place (broken last at (word_slots named) tokens) _
     (λ e. one-item place (word_item place named tokens) (record { itself = word-read place named tokens sound; stands = stands }))
 
--- of the words, `any` alone stands as a key
+-- of the words, only `any` is allowed as a key
 key-of-word : (seen : Seen) (last at : ℕ) (named : ItemWord) (tokens : List LineToken) → All IsSoundToken tokens
     → ItemsRead section.Key (read_led section.Key seen last at (lead.Named named) tokens)
 key-of-word seen last at word.Any tokens sound =
@@ -267,7 +267,7 @@ item-read : (place : Where) (seen : Seen) (last at : ℕ) (tokens : List LineTok
 unfolding read_item
 item-read place seen last at tokens sound = led-read place seen last at (lead_of tokens) tokens sound (lead-sound tokens sound)
 
--- items, if they are such, are read in a section
+-- if items are read, they are items of the section
 abbrev pub AllRead : Where → Result (List SrcItem) TokenRefusal → Type 0
 AllRead place (Ok items) = All (IsReadIn place) items
 AllRead place (Err found) = Unit {0}
@@ -291,7 +291,7 @@ items-read place seen last zero at (token ∷ tokens) sound =
     (item-read place seen last at (token ∷ tokens) sound)
     (λ taken. items-read place taken.seen last taken.more (at + 1) tokens (All-tail IsSoundToken token tokens sound))
 
--- an item, if it is one, stands as a key
+-- if an item is read, it is allowed as a key
 abbrev pub KeyRead : Result SrcItem TokenRefusal → Type 0
 KeyRead (Ok item) = IsReadIn section.Key item
 KeyRead (Err found) = Unit {0}

@@ -1,4 +1,4 @@
--- The program of a source is read: its lines are numbered, its tokens sound, and each statement is what its line states.
+-- The program of a source is read: its lines are numbered, its tokens are sound, and each statement is the statement of its line.
 use Rattle.std.proofs.Common.{◌≡◌, ℕ, zero, suc, ◌+◌, ◌≤◌, Bool, true, false, not, if◌then◌else◌, nat_lt, get_or, List, [], ◌∷◌, ◌++◌, length, Option, None, Some, Result, Ok, Err, refl, sym, subst, arith}
 use Rattle.std.specs.Prelude.{All, IsUtf8}
 use Rattle.std.specs.Str.{is_utf8}
@@ -49,7 +49,7 @@ lines-numbered source short = λ k d l.
     let few = few-ends line.from source in
     record { first = omega (arith, number); last = omega (arith, number, few, short) }
 
--- the last of the groups is the one that is known
+-- the last of the groups is the known one
 abbrev Knows : LastGroup → List GroupDef → Type 0
 Knows group [] = group ≡ Missing
 Knows group (last ∷ []) = group ≡ last_group last.using_keys
@@ -71,13 +71,13 @@ same-group true false e = cc
 same-group false true e = cc
 same-group false false e = refl
 
--- what is known of the groups behind another is known of all
+-- if the last group is known among the groups after another, it is known among all
 knows-behind : (known : LastGroup) (group next : GroupDef) (groups : List GroupDef) (rule : RuleDef)
     → Knows known (with_rule (next ∷ groups) rule) → Knows known (group ∷ with_rule (next ∷ groups) rule)
 knows-behind known group next [] rule knows = knows
 knows-behind known group next (more ∷ groups) rule knows = knows
 
--- a rule joins the last group, which uses keys as the rule wants it
+-- a rule joins the last group, which uses keys as the rule requires
 rule-joins : (using_keys : Bool) (groups : List GroupDef) (rule : RuleDef) → Knows (last_group using_keys) groups → IsReadRule using_keys rule
     → All IsReadGroup groups → All IsReadGroup (with_rule groups rule) × Knows (last_group using_keys) (with_rule groups rule)
 rule-joins using_keys [] rule knows read all = (all, knows)
@@ -95,7 +95,7 @@ rule-joins using_keys (group ∷ next ∷ groups) rule knows read all =
       knows-behind (last_group using_keys) group next groups rule rest.1,
     )
 
--- a program and one statement more
+-- a program with another statement
 one-more : (group : LastGroup) (program : Program) (stated : Statement) → IsReadSoFar group program → IsReadStatement group stated
     → IsReadSoFar (group_after group stated) (with_statement program stated)
 one-more group program statement.Nothing far stated = far
@@ -123,7 +123,7 @@ one-more group program (statement.Rule rule) far (using_keys, known, read) =
       knows = subst (λ (g : LastGroup). Knows g (with_rule program.groups rule)) (sym known) joined.1;
     }
 
--- what is read, if anything, is read
+-- if a program is read, it is a read program
 abbrev WholeRead : Result Program Refusal → Type 0
 WholeRead (Ok program) = IsReadProgram program
 WholeRead (Err found) = Unit {0}

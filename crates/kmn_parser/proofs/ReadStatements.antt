@@ -1,4 +1,4 @@
--- The statement that is read of a line's sound tokens.
+-- The statement that is read from a line's sound tokens.
 use Rattle.std.proofs.Common.{◌≡◌, ◌≢◌, ℕ, suc, ◌+◌, ◌-◌, Bool, true, false, not, ◌&&◌, ◌||◌, if◌then◌else◌, nat_lt, nat_le, nat_eq, List, [], ◌∷◌, length, take, drop, codes, Option, None, Some, is_some, option_map, unwrap_or, Result, Ok, Err, refl, sym, ◌∙◌, subst, arith}
 use Rattle.std.specs.Prelude.{All, IfSome}
 use Rattle.std.specs.Option.{option_or}
@@ -50,7 +50,7 @@ name-read text clean named =
       few = omega (arith, few, same);
     }
 
--- the name that stands first of the tokens of a form
+-- the name at the beginning of the tokens of a form
 form-named : (last at : ℕ) (slots : List Slot) (tokens : List LineToken) → broken last at (slot.Name ∷ slots) tokens ≡ None → is_name (text_at 0 tokens) ≡ true
 form-named last at slots [] whole = cc
 form-named last at slots (token ∷ tokens) whole =
@@ -63,7 +63,7 @@ form-store last at slots (token ∷ tokens) whole =
     let here = no-fault at (is_wordy token.kind && is_name (bare_name token.text)) code.S02 (broken last (at + 1) slots tokens) whole in
     (and_parts (is_wordy token.kind) (is_name (bare_name token.text)) here).1
 
--- the name at a place of a line
+-- the name at an index of a line
 named-at : (last at place : ℕ) (slots : List Slot) (tokens : List LineToken) → All IsSoundToken tokens
     → broken last at (slot.Name ∷ slots) (drop place tokens) ≡ None → IsName (text_at place tokens)
 named-at last at place slots tokens sound whole =
@@ -74,7 +74,7 @@ named-at last at place slots tokens sound whole =
 section-read : (place : Where) (items : List SrcItem) → All (IsReadIn place) items → All IsReadItem items
 section-read place items read = All-weaker (IsReadIn place) IsReadItem (λ item in_place. in_place.itself) items read
 
--- what is read of a line with a number, behind a group
+-- what is read from a line with a number, after a group
 abbrev pub IsReadStatement : LastGroup → Statement → Type 0
 IsReadStatement group statement.Nothing = Unit {0}
 IsReadStatement group (statement.Store store) = IsReadStore store
@@ -155,7 +155,7 @@ store-read line name items placed read clean named known =
       | false ↦ λ e f. ordinary-store line name items placed read (name-read name clean e)
     ]) named known
 
--- a form that goes on is not at its end
+-- a form that continues is not at its end
 goes-on : (last at : ℕ) (wanted : Slot) (tokens : List LineToken) → broken last at (wanted ∷ []) tokens ≡ None → is_none_left tokens ≡ false
 goes-on last at wanted [] whole = cc
 goes-on last at wanted (token ∷ tokens) whole = ne_eqb (suc (length tokens)) 0 (λ e. omega (arith, e))
@@ -200,7 +200,7 @@ group-line group line last tokens placed sound =
     let form = (first-none (group_head tokens (behind_close (drop 2 tokens))) (broken last 2 (slot.Name ∷ slot.Close ∷ []) (drop 2 tokens)) whole).1 in
     (placed, named-at last 2 2 (slot.Close ∷ []) tokens sound form, refl))
 
--- a group that stands before a line
+-- a group before a line
 some-group : (group : LastGroup) → no_group group ≡ None → group ≡ last_group (uses_keys group)
 some-group Missing e = cc
 some-group UsingKeys e = refl
@@ -229,7 +229,7 @@ match-line kind group line last tokens other placed sound =
     (items-read section.Output unseen last 0 2 (drop 2 tokens) (All-drop IsSoundToken 2 tokens sound))
     (λ output read. (uses_keys group, opened, bare-rule (uses_keys group) line kind output placed other read)))
 
--- the key of a rule, which stands there exactly behind a +, and only in a group with keys
+-- the key of a rule: it is present exactly after a +, and only in a group with keys
 abbrev RuleKeyRead : Bool → Bool → Result (Option SrcItem) TokenRefusal → Type 0
 RuleKeyRead using_keys plus (Ok key) = IfSome key (λ item. StandsAsKey item × IsReadItem item) × (is_some key ≡ plus) × (plus ≡ true → using_keys ≡ true)
 RuleKeyRead using_keys plus (Err found) = Unit {0}
@@ -282,7 +282,7 @@ body-read group line last arrow plus tokens sound =
     (key-if (uses_keys group) (nat_lt plus arrow) (read_key last (plus + 1) key_tokens) (fault plus code.S07) read)
     (items-read section.Output unseen last 0 (arrow + 1) (drop (arrow + 1) tokens) (All-drop IsSoundToken (arrow + 1) tokens sound))
 
--- a key exactly where the group uses keys
+-- there is a key exactly where the group uses keys
 same-keys : (using_keys plus key : Bool) → key ≡ plus → (plus ≡ true → using_keys ≡ true) → (not using_keys || plus) ≡ true → key ≡ using_keys
 same-keys true plus key e f g = e ∙ g
 same-keys false true key e f g = let no : false ≡ true = f refl in absurd (cc)
@@ -298,7 +298,7 @@ rule-of using_keys plus line rule placed needed read = record {
   bare = λ other. absurd (other read.plain);
 }
 
--- where no code stands at the first token, a group stands before, and a rule of one that uses keys has a key
+-- if there is no code at the first token, there is a group before, and a rule of a group that uses keys has a key
 abbrev IsReadHead : LastGroup → Bool → Type 0
 IsReadHead group plus = (group ≡ last_group (uses_keys group)) × ((not (uses_keys group) || plus) ≡ true)
 

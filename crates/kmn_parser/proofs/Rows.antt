@@ -26,7 +26,7 @@ next-same : (bytes rest : List ℕ) → first_or_end (bytes ++ 10 ∷ rest) ≡ 
 next-same [] rest = refl
 next-same (byte ∷ bytes) rest = refl
 
--- the physical line that a line and its LF make
+-- the physical line that consists of a line and its LF
 line-physical : (line number from : ℕ) (r : LineState) (at : ℕ) (bytes rest : List ℕ) → list_all is_inner bytes ≡ true
     → physical_lines number from r at (bytes ++ 10 ∷ rest)
     ≡ physical_line number from (at + length bytes) (at + length bytes + 1) (read_on r at bytes) ∷ physical_lines (number + 1) (at + length bytes + 1) line_start (at + length bytes + 1) rest
@@ -64,7 +64,7 @@ rows_gathered number at (line ∷ lines) ok =
     ap (gather None) (line-whole number at line (rows lines) (All-head IsWholeLine line lines ok))
     ∙ ap (λ (ls : List Logical). record { first_line = number; from = at; to = at + length line + 1 } ∷ ls) (rows_gathered (number + 1) (at + length line + 1) lines (All-tail IsWholeLine line lines ok))
 
--- the first byte is not that of a mark
+-- the first byte is not that of a byte order mark
 marks-not : (lines : List (List ℕ)) → starts_with (λ a b. a == b) (rows lines) (0xEF ∷ 0xBB ∷ 0xBF ∷ []) ≡ false → mark_size (rows lines) ≡ 0
 marks-not lines e = cond-false _ 3 0 e
 
@@ -73,7 +73,7 @@ unfolding logicals
 rows_logicals lines e ok =
     ap (λ (n : ℕ). gather None (physical_lines_at 1 n (rows lines))) (marks-not lines e) ∙ rows_gathered 1 0 lines ok
 
--- no prefix
+-- there is no prefix
 lower-not : (byte : ℕ) → (byte == 36) ≡ false → (to_ascii_lowercase byte == 36) ≡ false
 lower-not byte e = elim (cases_lt byte 65) [
   | inl l ↦ ap (λ (b : ℕ). b == 36) (cond-true (nat_lt byte 65) byte _ (lt-ltb byte 65 l)) ∙ e
@@ -111,7 +111,7 @@ pub if-same : {A : Type 0} (b : Bool) (x : A) → (if b then x else x) ≡ x
 if-same true x = refl
 if-same false x = refl
 
--- the text of a line, taken out of its source
+-- the text of a line as a part of its source
 pub line-text : (source : List ℕ) (at : ℕ) (line rest : List ℕ) → drop at source ≡ line ++ rest → drop at (take (at + length line) source) ≡ line
 line-text source at line rest e = drop-take at (length line) source ∙ ap (λ (xs : List ℕ). take (length line) xs) e ∙ take-append_seam line rest
 

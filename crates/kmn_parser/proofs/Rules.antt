@@ -32,7 +32,7 @@ use Rattle.kmn_parser.proofs.Forms.{ArePrinted}
 use Rattle.kmn_parser.proofs.LineForms.{items_tokens, tokens_in}
 use Rattle.kmn_parser.proofs.Sections.{tokens-append, tokens-spaced, tokens-joined, items_read, key_reads}
 
--- tokens among which a sign is not
+-- tokens that do not contain a symbol
 abbrev pub Without : Sign → List LineToken → Type 0
 Without wanted tokens = list_all (λ (t : LineToken). not (is_sign wanted t.kind)) tokens ≡ true
 
@@ -47,7 +47,7 @@ spaced-plus (text ∷ texts) name = spaced-plus texts name
 without-append : (wanted : Sign) (xs ys : List LineToken) → Without wanted xs → Without wanted ys → Without wanted (xs ++ ys)
 without-append wanted xs ys e f = list_all-append (λ (t : LineToken). not (is_sign wanted t.kind)) xs ys ∙ and_from _ _ e f
 
--- a name is no sign
+-- a name is not a symbol
 name-without : (wanted : Sign) (name : List ℕ) (rest : List LineToken) → is_sign wanted kind.Word ≡ false → ((c : ℕ) → is_sign wanted (kind.Number c) ≡ false)
     → Without wanted rest → Without wanted (name_token name ∷ rest)
 name-without wanted name rest word number more =
@@ -161,7 +161,7 @@ rule-parts line context output key c k o last ca cp ka some rc rk ro =
     ∙ ap (λ h. earliest h (rule_body UsingKeys line last (length b) (length c) t)) (head-none (length b) (length c) t within (ap has_items behind ∙ some) less)
     ∙ ap (earliest None) (body-ok line last (length b) (length c) t context output key c k front (rc last 0) less middle (rk last (length c + 1)) (ap (read_items section.Output unseen last 0 (length b + 1)) behind ∙ ro last (length b + 1)))
 
--- what a line begins with is no word of another statement
+-- the first token of a line is not the word of another statement
 abbrev pub BeginsRule : List LineToken → Type 0
 BeginsRule tokens = (begins_word (codes "store") tokens ≡ false) × (begins_word (codes "begin") tokens ≡ false) × (begins_word (codes "group") tokens ≡ false)
     × (begins_word (codes "match") tokens ≡ false) × (begins_word (codes "nomatch") tokens ≡ false)

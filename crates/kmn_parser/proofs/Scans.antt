@@ -1,4 +1,4 @@
--- Printed lines are tokenised back.
+-- Tokenizing a printed line returns its tokens.
 use Rattle.std.proofs.Common.{◌≡◌, ℕ, zero, suc, ◌+◌, ◌-◌, ◌≤◌, Bool, true, false, if◌then◌else◌, List, [], ◌∷◌, ◌++◌, length, take, drop, Option, None, Some, refl, sym, ◌∙◌, ap, arith}
 use Rattle.std.proofs.lemmas.List.{drop-take}
 use Rattle.std.proofs.Math.Seq.{take-append_seam, drop-append_seam}
@@ -19,7 +19,7 @@ use Rattle.kmn_tokens.proofs.Scans.{first_fault_skip}
 abbrev token_of : List ℕ → LineToken
 token_of text = record { kind = token_kind text; text = text }
 
--- the tokens of a text without their places, where some first bytes belong to the token before
+-- the tokens of a text without their positions, if its first bytes belong to the previous token
 abbrev lexed : ℕ → List ℕ → List LineToken
 lexed n [] = []
 lexed (suc n) (byte ∷ bytes) = lexed n bytes
@@ -31,7 +31,7 @@ with_texts-if : (source : List ℕ) (b : Bool) (ts us : List Token) (xs ys : Lis
 with_texts-if source true ts us xs ys g h = g
 with_texts-if source false ts us xs ys g h = h
 
--- the token of a text that stands in a source at a place
+-- the token of a text at a position of a source
 placed-token : (source : List ℕ) (line at : ℕ) (text rest : List ℕ) → drop at source ≡ text ++ rest → with_text source (token_at line at text) ≡ token_of text
 placed-token source line at text rest e =
     let same : text_of source (token_at line at text) ≡ text =
@@ -99,7 +99,7 @@ fault-printed [] back = refl
 fault-printed (None ∷ ps) back = fault-printed ps back
 fault-printed (Some token ∷ ps) (here, back) = fault-token token token.text (printed ps) refl here ∙ fault-printed ps back
 
--- the tokens of a line that stands in a source are those that were written
+-- the tokens of a line in a source are those that were written
 pub tokens_read_back : (source : List ℕ) (line at : ℕ) (ps : List (Option LineToken)) (rest : List ℕ) → drop at source ≡ printed ps ++ rest → AreReadBack ps
     → (with_texts source (scanned line 0 at (printed ps)) ≡ tokens_in ps) × (first_fault 0 (printed ps) ≡ None)
 tokens_read_back source line at ps rest e back = (with_texts-lexed source line 0 at (printed ps) rest e ∙ lexed-printed ps back, fault-printed ps back)

@@ -1,4 +1,4 @@
--- What is printed so is read back, and makes whole lines.
+-- A line that is printed from sound tokens is read back, and is a whole line.
 use Rattle.std.proofs.Common.{◌≡◌, ℕ, Bool, true, false, not, ◌&&◌, ◌||◌, if◌then◌else◌, ◌==◌, List, [], ◌∷◌, ◌++◌, Option, None, Some, refl, sym, ◌∙◌, ap, subst, append_assoc}
 use Rattle.std.specs.List.{list_all}
 use Rattle.std.proofs.lemmas.List.Folds.{list_all-append}
@@ -40,7 +40,7 @@ sound_back blank clean [] sound = tt
 sound_back blank clean (None ∷ ps) sound = sound_back true clean ps sound
 sound_back blank clean (Some token ∷ ps) (is, follows, sound) = (token-back token.kind blank token.text (printed ps) is follows, sound_back false (is_clean token.kind token.text) ps sound)
 
--- no comment begins at a word that is not c alone
+-- a word that is not only a c does not begin a comment
 comment-word : (blank : Bool) (byte : ℕ) (bytes rest : List ℕ) → list_all is_still_byte (byte ∷ bytes) ≡ true → (blank ≡ true → is_alone_c (byte ∷ bytes) ≡ false) → starts_comment blank byte (first_or_end (bytes ++ rest)) ≡ false
 comment-word false byte bytes rest still lone = refl
 comment-word true byte [] rest still lone = ap (λ b. b && (is_blank (first_or_end rest) || (first_or_end rest == 10) || (first_or_end rest == 13))) (lone refl)
@@ -106,7 +106,7 @@ number-inner : (upper : Bool) (digits : List ℕ) → list_all is_inner digits �
 number-inner true digits e = e
 number-inner false digits e = e
 
--- what a token has of a line's bytes
+-- the bytes of a token are bytes inside a line
 token-inner : (k : TokenKind) (text : List ℕ) → IsTokenText k text → list_all is_inner text ≡ true
 token-inner kind.Word text is = still-inner text is.1
 token-inner (kind.Number c) text is = ap (list_all is_inner) is.is ∙ number-inner is.upper is.digits (safe-inner is.digits (digits-safe is.digits is.all))
@@ -128,7 +128,7 @@ line_inner blank clean (None ∷ ps) sound = line_inner true clean ps sound
 line_inner blank clean (Some token ∷ ps) (is, follows, sound) =
     list_all-append is_inner token.text (printed ps) ∙ and_from _ _ (token-inner token.kind token.text is) (line_inner false (is_clean token.kind token.text) ps sound)
 
--- a line that is printed so is whole
+-- a line that is printed from sound tokens is whole
 pub sound_whole : (ps : List (Option LineToken)) → AreSound true true ps → begins_plainly (printed ps) ≡ true → IsWholeLine (printed ps)
 sound_whole ps sound plain = record {
   inner = line_inner true true ps sound;

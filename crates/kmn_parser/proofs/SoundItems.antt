@@ -1,4 +1,4 @@
--- Items as they are written are told apart again.
+-- Written items can be separated again.
 use Rattle.std.proofs.Common.{◌≡◌, ℕ, Bool, true, false, not, ◌&&◌, if◌then◌else◌, List, [], ◌∷◌, ◌++◌, drop, Option, None, Some, refl}
 use Rattle.std.specs.Prelude.{nat_eq, bit_and, filter, map}
 use Rattle.std.specs.Fmt.{decimal}
@@ -46,7 +46,7 @@ table-sound : list_all (λ row. IsBracketWord row.0) shift_flags ≡ true
 unfolding IsBracketWord shift_flags begins_forbidden
 table-sound = refl
 
--- a name before what ends a word
+-- a name before a byte that ends a word
 named-kind : (k : TokenKind) (clean : Bool) (name : List ℕ) (rest : List (Option LineToken)) → is_wordy k ≡ true → IsTokenText k name → ends_word (printed rest) ≡ true
     → ((c : Bool) → AreSound false c rest) → AreSound false clean (Some (record { kind = k; text = name }) ∷ rest)
 named-kind kind.Word clean name rest wordy is ends more = (is, (ends, λ e. absurd cc), more (ends_clean name))
@@ -64,7 +64,7 @@ name_sound clean name rest ok ends more = named-kind (name_kind name) clean name
 call-sound : (clean : Bool) (name : List ℕ) (rest : List (Option LineToken)) → IsPrintedName name → AreSound false true rest → AreSound false clean (Some (name_token name) ∷ Some closing ∷ rest)
 call-sound clean name rest ok more = name_sound clean name (Some closing ∷ rest) ok refl (λ c. (refl, tt, more))
 
--- a name, a sign and a value in the parentheses
+-- a name, a symbol and a value in parentheses
 equal-sound : (name value : List ℕ) (rest : List (Option LineToken)) → IsPrintedName name → IsTokenText kind.Quoted (value_token value).text → AreSound false true rest
     → AreSound false true (Some (name_token name) ∷ None ∷ Some equal ∷ None ∷ Some (value_token value) ∷ Some closing ∷ rest)
 equal-sound name value rest named sound more =
@@ -75,7 +75,7 @@ unequal-sound : (name value : List ℕ) (rest : List (Option LineToken)) → IsP
 unequal-sound name value rest named sound more =
     name_sound true name (None ∷ Some unequal ∷ None ∷ Some (value_token value) ∷ Some closing ∷ rest) named refl (λ c. (refl, tt, (sound, tt, (refl, tt, more))))
 
--- an item before what ends a word
+-- an item before a byte that ends a word
 pub item_sound : (place : Where) (blank clean : Bool) (i : SrcItem) (rest : List (Option LineToken)) → IsPrinted place i → ends_word (printed rest) ≡ true → AreSound false true rest → AreSound blank clean (item_pieces i ++ rest)
 unfolding begins_forbidden
 item_sound place blank clean (source.Char c) rest ok ends more = (char_number c ok, ends, more)

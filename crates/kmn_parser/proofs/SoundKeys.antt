@@ -20,7 +20,7 @@ use Rattle.kmn_parser.specs.ProgramLaws.{IsOwnKey, IsReadKey}
 use Rattle.kmn_parser.proofs.CleanTexts.{clean-characters, counted-characters}
 use Rattle.kmn_parser.proofs.SoundTokens.{IsSoundToken}
 
--- what each row of a table has, the number has that is found
+-- if each row of a table has a property, a number that is found in the table has it
 pub row-found : (test : ℕ → Bool) (table : List (List ℕ × ℕ)) (name : List ℕ) (n : ℕ) → named_in table name ≡ Some n
     → list_all (λ (row : List ℕ × ℕ). test row.1) table ≡ true → test n ≡ true
 row-found test [] name n found each = cc
@@ -41,7 +41,7 @@ codes-fit name code found =
     let both = and_parts (nat_lt 0 code) (nat_lt code 0x1_0000) (row-found is_code key_codes name code found refl) in
     (ltb-true 0 code both.0, ltb-true code 0x1_0000 both.1)
 
--- the flags of a virtual key: its own bit, and no flag that there isn't
+-- the flags of a virtual key: its own bit, and only existing flags
 record AreFlags (flags : ℕ) : Type 0 where
   virtual : bit_and flags 0x4000 ≡ 0x4000
   known : bit_and flags 0x437F ≡ flags
@@ -112,7 +112,7 @@ unless-short : (short prefix : Bool) (found : Option (List ℕ)) → is_some (if
 unless-short true prefix found e = refl
 unless-short false prefix found e = cc
 
--- a name of a character has few bytes
+-- the name of a character has few bytes
 short-own : (text : List ℕ) → is_some (name_chars text) ≡ true → length text ≤ 80
 unfolding name_chars
 short-own text e = leb-true (length text) 80 (unless-short (nat_le (length text) 80) _ _ e)
@@ -127,7 +127,7 @@ few-own text utf8 own =
       | inr named ↦ let short = short-own text named in let few = few-characters text utf8 in omega (arith, short, few)
     ]
 
--- a word that names a key of the keyboard's own
+-- a word that names a custom key
 own-key : (token : LineToken) → IsSoundToken token → is_word token.kind ≡ true → is_own_key token.text ≡ true → IsOwnKey token.text
 own-key token sound word own = record {
   word = record {

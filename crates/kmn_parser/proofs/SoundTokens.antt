@@ -1,5 +1,5 @@
--- The tokens of a source that no rule of tokens refuses: their texts are UTF-8 without U+0000 and U+FFFF, their numbers
--- are characters, and their words are plain.
+-- The tokens of a source that breaks no rule of tokens: their texts are UTF-8 without U+0000 and U+FFFF, their numbers are characters,
+-- and their words are plain.
 use Rattle.std.proofs.Common.{◌≡◌, ℕ, zero, suc, ◌+◌, ◌-◌, ◌<◌, ◌≤◌, ◌==◌, Bool, true, false, not, ◌&&◌, ◌||◌, if◌then◌else◌, cond, nat_lt, get_or, List, [], ◌∷◌, length, take, drop, Option, None, Some, option_map, unwrap_or, refl, sym, ◌∙◌, ap, subst, arith, length-drop}
 use Rattle.std.specs.Prelude.{All, IsUtf8}
 use Rattle.std.specs.Option.{option_or}
@@ -24,7 +24,7 @@ use Rattle.kmn_lines.proofs.Numbered.{drop-next}
 use Rattle.kmn_items.specs.TokenTexts.{LineToken, text_of, with_text, with_texts}
 use Rattle.kmn_parser.specs.ProgramLaws.{IsCharacter}
 
--- the text of a token breaks no rule of tokens, and is what the token's kind says
+-- the text of a token breaks no rule of tokens, and is a text of the token's kind
 pub record IsFaultless (sort : TokenKind) (text : List ℕ) : Type 0 where
   pub is : sort ≡ token_kind text
   pub faultless : token_fault text ≡ None
@@ -38,7 +38,7 @@ taken-length zero bytes = refl
 taken-length (suc n) [] = refl
 taken-length (suc n) (byte ∷ bytes) = ap (λ more. byte ∷ more) (taken-length n bytes)
 
--- the text of a token that begins with the bytes behind a place
+-- the text of a token that begins with the bytes from a position on
 pub text-at : (source : List ℕ) (end line at size : ℕ) (bytes : List ℕ) → drop at (take end source) ≡ bytes → 0 < length bytes
     → text_of source (token_at line at (take size bytes)) ≡ take size bytes
 text-at source end line at size bytes e some =
@@ -155,7 +155,7 @@ kind-sound text e =
     (λ number. digits-character (drop 2 text) ((text-parts text e).1 number))
     (λ other. plain-sound (first_or_end text) (first_or_end (drop 1 text)))
 
--- a token that no rule of tokens refuses, with its text
+-- a token that breaks no rule of tokens, with its text
 pub record IsSoundToken (token : LineToken) : Type 0 where
   pub utf8 : IsUtf8 token.text
   pub clean : has_forbidden token.text ≡ false

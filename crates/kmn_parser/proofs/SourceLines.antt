@@ -1,4 +1,4 @@
--- The statements of a source stand in the order of their lines, each in a line of its own.
+-- The statements of a source are in the order of their lines, and each has its own line.
 use Rattle.std.proofs.Common.{◌≡◌, ℕ, ◌+◌, ◌==◌, ◌<◌, ◌≤◌, Bool, true, false, not, ◌||◌, ◌&&◌, if◌then◌else◌, nat_eq, nat_lt, List, [], ◌∷◌, ◌++◌, drop, length, Option, None, Some, Result, Ok, Err, inl, inr, refl, sym, ap, subst, ◌∙◌, append_assoc, arith}
 use Rattle.std.proofs.lemmas.Bool.{and_parts, ne_eqb}
 use Rattle.std.proofs.lemmas.Bool.Decides.{eqb_tells}
@@ -35,12 +35,12 @@ use Rattle.kmn_parser.specs.SourceLaws.{store_lines, begin_lines, group_lines, l
 use Rattle.kmn_parser.proofs.StatedLines.{StandsAt}
 use Rattle.kmn_parser.proofs.StatedLines.{ReadsAt, line-at}
 
--- each logical line has a number above those of the lines before it, and the first at least a bound
+-- the number of each logical line is above the numbers of the lines before it, and the first is at least a bound
 abbrev pub LinesFrom : ℕ → List Logical → Type 0
 LinesFrom low [] = Unit {0}
 LinesFrom low (line ∷ lines) = (low ≤ line.first_line) × LinesFrom (line.first_line + 1) lines
 
--- physical lines are numbered one by one
+-- physical lines are numbered consecutively
 abbrev pub PhysicalLinesFrom : ℕ → List PhysicalLine → Type 0
 PhysicalLinesFrom n [] = Unit {0}
 PhysicalLinesFrom n (p ∷ ps) = (p.line ≡ n) × PhysicalLinesFrom (n + 1) ps
@@ -58,7 +58,7 @@ pub LinesFrom-less : (low high : ℕ) (lines : List Logical) → low ≤ high �
 LinesFrom-less low high [] le from = tt
 LinesFrom-less low high (line ∷ lines) le (here, rest) = (omega (arith, here, le), rest)
 
--- the logical lines of physical lines from a number on, behind one that was begun before
+-- the logical lines of physical lines from a number on, after one that was begun before
 abbrev pub GathersFrom : ℕ → ℕ → Option Logical → List PhysicalLine → Type 0
 GathersFrom low n None ps = low ≡ n → LinesFrom low (gather None ps)
 GathersFrom low n (Some line) ps = low ≤ line.first_line → line.first_line < n → LinesFrom low (gather (Some line) ps)
@@ -77,12 +77,12 @@ gather_from low n (Some line) (p ∷ ps) (here, rest) = λ le lt.
       | false ↦ (le, LinesFrom-less (line.first_line + 1) (n + 1) (gather None ps) (omega (arith, lt)) (gather_from (n + 1) (n + 1) None ps rest refl))
     ]
 
--- the logical lines of a source rise from 1
+-- the line numbers of the logical lines of a source rise from 1
 pub logicals_from : (source : List ℕ) → LinesFrom 1 (logicals source)
 unfolding logicals
 logicals_from source = gather_from 1 1 None _ (physical_lines_from 1 (mark_size source) line_start (mark_size source) (drop (mark_size source) source)) refl
 
--- the groups' lines stay, and the rules' lines get one more
+-- adding a rule keeps the lines of the groups, and adds a line to those of the rules
 pub group_lines-with_rule : (groups : List GroupDef) (rule : RuleDef) → group_lines (with_rule groups rule) ≡ group_lines groups
 group_lines-with_rule [] rule = refl
 group_lines-with_rule (group ∷ []) rule = refl
@@ -136,7 +136,7 @@ own-open (first ∷ groups) group none own =
     let rest = own-open groups group none (and_parts (have_own_lines first.rules) _ own).1 in
     λ j. here j && rest j
 
--- a program whose statements are in order, all before a line
+-- a program whose statements are in order and before a line
 pub record IsBefore (line : ℕ) (program : Program) : Type 0 where
   pub order : IsInOrder program
   pub stores : AllBelow line (store_lines program.stores)
@@ -165,7 +165,7 @@ IsBefore-more low high program le before = record {
 abbrev tick : ℕ → ℕ → ℕ
 tick line n = if line == n then 1 else 0
 
--- one statement more, at a line that all are before, leaves no line with two
+-- if all statements are before a line, a statement at this line does not share its line
 pub one_more : (n line : ℕ) (program : Program) → IsBefore n program → statements_at line program + tick line n ≤ 1
 one_more n line program before =
     elim (eqb_tells line n) [
@@ -184,7 +184,7 @@ one_more n line program before =
           omega (arith, apart, zero)
     ]
 
--- a list of lines that got one more line at its end
+-- a list of lines with another line appended
 module _ (n : ℕ) (old new : List ℕ) (e : new ≡ old ++ n ∷ []) where
   pub grown-rises : AllBelow n old → Rises old → Rises new
   grown-rises below rises = subst Rises (sym e) (Rises-push n old below rises)
@@ -295,7 +295,7 @@ before-statement n program (statement.Begin start) at before = before-begin n pr
 before-statement n program (statement.Group group) (at, none) before = before-group n program group at none before
 before-statement n program (statement.Rule rule) at before = before-rule n program.stores program.begins program.groups rule at before
 
--- what is read of a line has its number
+-- a statement that is read from a line has the line's number
 abbrev pub AnswersAt : ℕ → Result Statement Refusal → Type 0
 AnswersAt n (Ok stated) = StandsAt n stated
 AnswersAt n (Err found) = Unit {0}
@@ -304,7 +304,7 @@ pub at_line-at : (n line : ℕ) (read : Result Statement TokenRefusal) → Reads
 at_line-at n line (Ok stated) at = at
 at_line-at n line (Err found) at = tt
 
--- what is read, if anything, is in order
+-- if a program is read, it is in order
 abbrev pub IsOrdered : Result Program Refusal → Type 0
 IsOrdered (Ok program) = IsInOrder program
 IsOrdered (Err found) = Unit {0}

@@ -1,4 +1,4 @@
--- Items that a text can say are read as they are written.
+-- Items that a text can express are read as they are written.
 use Rattle.std.proofs.Common.{◌≡◌, ℕ, ◌<◌, true, false, ◌||◌, List, [], ◌∷◌, length, refl, sym, subst, arith}
 use Rattle.std.specs.Prelude.{nat_eq}
 use Rattle.std.proofs.lemmas.Bool.{eqb-true, or_right}
@@ -32,7 +32,7 @@ spelled-option name value ok fits =
     let read = spelled_value value fits in
     record { named = spelled_name name ok.named; ordinary = ok.ordinary; read = read.read; sound = read.sound }
 
--- what holds of both system options
+-- a property of both system options
 option-cases : (P : ℕ → Type 0) (id : ℕ) → is_option_id id ≡ true → P 31 → P 33 → P id
 option-cases P id known platform layer = elim (nat_eq id 31) as (λ b. nat_eq id 31 ≡ b → (b || nat_eq id 33) ≡ true → P id) [
   | true ↦ λ e f. subst P (sym (eqb-true id 31 e)) platform

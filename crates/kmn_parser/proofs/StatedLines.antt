@@ -16,7 +16,7 @@ use Rattle.kmn_items.specs.TokenTexts.{LineToken, text_at}
 use Rattle.kmn_items.specs.Item.{unseen, read_items}
 use Rattle.kmn_parser.specs.Line.{place_of, begins_word, behind_close, is_none_left, checked, store_fault, store_def, begin_fault, is_using_keys, group_fault, match_fault, earliest, read_store, read_begin, read_group, read_match, rule_body, rule_head, rule_key, read_rule, read_tokens, read_line}
 
--- a statement has the number of a line; an empty line states nothing
+-- a statement has the number of a line; an empty line contains no statement
 abbrev pub StandsAt : ℕ → Statement → Type 0
 StandsAt line statement.Nothing = Unit {0}
 StandsAt line (statement.Store store) = store.line ≡ line
@@ -24,7 +24,7 @@ StandsAt line (statement.Begin start) = start.line ≡ line
 StandsAt line (statement.Group group) = (group.line ≡ line) × (group.rules ≡ [])
 StandsAt line (statement.Rule rule) = rule.line ≡ line
 
--- what is read, if anything, has a number
+-- if a statement is read, it has a number
 abbrev pub ReadsAt : ℕ → Result Statement TokenRefusal → Type 0
 ReadsAt line (Ok read) = StandsAt line read
 ReadsAt line (Err found) = Unit {0}

@@ -1,4 +1,4 @@
--- Each statement but a plain rule is read as it is written.
+-- Each statement except a plain rule is read as it is written.
 use Rattle.std.proofs.Common.{◌≡◌, ℕ, suc, ◌-◌, Bool, true, false, ◌||◌, if◌then◌else◌, ◌==◌, List, [], ◌∷◌, length, Option, None, Some, is_some, refl, ◌∙◌, ap, arith}
 use Rattle.std.specs.Prelude.{Ok, codes, nat_lt, unwrap_or, option_map}
 use Rattle.std.specs.Option.{option_or}
@@ -26,7 +26,7 @@ use Rattle.kmn_parser.proofs.Forms.{ArePrinted}
 use Rattle.kmn_parser.proofs.Items.{ReadsAs}
 use Rattle.kmn_parser.proofs.Sections.{items_read}
 
--- a store of a name
+-- a store with a name
 store-fits : (last system : ℕ) (name : List ℕ) (items : List LineToken) → slot_fault slot.StoreName (name_token name) ≡ None → store_system name ≡ Some system
     → store_fault last (word (codes "store") ∷ opening ∷ name_token name ∷ closing ∷ items) ≡ None
 unfolding store_fault
@@ -48,7 +48,7 @@ store_read group line system name kept content items fits known is reads =
     ∙ ap (λ (o : Option ℕ). Ok (statement.Store (record { line = line; system = unwrap_or o 0; name = if is_system_name name then [] else name; items = items }))) known
     ∙ ap (λ (k : List ℕ). Ok (statement.Store (record { line = line; system = system; name = k; items = items }))) is
 
--- a start statement, by what its name is as a token
+-- a start statement, by the kind of its name as a token
 abbrev begin_tokens : TokenKind → Bool → List ℕ → List LineToken
 begin_tokens k unicode name =
     word (codes "begin") ∷ word (if unicode then codes "Unicode" else codes "ANSI") ∷ arrow ∷ word (codes "use") ∷ opening ∷ record { kind = k; text = name } ∷ closing ∷ []
@@ -62,7 +62,7 @@ begin_read (kind.Number c) group line true name wordy ok = ap (λ b. checked (or
 begin_read (kind.Number c) group line false name wordy ok = ap (λ b. checked (or_fault 5 (unless b S02) None) (Ok (statement.Begin (record { line = line; unicode = false; group = name })))) ok
 begin_read other group line unicode name wordy ok = absurd cc
 
--- a group statement, by what its name is as a token
+-- a group statement, by the kind of its name as a token
 abbrev group_tokens : TokenKind → Bool → List ℕ → List LineToken
 group_tokens k using_keys name =
     word (codes "group") ∷ opening ∷ record { kind = k; text = name } ∷ closing ∷ (if using_keys then word (codes "using") ∷ word (codes "keys") ∷ [] else [])

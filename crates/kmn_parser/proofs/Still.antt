@@ -1,4 +1,4 @@
--- What is printed begins no comment and joins no lines.
+-- A printed line begins no comment and joins no lines.
 use Rattle.std.proofs.Common.{◌≡◌, ℕ, ◌+◌, Bool, true, false, not, ◌&&◌, ◌||◌, if◌then◌else◌, ◌==◌, List, [], ◌∷◌, ◌++◌, Option, None, Some, is_some, refl, sym, ◌∙◌, ap, subst}
 use Rattle.std.specs.List.{list_all, list_any}
 use Rattle.std.proofs.lemmas.Bool.{cond-true, cond-false, not-true, and_right, and_parts, or_parts, or_from}
@@ -10,14 +10,14 @@ use Rattle.kmn_parser.specs.Names.{is_inner}
 use Rattle.kmn_parser.proofs.LineForms.{ends_clean, is_plain_byte, is_still_byte, read_on}
 use Rattle.kmn_parser.proofs.Words.{plain-byte}
 
--- outside quotes and comments, behind a blank or not, and with no backslash as the last byte but blanks
+-- the state is outside quotes and comments, after a blank or not, and if it is clean, no backslash is followed only by blanks
 pub record IsOutside (blank clean : Bool) (r : LineState) : Type 0 where
   pub quote : r.quote ≡ None
   pub stop : r.stop ≡ None
   pub after : r.after_blank ≡ blank
   pub slash : clean ≡ true → r.slash ≡ None
 
--- read from there, a text ends the line with no comment and no join
+-- if a text is read from this state on, it ends the line without a comment and without a join
 abbrev pub Ends : LineState → ℕ → List ℕ → Type 0
 Ends r at text = ((read_on r at text).stop ≡ None) × ((read_on r at text).slash ≡ None)
 
@@ -40,7 +40,7 @@ quiet-blank blank clean text rest r at is =
 abbrev is_c : ℕ → Bool
 is_c byte = (byte == 99) || (byte == 67)
 
--- a byte that is no blank and no quote, and begins no comment
+-- a byte that is not a blank or a quote and does not begin a comment
 quiet-solid : (blank clean : Bool) (byte : ℕ) (text : List ℕ) → is_blank byte ≡ false → is_quote byte ≡ false → (byte == 13) ≡ false
     → starts_comment blank byte (first_or_end text) ≡ false → Quiet false (not (byte == 92)) text → Quiet blank clean (byte ∷ text)
 quiet-solid blank clean byte text b q c s rest r at is =
@@ -58,14 +58,14 @@ quiet-solid blank clean byte text b q c s rest r at is =
 inner-return : (byte : ℕ) → is_inner byte ≡ true → (byte == 13) ≡ false
 inner-return byte e = (or_parts (byte == 10) (byte == 13) (not-true _ e)).1
 
--- before a byte of a word no comment begins
+-- a byte before a byte of a word does not begin a comment
 pub before-plain : (blank : Bool) (byte next : ℕ) → is_still_byte next ≡ true → starts_comment blank byte next ≡ false
 before-plain blank byte next e =
     let two = and_parts (is_plain_byte next) (is_inner next) e in
     let three = or_parts (next == 10) (next == 13) (not-true _ two.1) in
     and_right (blank && is_c byte) _ (or_from _ _ (or_from _ _ (plain-byte next two.0).blank three.0) three.1)
 
--- a word, whose first byte begins no comment
+-- a word whose first byte does not begin a comment
 pub quiet-word : (blank clean : Bool) (byte : ℕ) (bytes rest : List ℕ) → list_all is_still_byte (byte ∷ bytes) ≡ true → starts_comment blank byte (first_or_end (bytes ++ rest)) ≡ false
     → Quiet false (ends_clean (byte ∷ bytes)) rest → Quiet blank clean ((byte ∷ bytes) ++ rest)
 quiet-word blank clean byte [] rest e s more =
@@ -80,7 +80,7 @@ quiet-word blank clean byte (next ∷ bytes) rest e s more =
     quiet-solid blank clean byte ((next ∷ bytes) ++ rest) plain.blank plain.quote (inner-return byte both.1) s
     (quiet-word false (not (byte == 92)) next bytes rest two.1 refl more)
 
--- in quotes
+-- the state is inside quotes
 pub record IsInside (quote : ℕ) (r : LineState) : Type 0 where
   pub in_quote : r.quote ≡ Some quote
   pub stop : r.stop ≡ None
@@ -117,12 +117,12 @@ quiet-quoted blank clean quote bytes rest b q same c z s none inner more r at is
     ∙ ap (λ (k : Option ℕ). record r { quote = k; after_blank = false; slash = None }) (cond-true (is_quote quote) _ _ q)))
     (quiet-inside quote bytes rest (record r { quote = Some quote; after_blank = false; slash = None }) (at + 1) (record { in_quote = refl; stop = is.stop; slash = refl; after = refl }) same c none inner more)
 
--- a sign
+-- a symbol
 pub quiet-sign : (blank clean : Bool) (byte : ℕ) (rest : List ℕ) → is_blank byte ≡ false → is_quote byte ≡ false → (byte == 13) ≡ false → is_c byte ≡ false → (byte == 92) ≡ false → Quiet false true rest → Quiet blank clean (byte ∷ rest)
 quiet-sign blank clean byte rest b q c z s more =
     quiet-solid blank clean byte rest b q c (comment-not blank byte (first_or_end rest) z) (subst (λ k. Quiet false (not k) rest) (sym s) more)
 
--- bytes of a word of which none is a backslash
+-- bytes of a word without a backslash
 pub quiet-run : (bytes rest : List ℕ) → list_all (λ b. is_still_byte b && not (b == 92)) bytes ≡ true → Quiet false true rest → Quiet false true (bytes ++ rest)
 quiet-run [] rest e more = more
 quiet-run (byte ∷ bytes) rest e more =

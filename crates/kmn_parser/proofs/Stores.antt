@@ -1,4 +1,4 @@
--- A store that a text can say is read as it is written.
+-- A store that a text can express is read as it is written.
 use Rattle.std.proofs.Common.{◌≡◌, ◌≢◌, ℕ, Bool, true, false, ◌&&◌, if◌then◌else◌, List, [], ◌∷◌, ◌++◌, map, Option, None, Some, refl, sym, ◌∙◌, ap, subst}
 use Rattle.std.specs.Prelude.{Ok, nat_eq, unwrap_or, option_map, filter_map}
 use Rattle.std.specs.List.{list_all}
@@ -42,7 +42,7 @@ pub record IsPrintedStore (store : StoreDef) : Type 0 where
   pub sound : AreSound false true (content_pieces store)
   pub reads : ReadsAs section.Store unseen (tokens_in (content_pieces store)) store.items
 
--- what a store's name needs
+-- what the name of a store requires
 pub record IsReadName (system : ℕ) (kept name : List ℕ) : Type 0 where
   pub named : IsPrintedName name
   pub fits : slot_fault slot.StoreName (name_token name) ≡ None
@@ -59,7 +59,7 @@ ordinary-name name ok =
       keeps = cond-false (is_system_name name) _ _ ok.ordinary;
     }
 
--- the name of a system store is a word, and names its id
+-- the name of a system store is a word that names its id
 is_written_name : List ℕ × ℕ → Bool
 is_written_name row =
     is_word_text (38 ∷ row.0) && (list_all is_still_byte (38 ∷ row.0) && (is_name (38 ∷ row.0) && (is_name row.0 && answers (store_system (38 ∷ row.0)) row.1)))
@@ -108,7 +108,7 @@ name-read store ok = elim (nat_eq store.system 0) as (λ b. nat_eq store.system 
   | false ↦ λ e. system-name-read store ok (eqb-false store.system 0 e)
 ] refl
 
--- what a store's content needs
+-- what the content of a store requires
 pub record IsReadContent (items : List SrcItem) (pieces : List (Option LineToken)) : Type 0 where
   pub sound : AreSound false true pieces
   pub reads : ReadsAs section.Store unseen (tokens_in pieces) items

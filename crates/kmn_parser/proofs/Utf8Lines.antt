@@ -1,4 +1,4 @@
--- Each line of such a program is UTF-8, and none begins with a mark.
+-- Each line of such a program is UTF-8, and no line begins with a byte order mark.
 use Rattle.std.proofs.Common.{◌≡◌, ℕ, ◌+◌, Bool, true, false, if◌then◌else◌, ◌==◌, List, [], ◌∷◌, ◌++◌, length, map, Option, None, Some, refl, ◌∙◌, ap}
 use Rattle.std.specs.Prelude.{codes, nat_eq, filter_map, flat_map, option_map, unwrap_or}
 use Rattle.std.specs.Str.{is_utf8}

@@ -1,4 +1,4 @@
--- The text of a program that a text can say is UTF-8 and begins with no mark.
+-- The text of a program that a text can express is UTF-8 and does not begin with a byte order mark.
 use Rattle.std.proofs.Common.{◌≡◌, ℕ, zero, suc, ◌^◌, ◌<◌, Bool, true, false, not, if◌then◌else◌, ◌==◌, List, [], ◌∷◌, ◌++◌, map, Option, None, Some, refl, ◌∙◌, ap, arith}
 use Rattle.std.specs.Prelude.{codes, nat_eq, nat_lt, bit_and, filter, option_map, unwrap_or}
 use Rattle.std.specs.Str.{IsAscii, is_utf8}

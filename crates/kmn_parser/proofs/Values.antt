@@ -1,4 +1,4 @@
--- A value in the quotes that it has not is read as it.
+-- A value is read from quotes that do not occur in it.
 use Rattle.std.proofs.Common.{◌≡◌, ℕ, ◌+◌, ◌-◌, ◌/◌, ◌%◌, ◌<◌, ◌≤◌, ◌≢◌, Bool, true, false, not, ◌&&◌, if◌then◌else◌, ◌==◌, List, [], ◌∷◌, ◌++◌, length, take, refl, sym, ◌∙◌, ap, subst, arith, append_assoc, length-append}
 use Rattle.std.specs.Prelude.{All, nat_lt}
 use Rattle.std.specs.List.{list_all, list_any}
@@ -19,7 +19,7 @@ use Rattle.kmn_parser.specs.Spelled.{IsSpelledValue}
 use Rattle.kmn_parser.proofs.LineForms.{IsQuotedText, IsTokenText}
 use Rattle.kmn_parser.proofs.Forms.{IsPrintedValue}
 
--- what holds of a character's byte, and of all bytes from 128 on, holds of its bytes
+-- if a property is true for a character as a byte and for all bytes from 128 on, it is true for the character's bytes
 encode-bytes : (P : ℕ → Bool) (c : ℕ) → P c ≡ true → ((b : ℕ) → 128 ≤ b → P b ≡ true) → list_all P (encode c) ≡ true
 unfolding encode
 encode-bytes P c here high =
@@ -54,7 +54,7 @@ quote-apart quote cs low none =
 pub high-inner : (b : ℕ) → 128 ≤ b → is_inner b ≡ true
 high-inner b high = not_from_false _ (or_from _ _ (ne_eqb b 10 (omega arith)) (ne_eqb b 13 (omega arith)))
 
--- bytes that are none of U+0000 and U+FFFF
+-- bytes that do not begin U+0000 or U+FFFF
 byte-allowed : (b : ℕ) (rest : List ℕ) → b ≢ 0 → b ≢ 239 → has_forbidden rest ≡ false → has_forbidden (b ∷ rest) ≡ false
 unfolding begins_forbidden
 byte-allowed b rest some other more = or_from _ _ (or_from _ _ (ne_eqb b 0 some) (and_left (239 == b) _ (ne_eqb 239 b (λ e. other (sym e))))) more
@@ -95,7 +95,7 @@ pub all-scalars : (cs : List ℕ) → All IsCharacter cs → scalars cs ≡ true
 all-scalars [] all = refl
 all-scalars (c ∷ cs) all = and_from _ _ (All-head IsCharacter c cs all).valid (all-scalars cs (All-tail IsCharacter c cs all))
 
--- bytes in quotes are those between them
+-- the text in quotes is the bytes between them
 inside-quotes : (quote : ℕ) (bytes : List ℕ) → inside (quote ∷ (bytes ++ quote ∷ [])) ≡ bytes
 inside-quotes quote bytes =
     let long : length (quote ∷ (bytes ++ quote ∷ [])) - 2 ≡ length bytes = (let l = length-append bytes (quote ∷ []) in omega (arith, l)) in
@@ -115,7 +115,7 @@ value-quoted quote cs low some ok none = record {
   allowed = byte-allowed quote _ some (omega arith) (chars-allowed cs (quote ∷ []) ok.characters (byte-allowed quote [] some (omega arith) refl));
 }
 
--- the quote that a value has not
+-- the quote that does not occur in a value
 chosen : (value : List ℕ) (double : Bool) → list_any (λ c. c == 34) value ≡ double → IsSpelledValue value
     → IsTokenText kind.Quoted ((if double then 39 else 34) ∷ (encodes value ++ (if double then 39 else 34) ∷ []))
 chosen value true is ok = (false, value-quoted 39 value (omega arith) (omega arith) ok (single-only is ok.one_quote))

@@ -92,7 +92,7 @@ all-read source group program number at (line ∷ lines) (s ∷ statements) e (b
     (ap (λ (ts : List LineToken). at_line number (read_line group number ts)) (row-tokens source number at line (rows (map printed lines)) e back whole) ∙ ap (at_line number) read)
     ∙ all-read source (group_after group s) (with_statement program s) (number + 1) (at + length (printed line) + 1) lines statements (next-row source at (printed line) (rows (map printed lines)) e) more
 
--- the source of lines that are read as statements is the program of these
+-- the source of lines that are read as statements is read as the program of these statements
 pub sheets_are_read : (lines : List (List (Option LineToken))) (statements : List Statement) → ReadAsStatements Missing 1 lines statements → IsSourceText (sheet lines)
     → parsed (sheet lines) ≡ Ok (fold with_statement no_program statements)
 unfolding parsed

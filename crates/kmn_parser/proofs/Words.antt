@@ -20,11 +20,11 @@ plain-byte byte h =
     let two = or_parts (is_blank byte) (is_quote byte) one.0 in
     record { blank = two.0; quote = two.1; alone = one.1 }
 
--- a byte of which a test holds is no byte of which it doesn't
+-- if a test succeeds for one byte and fails for another, the bytes differ
 pub differ : (f : ℕ → Bool) (a byte : ℕ) → f byte ≡ true → f a ≡ false → (byte == a) ≡ false
 differ f a byte e g = ne_eqb byte a (λ same. both_ways (f byte) (ap f same ∙ g) e)
 
--- the next byte of a text whose bytes are plain and which ends before another text is no + and no =
+-- if a text has only plain bytes and is followed by the end of a word, its next byte is not a + or a =
 next-not : (a : ℕ) (bytes rest : List ℕ) → is_plain_byte a ≡ false → ends_byte a ≡ false → (10 == a) ≡ false
     → list_all is_plain_byte bytes ≡ true → ends_word rest ≡ true → (first_or_end (bytes ++ rest) == a) ≡ false
 next-not a [] [] p q r h e = r
@@ -105,7 +105,7 @@ word-sound byte bytes h f =
     ∙ cond-false (not (is_closed (byte ∷ bytes))) _ _ (closed-plain (is_quote byte) _ plain.quote)
     ∙ cond-false (starts_number (byte ∷ bytes)) _ _ (word-number byte bytes h)
 
--- a word before what ends it
+-- a word before a byte that ends it
 pub word_back : (text rest : List ℕ) → is_word_text text ≡ true → ends_word rest ≡ true → IsReadBack (word text) rest
 word_back [] rest h e = absurd cc
 word_back (byte ∷ bytes) rest h e =
@@ -119,7 +119,7 @@ word_back (byte ∷ bytes) rest h e =
       sound = word-sound byte bytes two.0 (not-true _ two.1);
     }
 
--- signs
+-- symbols
 number-not : (a : ℕ) (rest : List ℕ) → ((a == 85) || (a == 117)) ≡ false → starts_number (a ∷ rest) ≡ false
 number-not a [] e = refl
 number-not a (b ∷ []) e = refl

@@ -1,4 +1,4 @@
--- The items of programs as they are written.
+-- The items of programs as written.
 use Rattle.std.specs.Prelude.{ℕ, not, nat_eq, bit_and, unwrap_or, filter, if◌then◌else◌, List, [], ◌∷◌, ◌++◌, ◌==◌, map, codes, Option, Some, None}
 use Rattle.std.specs.Fmt.{decimal}
 use Rattle.std.specs.List.{list_any}
@@ -23,11 +23,11 @@ named_call lead name = call lead (name_token name)
 abbrev pub flag_words : ℕ → List (List ℕ)
 flag_words flags = map (λ row. row.0) (filter (λ row. not (nat_eq (bit_and flags row.1) 0)) shift_flags)
 
--- the name of a key: that of its code, or its own
+-- the name of a key: the name of its code, or its own name
 abbrev pub key_text : KeyName → List ℕ
 key_text key = if nat_eq key.code 0 then key.name else unwrap_or (key_name key.code) []
 
--- words with a blank behind each, and what follows
+-- words, each followed by a blank, and then the rest
 abbrev pub spaced_words : List (List ℕ) → List (Option LineToken) → List (Option LineToken)
 spaced_words [] more = more
 spaced_words (text ∷ texts) more = Some (word text) ∷ None ∷ spaced_words texts more
@@ -37,11 +37,11 @@ abbrev pub key_pieces : KeyName → List (Option LineToken)
 key_pieces key =
     Some bracket_opening ∷ spaced_words (flag_words key.flags) (Some (word (key_text key)) ∷ Some bracket_closing ∷ [])
 
--- a value in the quotes that it has not
+-- a value in quotes that do not occur in it
 abbrev pub value_token : List ℕ → LineToken
 value_token value = quoted_token (if list_any (λ c. c == byte "\"") value then byte "'" else byte "\"") (encode_utf8_all value)
 
--- a comparison, or a setting
+-- a comparison, or a `set`
 abbrev pub compared : List ℕ → List ℕ → LineToken → List ℕ → List (Option LineToken)
 compared lead name sign value =
     Some (word lead) ∷ Some opening ∷ Some (name_token name) ∷ None ∷ Some sign ∷ None ∷ Some (value_token value) ∷ Some closing ∷ []
@@ -50,7 +50,7 @@ compared lead name sign value =
 abbrev pub option_name : ℕ → List ℕ
 option_name id = if nat_eq id PLATFORM then codes "&platform" else codes "&layer"
 
--- an item; those that no compiled file has are not written
+-- an item; items that no compiled keyboard has are not written
 abbrev pub item_pieces : SrcItem → List (Option LineToken)
 item_pieces (source.Char c) = Some (char_token c) ∷ []
 item_pieces (source.Dead name) = named_call (codes "dk") name
@@ -75,12 +75,12 @@ item_pieces source.Beep = Some (word (codes "beep")) ∷ []
 item_pieces source.Stop = Some (word (codes "return")) ∷ []
 item_pieces item = []
 
--- items with a blank behind each, and what follows
+-- items, each followed by a blank, and then the rest
 abbrev pub spaced_items : List SrcItem → List (Option LineToken) → List (Option LineToken)
 spaced_items [] more = more
 spaced_items (i ∷ items) more = item_pieces i ++ None ∷ spaced_items items more
 
--- items with a blank before each
+-- items, each preceded by a blank
 abbrev pub joined_items : List SrcItem → List (Option LineToken)
 joined_items [] = []
 joined_items (i ∷ items) = None ∷ (item_pieces i ++ joined_items items)

@@ -32,14 +32,14 @@ use Rattle.kmn_items.specs.Words.{is_system_name, bare_name}
 use Rattle.kmn_items.specs.Slots.{unless, broken}
 use Rattle.kmn_items.specs.Item.{unseen, is_item_word, read_items, read_key}
 
--- the signs that part a statement
+-- whether a token is a symbol that separates the sections of a statement
 abbrev pub is_sign : Sign → TokenKind → Bool
 is_sign sign.Arrow kind.Arrow = true
 is_sign sign.Plus kind.Plus = true
 is_sign sign.Close kind.Close = true
 is_sign wanted other = false
 
--- the place of the first token that is a sign, or the number of the tokens
+-- the index of the first token that is a symbol, or the number of tokens
 abbrev pub place_of : Sign → List LineToken → ℕ
 place_of wanted tokens = position_or_len (λ (token : LineToken). is_sign wanted token.kind) tokens
 
@@ -51,21 +51,21 @@ begins_word word (token ∷ tokens) = is_word token.kind && same_name word token
 abbrev pub is_none_left : List LineToken → Bool
 is_none_left tokens = length tokens == 0
 
--- the fault, or what is read where there is none
+-- the fault, or what is read if there is no fault
 abbrev pub checked : {A : Type 0} → Option TokenRefusal → Result A TokenRefusal → Result A TokenRefusal
 checked (Some found) read = Err found
 checked None read = read
 
--- a code at the line's first token, else a fault behind it
+-- a code at the line's first token, else a later fault
 abbrev pub first_of : Option Code → Option TokenRefusal → Option TokenRefusal
 first_of (Some head) later = Some (fault 0 head)
 first_of None later = later
 
--- the tokens behind the first )
+-- the tokens after the first )
 abbrev pub behind_close : List LineToken → List LineToken
 behind_close tokens = drop (place_of sign.Close tokens + 1) tokens
 
--- the id in a file of each system store of a source; DROPPED is read and dropped, LEFT_OUT is left out by the checker
+-- the id in a file of each system store of a source; DROPPED is read and dropped, and the checker refuses LEFT_OUT as not supported
 unfoldable pub system_stores : List (List ℕ × ℕ)
 system_stores =
     (codes "bitmap", BITMAP) ∷ (codes "copyright", 2) ∷ (codes "hotkey", 3) ∷ (codes "message", 6) ∷ (codes "name", 7) ∷
@@ -77,26 +77,26 @@ system_stores =
     (codes "kmw_rtl", DROPPED) ∷ (codes "kmw_helpfile", DROPPED) ∷ (codes "kmw_helptext", DROPPED) ∷
     (codes "kmw_embedjs", DROPPED) ∷ (codes "kmw_embedcss", DROPPED) ∷ []
 
--- the name without & of a system store by its id: the first that a source can state for it
+-- the name without & of the system store with an id: the first name by which a source can define it
 abbrev pub system_store_name : ℕ → List ℕ
 system_store_name id = unwrap_or (option_map (λ row. row.0) (find (λ row. nat_eq row.1 id) system_stores)) []
 
--- the id of a store by its name: 0 for one without &, None for a system store that there isn't
+-- the id of a store by its name: 0 for a name without &, None for an unknown system store
 abbrev pub store_system : List ℕ → Option ℕ
 store_system name = if is_system_name name then named_in system_stores (bare_name name) else Some 0
 
--- store: a known name and ); that the line breaks off at the name goes before that it isn't known
+-- store: a known name and ); if the line breaks off at the name, this is reported before an unknown name
 abbrev pub store_form : ℕ → List LineToken → Option TokenRefusal
 store_form last tokens =
     option_or (broken last 2 (slot.StoreName ∷ []) (drop 2 tokens))
     (option_or (option_map (fault 2) (unless (is_none_left (drop 3 tokens) || is_some (store_system (text_at 2 tokens))) code.S12))
     (broken last 3 (slot.Close ∷ []) (drop 3 tokens)))
 
--- store: a ( behind the word, then the form
+-- store: a ( after the word, then the form
 unfoldable pub store_fault : ℕ → List LineToken → Option TokenRefusal
 store_fault last tokens = first_of (unless (begins_open (drop 1 tokens)) code.S01) (store_form last tokens)
 
--- a store of a name, with its items; only an ordinary one keeps the name
+-- a store with a name and its items; only an ordinary store keeps the name
 abbrev pub store_def : ℕ → List ℕ → List SrcItem → StoreDef
 store_def line name items =
     record { line = line; system = unwrap_or (store_system name) 0; name = if is_system_name name then [] else name; items = items }
@@ -108,15 +108,15 @@ read_store line last tokens =
     (and_then (read_items section.Store unseen last 0 4 (drop 4 tokens))
     (λ items. Ok (statement.Store (store_def line (text_at 2 tokens) items))))
 
--- begin: one of two kinds
+-- whether tokens begin with one of the two kinds of begin
 abbrev pub begins_kind : List LineToken → Bool
 begins_kind tokens = begins_word (codes "Unicode") tokens || begins_word (codes "ANSI") tokens
 
--- use ( .. ) and nothing behind it
+-- whether tokens are use ( .. ) without tokens after it
 abbrev pub is_use : List LineToken → Bool
 is_use tokens = begins_word (codes "use") tokens && begins_open (drop 1 tokens) && is_none_left (behind_close (drop 2 tokens))
 
--- begin, with its first > at a place: a form that lacks its > alone is another fault than a different form
+-- begin, with the index of its first >: a form that lacks only its > has another code than a different form
 abbrev pub begin_head : ℕ → List LineToken → Option Code
 begin_head arrow tokens =
     option_or (unless (begins_kind (drop 1 tokens) && is_use (drop (if arrow == 2 then 3 else 2) tokens)) code.S01)
@@ -132,11 +132,11 @@ read_begin line last tokens =
     checked (begin_fault last tokens)
     (Ok (statement.Begin (record { line = line; unicode = begins_word (codes "Unicode") (drop 1 tokens); group = text_at 5 tokens })))
 
--- using keys and nothing behind it
+-- whether tokens are using keys without tokens after it
 abbrev pub is_using_keys : List LineToken → Bool
 is_using_keys tokens = begins_word (codes "using") tokens && begins_word (codes "keys") (drop 1 tokens) && is_none_left (drop 2 tokens)
 
--- group: a ( behind the word, and behind the first ) nothing or using keys
+-- group: a ( after the word, and after the first ) either no tokens or using keys
 abbrev pub group_head : List LineToken → List LineToken → Option Code
 group_head tokens tail = unless (begins_open (drop 1 tokens) && (is_none_left tail || is_using_keys tail)) code.S01
 
@@ -150,24 +150,24 @@ read_group line last tokens =
     checked (group_fault last tokens)
     (Ok (statement.Group (record { line = line; name = text_at 2 tokens; using_keys = is_using_keys (behind_close (drop 2 tokens)); rules = [] })))
 
--- no group stands before
+-- the code if there is no group before
 abbrev pub no_group : LastGroup → Option Code
 no_group Missing = Some code.S03
 no_group other = None
 
--- two quotes with nothing between them, which stand for no item
+-- whether a token is two quotes with nothing between them, which denote no item
 abbrev pub is_empty_quote : LineToken → Bool
 is_empty_quote token = is_quoted token.kind && (length token.text == 2)
 
--- some token stands for an item
+-- whether some token denotes an item
 abbrev pub has_items : List LineToken → Bool
 has_items tokens = list_any (λ token. not (is_empty_quote token)) tokens
 
--- with the first > at a place: there is no >, or no item behind it
+-- the code if there is no >, or no item after it, given the index of the first >
 abbrev pub no_output : ℕ → List LineToken → Option Code
 no_output arrow tokens = option_or (unless (nat_lt arrow (length tokens)) code.S04) (unless (has_items (drop (arrow + 1) tokens)) code.S06)
 
--- match: the > stands right behind the word
+-- match: the > comes directly after the word
 unfoldable pub match_fault : LastGroup → ℕ → List LineToken → Option TokenRefusal
 match_fault group arrow tokens =
     first_of (option_or (no_group group) (no_output arrow tokens)) (option_map (fault 1) (unless (arrow == 1) code.S05))
@@ -179,25 +179,25 @@ read_match kind group line last tokens =
     (and_then (read_items section.Output unseen last 0 2 (drop 2 tokens))
     (λ output. Ok (statement.Rule (record { line = line; kind = kind; context = []; key = None; output = output }))))
 
--- what a line of another statement may begin with though it has no >: a quoted token, a number, + or an item's word
+-- whether tokens without > begin like a rule: with a quoted token, a number, + or an item's word
 abbrev pub begins_rule : List LineToken → Bool
 begins_rule [] = false
 begins_rule (token ∷ tokens) =
     is_quoted token.kind || is_number token.kind || is_sign sign.Plus token.kind || (is_word token.kind && is_item_word token.text)
 
--- a group that uses keys stands before
+-- whether the group before uses keys
 abbrev pub uses_keys : LastGroup → Bool
 uses_keys UsingKeys = true
 uses_keys other = false
 
--- the codes of a rule that stand at its first token; the first > and the first + before it stand at these places
+-- the code of a rule at its first token, given the indexes of the first > and of the first + before it
 unfoldable pub rule_head : LastGroup → ℕ → ℕ → List LineToken → Option Code
 rule_head group arrow plus tokens =
     option_or (unless (nat_lt arrow (length tokens) || begins_rule tokens) code.S01)
     (option_or (no_group group)
     (option_or (no_output arrow tokens) (unless (not (uses_keys group) || nat_lt plus arrow) code.S08)))
 
--- the key, which stands between + and >, in a group with keys alone
+-- the key between + and >, which is allowed only in a group with keys
 unfoldable pub rule_key : LastGroup → ℕ → ℕ → ℕ → List LineToken → Result (Option SrcItem) TokenRefusal
 rule_key group last arrow plus tokens =
     if not (nat_lt plus arrow) then Ok None
@@ -213,22 +213,22 @@ rule_body group line last arrow plus tokens =
     and_then (read_items section.Output unseen last 0 (arrow + 1) (drop (arrow + 1) tokens)) (λ output.
     Ok (record { line = line; kind = Plain; context = context; key = key; output = output }))))
 
--- a code is less than another where its text is
+-- whether a code is less than another, by their texts
 abbrev pub is_lesser : Code → Code → Bool
 is_lesser code other = is_lt (slice_cmp nat_cmp (code_text code) (code_text other))
 
--- the earlier of a code at the first token and a fault: at the first token too the lesser code goes first
+-- the earlier of a code at the first token and a fault; if both are at the first token, the lesser code
 abbrev pub earlier : Code → TokenRefusal → TokenRefusal
 earlier head found = if (found.at == 0) && is_lesser found.code head then found else fault 0 head
 
--- what is read, unless a code at the first token comes first
+-- what is read, unless a code at the first token is earlier
 abbrev pub earliest : Option Code → Result RuleDef TokenRefusal → Result Statement TokenRefusal
 earliest None (Ok rule) = Ok (statement.Rule rule)
 earliest None (Err found) = Err found
 earliest (Some head) (Ok rule) = Err (fault 0 head)
 earliest (Some head) (Err found) = Err (earlier head found)
 
--- a rule with the first > at a place, and the first + before it at another, which is the first where there is none
+-- a rule, given the index of the first > and of the first + before it, which is the index of the > if there is no +
 abbrev pub rule_at : LastGroup → ℕ → ℕ → ℕ → ℕ → List LineToken → Result Statement TokenRefusal
 rule_at group line last arrow plus tokens =
     earliest (rule_head group arrow plus tokens) (rule_body group line last arrow plus tokens)
@@ -239,7 +239,7 @@ read_rule group line last tokens =
     let arrow = place_of sign.Arrow tokens in
     rule_at group line last arrow (place_of sign.Plus (take arrow tokens)) tokens
 
--- a line's tokens, of which there is one, by the first word
+-- the statement of a line's tokens, of which there is at least one, by the first word
 abbrev pub read_tokens : LastGroup → ℕ → ℕ → List LineToken → Result Statement TokenRefusal
 read_tokens group line last tokens =
     if begins_word (codes "store") tokens then read_store line last tokens
@@ -249,7 +249,7 @@ read_tokens group line last tokens =
     else (if begins_word (codes "nomatch") tokens then read_match OnNoMatch group line last tokens
     else read_rule group line last tokens))))
 
--- the statement of a line's tokens, behind the last group before the line
+-- the statement of a line's tokens, after the last group before the line
 abbrev pub read_line : LastGroup → ℕ → List LineToken → Result Statement TokenRefusal
 read_line group line tokens =
     if is_none_left tokens then Ok statement.Nothing else read_tokens group line (length tokens - 1) tokens

@@ -1,4 +1,4 @@
--- What holds of each program that is read from a source, statement by statement.
+-- The properties of each program that is read from a source, statement by statement.
 use Rattle.std.specs.Prelude.{◌≡◌, ◌≢◌, ℕ, ◌^◌, ◌<◌, ◌≤◌, Bool, true, nat_eq, bit_and, List, [], length, None, is_some, IfSome, Ok, IsUtf8, chars, All}
 use lib.Utf8.{scalar}
 use Rattle.kmn_base.specs.declared.keys.TheConstants.{SHIFT_FLAGS, VIRTUAL_KEY}
@@ -32,14 +32,13 @@ pub record IsName (name : List ℕ) : Type 0 where
   pub some : 1 ≤ length (chars name)
   pub few : length (chars name) ≤ SOURCE_NAME_CHARS
 
--- the name of a key of the keyboard's own: a word of the forms `T_..` and `U_..`
+-- the name of a custom key: a word of the form `T_..` or `U_..`
 pub record IsOwnKey (name : List ℕ) : Type 0 where
   pub word : IsName name
   pub plain : All IsPlain name
   pub form : is_own_key name ≡ true
 
--- a virtual key: a code of the table, or one of the keyboard's own keys, and flags of control, alt, shift and caps lock
--- above that of a virtual key
+-- a virtual key: a code of the table, or a custom key, and flags of control, alt, shift and caps lock above the flag of a virtual key
 pub record IsReadKey (key : KeyName) : Type 0 where
   pub virtual : bit_and key.flags VIRTUAL_KEY ≡ VIRTUAL_KEY
   pub flags : bit_and key.flags SHIFT_FLAGS ≡ key.flags
@@ -47,8 +46,8 @@ pub record IsReadKey (key : KeyName) : Type 0 where
   pub named : key.code ≡ 0 → IsOwnKey key.name
   pub unnamed : key.code ≢ 0 → key.name ≡ []
 
--- an item: its characters and those of its value are characters of a keyboard, its key is a virtual key, a condition on a
--- system option names one, and a set of one the layer
+-- an item: its characters and the characters of its value are characters of a keyboard, its key is a virtual key, a condition on a
+-- system option names one, and a `set` of a system option names the layer
 abbrev pub IsReadItem : SrcItem → Type 0
 IsReadItem (source.Char c) = IsCharacter c
 IsReadItem (source.Key key) = IsReadKey key
@@ -60,7 +59,7 @@ IsReadItem (source.SystemUnequal id value) = (is_option_id id ≡ true) × All I
 IsReadItem (source.SetSystem id value) = (nat_eq id LAYER ≡ true) × All IsCharacter value
 IsReadItem other = Unit {0}
 
--- what stands as the key of a rule: a character, a virtual key, or `any`
+-- the items that are allowed as the key of a rule: a character, a virtual key, or `any`
 abbrev pub StandsAsKey : SrcItem → Type 0
 StandsAsKey (source.Char c) = Unit {0}
 StandsAsKey (source.Key key) = Unit {0}
@@ -72,7 +71,7 @@ pub record IsLine (line : ℕ) : Type 0 where
   pub first : 1 ≤ line
   pub last : line < 2 ^ 32
 
--- a store: only an ordinary one has a name, a system store has an id other than that of the key dictionary
+-- a store: only an ordinary store has a name, and a system store has an id other than the key dictionary's
 pub record IsReadStore (store : StoreDef) : Type 0 where
   pub line : IsLine store.line
   pub system : store.system < 2 ^ 32
@@ -86,8 +85,8 @@ pub record IsReadBegin (start : BeginDef) : Type 0 where
   pub line : IsLine start.line
   pub group : IsName start.group
 
--- a rule of a group that uses keys or doesn't: a plain rule has a key exactly where the group uses keys, and match and
--- nomatch have neither a context nor a key
+-- a rule of a group that uses keys or does not: a plain rule has a key exactly where the group uses keys, and match and nomatch have
+-- neither a context nor a key
 pub record IsReadRule (using_keys : Bool) (rule : RuleDef) : Type 0 where
   pub line : IsLine rule.line
   pub context : All IsReadItem rule.context
@@ -108,6 +107,6 @@ pub record IsReadProgram (program : Program) : Type 0 where
   pub begins : All IsReadBegin program.begins
   pub groups : All IsReadGroup program.groups
 
--- each program that a source is read as has such statements
+-- each program that is read from a source has such statements
 abbrev pub ProgramsAreRead : Type 0
 ProgramsAreRead = (source : List ℕ) (program : Program) → parsed source ≡ Ok program → IsReadProgram program

@@ -1,4 +1,4 @@
--- The text of a program: its stores, its begins, then each group with its rules, one statement to a line.
+-- The text of a program: its stores, its begins, then each group with its rules, one statement per line.
 use Rattle.std.specs.Prelude.{ℕ, List, ◌∷◌, ◌++◌, map, flat_map, Option}
 use Rattle.rule_model.specs.declared.program.RuleDef.{RuleDef}
 use Rattle.rule_model.specs.declared.program.GroupDef.{GroupDef}
@@ -11,7 +11,7 @@ use Rattle.kmn_parser.specs.Statements.{store_pieces, begin_pieces, group_pieces
 abbrev pub rule_line : RuleDef → List (Option LineToken)
 rule_line rule = rule_pieces rule.kind rule
 
--- the lines of a group: its own, then those of its rules
+-- the lines of a group: its own line, then the lines of its rules
 abbrev pub group_lines : GroupDef → List (List (Option LineToken))
 group_lines group = group_pieces group ∷ map rule_line group.rules
 

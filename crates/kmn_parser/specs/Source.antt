@@ -18,12 +18,12 @@ use Rattle.kmn_parser.specs.declared.statement.Statement.TheVariants as statemen
 use Rattle.kmn_items.specs.TokenTexts.{with_texts}
 use Rattle.kmn_parser.specs.Line.{read_line}
 
--- what is read of a line with this number, a fault as its refusal
+-- the result of reading a line with this number, where a fault becomes its refusal
 abbrev pub at_line : {A : Type 0} → ℕ → Result A TokenRefusal → Result A Refusal
 at_line line (Ok read) = Ok read
 at_line line (Err found) = Err (refusal line found.code)
 
--- the statement of a logical line, behind a group
+-- the statement of a logical line, after a group
 abbrev pub line_statement : List ℕ → LastGroup → Logical → Result Statement Refusal
 line_statement source group line =
     at_line line.first_line (read_line group line.first_line (with_texts source (line_tokens source line)))
@@ -33,7 +33,7 @@ abbrev pub last_group : Bool → LastGroup
 last_group true = UsingKeys
 last_group false = WithoutKeys
 
--- the last group behind a statement
+-- the last group after a statement
 abbrev pub group_after : LastGroup → Statement → LastGroup
 group_after group (statement.Group opened) = last_group opened.using_keys
 group_after group other = group
@@ -44,7 +44,7 @@ with_rule [] rule = []
 with_rule (group ∷ []) rule = record group { rules = group.rules ++ rule ∷ [] } ∷ []
 with_rule (group ∷ next ∷ groups) rule = group ∷ with_rule (next ∷ groups) rule
 
--- a program and one statement more
+-- a program with another statement
 abbrev pub with_statement : Program → Statement → Program
 with_statement program statement.Nothing = program
 with_statement program (statement.Store store) = record program { stores = program.stores ++ store ∷ [] }
@@ -52,7 +52,7 @@ with_statement program (statement.Begin start) = record program { begins = progr
 with_statement program (statement.Group group) = record program { groups = program.groups ++ group ∷ [] }
 with_statement program (statement.Rule rule) = record program { groups = with_rule program.groups rule }
 
--- no statement yet
+-- a program without statements
 abbrev pub no_program : Program
 no_program = record { stores = []; begins = []; groups = [] }
 
@@ -64,7 +64,7 @@ read_lines source group program (line ∷ lines) = elim (line_statement source g
   | Err found ↦ Err found
 ]
 
--- the tokens of all lines are looked at before any statement
+-- the program of a source's characters; the tokens of all lines are checked before any statement
 abbrev pub read_text : List ℕ → Result Program Refusal
 read_text source = elim (tokens_refusal source (logicals source)) [
   | Some found ↦ Err found

@@ -12,7 +12,7 @@ use Rattle.kmn_parser.specs.declared.statement.Statement.{Statement}
 use Rattle.kmn_parser.specs.declared.statement.Statement.TheVariants as statement
 use Rattle.kmn_parser.specs.Source.{parsed}
 
--- the numbers of the lines of each kind of statement, in their order in the program
+-- the line numbers of each kind of statement, in the order of the program
 abbrev pub store_lines : List StoreDef → List ℕ
 store_lines stores = map (λ (store : StoreDef). store.line) stores
 
@@ -25,21 +25,21 @@ group_lines groups = map (λ (group : GroupDef). group.line) groups
 abbrev pub lines_of_rules : List RuleDef → List ℕ
 lines_of_rules rules = map (λ (rule : RuleDef). rule.line) rules
 
--- those of the rules of all groups, one group after the other
+-- the line numbers of the rules of all groups, one group after the other
 abbrev pub rule_lines : List GroupDef → List ℕ
 rule_lines groups = flat_map (λ (group : GroupDef). lines_of_rules group.rules) groups
 
--- how many statements have a line
+-- the number of statements of a line
 abbrev pub statements_at : ℕ → Program → ℕ
 statements_at line program =
     times line (store_lines program.stores) + (times line (begin_lines program.begins)
     + (times line (group_lines program.groups) + times line (rule_lines program.groups)))
 
--- the rules of a group have lines of their own
+-- whether the rules of a group have distinct lines
 abbrev pub has_own_lines : GroupDef → Bool
 has_own_lines group = have_own_lines group.rules
 
--- statements of each kind, and the rules of all groups together, come in the order of their lines, and no line has two
+-- statements of each kind, and the rules of all groups together, are in the order of their lines, and no line has two statements
 pub record IsInOrder (program : Program) : Type 0 where
   pub stores : Rises (store_lines program.stores)
   pub begins : Rises (begin_lines program.begins)
@@ -48,6 +48,6 @@ pub record IsInOrder (program : Program) : Type 0 where
   pub apart : (line : ℕ) → statements_at line program ≤ 1
   pub own : list_all has_own_lines program.groups ≡ true
 
--- the statements of a source stand in the order of their lines, each in a line of its own
+-- the statements of a source are in the order of their lines, and each has its own line
 abbrev pub StatementsAreInOrder : Type 0
 StatementsAreInOrder = (source : List ℕ) (program : Program) → parsed source ≡ Ok program → IsInOrder program

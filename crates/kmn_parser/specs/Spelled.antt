@@ -1,4 +1,4 @@
--- Programs that a text can say: then the text is read as the program.
+-- Programs that a text can express: their text is read as the program.
 use Rattle.std.specs.Prelude.{◌≡◌, ◌≢◌, ℕ, ◌+◌, ◌^◌, ◌<◌, ◌≤◌, ◌==◌, nat_eq, Bool, true, false, ◌&&◌, bit_and, List, [], ◌∷◌, map, length, Option, Some, None, is_some, find, All}
 use Rattle.std.specs.List.{list_all, list_any}
 use Rattle.std.specs.Str.{byte, is_utf8}
@@ -31,7 +31,7 @@ use Rattle.kmn_parser.specs.Names.{is_inner, is_source_name}
 use Rattle.kmn_parser.specs.Programs.{program_text}
 use Rattle.rule_model.specs.declared.system.TheConstants.{LAYER, VERSION}
 
--- a name: UTF-8, which a source reads as it is
+-- a name: UTF-8, which a source reads without a change
 pub record IsSpelledName (name : List ℕ) : Type 0 where
   pub utf8 : is_utf8 name ≡ true
   pub read : is_source_name name ≡ true
@@ -41,7 +41,7 @@ pub record IsStoreName (name : List ℕ) : Type 0 where
   pub named : IsSpelledName name
   pub ordinary : is_system_name name ≡ false
 
--- a value that can stand in quotes: characters without a line end, and not both quotes
+-- a value that can be written in quotes: characters without a line end, and not both quotes
 pub record IsSpelledValue (value : List ℕ) : Type 0 where
   pub characters : All IsCharacter value
   pub in_line : list_all is_inner value ≡ true
@@ -51,14 +51,14 @@ pub record IsSpelledValue (value : List ℕ) : Type 0 where
 abbrev pub IsSpelledOffset : ℕ → Type 0
 IsSpelledOffset offset = offset < 10 ^ 9
 
--- a virtual key: known flags, and a code that has a name, or a name of the keyboard's own
+-- a virtual key: known flags, and a code with a name, or the name of a custom key
 pub record IsSpelledKey (key : KeyName) : Type 0 where
   pub virtual : bit_and key.flags VIRTUAL_KEY ≡ VIRTUAL_KEY
   pub flags : bit_and key.flags SHIFT_FLAGS ≡ key.flags
   pub own : key.code ≡ 0 → (is_own_key key.name ≡ true) × IsSpelledName key.name
   pub known : key.code ≢ 0 → (is_some (key_name key.code) ≡ true) × (key.name ≡ [])
 
--- a section that keeps virtual keys: each but an output
+-- whether a section keeps virtual keys: each section except an output
 abbrev pub keeps_keys : Where → Bool
 keeps_keys section.Output = false
 keeps_keys other = true
@@ -87,7 +87,7 @@ IsSpelledItem place source.Beep = Unit {0}
 IsSpelledItem place source.Stop = Unit {0}
 IsSpelledItem place other = ⊥
 
--- what the first token of an item says of it
+-- the kind of an item by its first token
 abbrev pub item_lead : SrcItem → Lead
 item_lead (source.Char c) = lead.One c
 item_lead (source.Dead name) = lead.Named item.Dead
@@ -111,18 +111,18 @@ item_lead source.Beep = lead.Named item.Beep
 item_lead source.Stop = lead.Named item.Return
 item_lead other = lead.Misplaced
 
--- what a section has seen behind an item
+-- what a section has seen after an item
 abbrev pub seen_lead : Seen → Lead → Seen
 seen_lead seen (lead.Named word) = seen_word seen word
 seen_lead seen other = seen_count seen 1
 
--- the items of a section, each of which may stand behind those before it
+-- the items of a section, each of which is allowed after the previous ones
 abbrev pub AreSpelled : Where → Seen → List SrcItem → Type 0
 AreSpelled place seen [] = Unit {0}
 AreSpelled place seen (i ∷ items) =
     IsSpelledItem place i × (standing_code place seen (item_lead i) ≡ None) × AreSpelled place (seen_lead seen (item_lead i)) items
 
--- the id of a system store that a source can name
+-- whether a source can name the system store with an id
 abbrev pub is_system_id : ℕ → Bool
 is_system_id id = is_some (find (λ row. nat_eq row.1 id) system_stores)
 
@@ -137,7 +137,7 @@ pub record IsSpelledStore (store : StoreDef) : Type 0 where
   pub version : store.system ≡ VERSION → IsSpelledVersion store.items
   pub content : store.system ≢ VERSION → AreSpelled section.Store unseen store.items
 
--- a rule has a key in a group with keys, and there alone
+-- a rule has a key exactly in a group with keys
 abbrev pub IsSpelledAsKey : Bool → Option SrcItem → Type 0
 IsSpelledAsKey true (Some key) = AreSpelled section.Key unseen (key ∷ [])
 IsSpelledAsKey true None = ⊥
@@ -149,35 +149,35 @@ abbrev pub IsSpelledKind : Bool → RuleKind → RuleDef → Type 0
 IsSpelledKind using_keys Plain rule = AreSpelled section.Context unseen rule.context × IsSpelledAsKey using_keys rule.key
 IsSpelledKind using_keys other rule = (rule.context ≡ []) × (rule.key ≡ None)
 
--- a rule, match or nomatch of a group that uses keys or doesn't
+-- a rule, match or nomatch of a group that uses keys or does not
 pub record IsSpelledRule (using_keys : Bool) (rule : RuleDef) : Type 0 where
   pub kind : IsSpelledKind using_keys rule.kind rule
   pub output : AreSpelled section.Output unseen rule.output
   pub some : 1 ≤ length rule.output
 
--- rules, each in its line from a number on
+-- rules, each in its own line from a number on
 abbrev pub AreSpelledRules : Bool → ℕ → List RuleDef → Type 0
 AreSpelledRules using_keys line [] = Unit {0}
 AreSpelledRules using_keys line (rule ∷ rules) = (rule.line ≡ line) × IsSpelledRule using_keys rule × AreSpelledRules using_keys (line + 1) rules
 
--- groups, each in its line with its rules behind it
+-- groups, each in its own line and followed by its rules
 abbrev pub AreSpelledGroups : ℕ → List GroupDef → Type 0
 AreSpelledGroups line [] = Unit {0}
 AreSpelledGroups line (group ∷ groups) =
     (group.line ≡ line) × IsSpelledName group.name × AreSpelledRules group.using_keys (line + 1) group.rules
     × AreSpelledGroups (line + 1 + length group.rules) groups
 
--- start statements, each in its line
+-- start statements, each in its own line
 abbrev pub AreSpelledBegins : ℕ → List BeginDef → Type 0
 AreSpelledBegins line [] = Unit {0}
 AreSpelledBegins line (start ∷ begins) = (start.line ≡ line) × IsSpelledName start.group × AreSpelledBegins (line + 1) begins
 
--- stores, each in its line
+-- stores, each in its own line
 abbrev pub AreSpelledStores : ℕ → List StoreDef → Type 0
 AreSpelledStores line [] = Unit {0}
 AreSpelledStores line (store ∷ stores) = (store.line ≡ line) × IsSpelledStore store × AreSpelledStores (line + 1) stores
 
--- a program that a text can say: each statement can be written, in the line that it has, and the text is short enough
+-- a program that a text can express: each statement can be written in its line, and the text is short enough
 pub record IsSpelled (program : Program) : Type 0 where
   pub stores : AreSpelledStores 1 program.stores
   pub begins : AreSpelledBegins (1 + length program.stores) program.begins

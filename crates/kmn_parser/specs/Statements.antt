@@ -1,4 +1,4 @@
--- The statements of programs as they are written, each in a line.
+-- The statements of programs as written, each in its own line.
 use Rattle.std.specs.Prelude.{ℕ, nat_eq, if◌then◌else◌, List, [], ◌∷◌, ◌++◌, filter_map, codes, Option, Some, None}
 use Rattle.rule_model.specs.declared.program.SrcItem.{SrcItem}
 use Rattle.rule_model.specs.declared.program.SrcItem.TheVariants as source
@@ -14,7 +14,7 @@ use Rattle.kmn_parser.specs.Texts.{word, name_token, opening, closing, plus, arr
 use Rattle.kmn_parser.specs.Items.{item_pieces, spaced_items, joined_items, value_token}
 use Rattle.rule_model.specs.declared.system.TheConstants.{VERSION}
 
--- the name of a system store of an id, with its &
+-- the name of the system store with an id, with its &
 abbrev pub system_name : ℕ → List ℕ
 system_name id = 38 ∷ system_store_name id
 
@@ -22,12 +22,12 @@ system_name id = 38 ∷ system_store_name id
 abbrev pub store_name : StoreDef → List ℕ
 store_name store = if nat_eq store.system 0 then store.name else system_name store.system
 
--- the character that an item is
+-- the character of a character item
 abbrev pub item_char : SrcItem → Option ℕ
 item_char (source.Char c) = Some c
 item_char i = None
 
--- what stands behind a store's name: the characters of a version in quotes, else the items
+-- the part after a store's name: the characters of a version in quotes, else the items
 abbrev pub content_pieces : StoreDef → List (Option LineToken)
 content_pieces store =
     if nat_eq store.system VERSION then None ∷ Some (value_token (filter_map item_char store.items)) ∷ [] else joined_items store.items
@@ -49,7 +49,7 @@ group_pieces group =
     Some (word (codes "group")) ∷ Some opening ∷ Some (name_token group.name) ∷ Some closing
     ∷ (if group.using_keys then None ∷ Some (word (codes "using")) ∷ None ∷ Some (word (codes "keys")) ∷ [] else [])
 
--- + and a key, where there is one, and what follows
+-- + and the key, if there is one, and then the rest
 abbrev pub key_part : Option SrcItem → List (Option LineToken) → List (Option LineToken)
 key_part None more = more
 key_part (Some key) more = Some plus ∷ None ∷ (item_pieces key ++ None ∷ more)

@@ -5,6 +5,6 @@ use Rattle.kmn_parser.specs.Source.{parsed}
 use Rattle.kmn_parser.specs.Programs.{program_text}
 use Rattle.kmn_parser.specs.Spelled.{IsSpelled}
 
--- the text of a program that a text can say is read as the program
+-- if a text can express a program, the text of the program is read as the program
 abbrev pub ProgramsAreReadBack : Type 0
 ProgramsAreReadBack = (program : Program) → IsSpelled program → parsed (program_text program) ≡ Ok program

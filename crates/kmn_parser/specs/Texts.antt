@@ -1,4 +1,4 @@
--- The tokens that a text is made of.
+-- The tokens of a text.
 use Rattle.std.specs.Prelude.{ℕ, zero, suc, ◌+◌, ◌/◌, ◌%◌, nat_lt, if◌then◌else◌, List, [], ◌∷◌, ◌++◌, drop}
 use Rattle.kmn_lines.specs.Tokens.{starts_number, hex_value}
 use Rattle.kmn_lines.specs.declared.token.TokenKind.{TokenKind}
@@ -9,16 +9,16 @@ use Rattle.kmn_items.specs.TokenTexts.{LineToken}
 abbrev pub hex_glyph : ℕ → ℕ
 hex_glyph n = if nat_lt n 10 then 48 + n else 55 + n
 
--- so many hexadecimal digits of a number
+-- the last `count` hexadecimal digits of a number
 abbrev pub hex_text : ℕ → ℕ → List ℕ
 hex_text zero n = []
 hex_text (suc count) n = hex_text count (n / 16) ++ hex_glyph (n % 16) ∷ []
 
--- how many digits a character has: at least four
+-- the number of digits of a character: at least four
 abbrev pub hex_count : ℕ → ℕ
 hex_count c = if nat_lt c 0x1_0000 then 4 else if nat_lt c 0x10_0000 then 5 else 6
 
--- a character as it is written: U+ and its digits
+-- a written character: U+ and its digits
 abbrev pub char_text : ℕ → List ℕ
 char_text c = 85 ∷ 43 ∷ hex_text (hex_count c) c
 
@@ -30,7 +30,7 @@ char_token c = record { kind = kind.Number c; text = char_text c }
 abbrev pub word : List ℕ → LineToken
 word text = record { kind = kind.Word; text = text }
 
--- what a name is as a token: U+ and digits are a number, any other name is a word
+-- the kind of a name as a token: U+ and digits are a number, any other name is a word
 abbrev pub name_kind : List ℕ → TokenKind
 name_kind name = if starts_number name then kind.Number (hex_value 0 (drop 2 name)) else kind.Word
 
@@ -42,7 +42,7 @@ name_token name = record { kind = name_kind name; text = name }
 abbrev pub quoted_token : ℕ → List ℕ → LineToken
 quoted_token quote bytes = record { kind = kind.Quoted; text = quote ∷ (bytes ++ quote ∷ []) }
 
--- the signs
+-- the symbols
 abbrev pub opening : LineToken
 opening = record { kind = kind.Open; text = 40 ∷ [] }
 

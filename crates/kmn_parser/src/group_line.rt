@@ -11,14 +11,14 @@ use kmn_items::{LineError, LineTokens, Slot, TokenRefusal, begins_open, broken};
 use rule_model::{BeginDef, GroupDef};
 use std::alloc::Global;
 
-/// Whether tokens begin with one of the two kinds of a begin statement.
+/// Returns whether tokens begin with one of the two kinds of a begin statement.
 fn begins_kind(tokens: LineTokens<'_>) -> bool
     ensures { result ≡ begins_kind (texts tokens.entry) }
 {
     begins_word(b"Unicode", tokens) || begins_word(b"ANSI", tokens)
 }
 
-/// Whether tokens are `use`, parentheses and nothing behind them.
+/// Returns whether tokens are `use` and parentheses, without tokens after them.
 fn is_use(tokens: LineTokens<'_>) -> bool
     ensures { result ≡ is_use (texts tokens.entry) }
 {
@@ -27,7 +27,7 @@ fn is_use(tokens: LineTokens<'_>) -> bool
         && behind_close(tokens.behind(2)).is_empty()
 }
 
-/// What is wrong with a begin statement around its parentheses. Its first `>` stands at a place.
+/// Returns the code of a begin statement's fault outside its parentheses, given the index of its first `>`.
 fn begin_head(arrow: usize, tokens: LineTokens<'_>) -> Option<Code>
     ensures { result ≡ begin_head arrow (texts tokens.entry) }
 {
@@ -38,7 +38,7 @@ fn begin_head(arrow: usize, tokens: LineTokens<'_>) -> Option<Code>
     if arrow == 2 { None } else { Some(Code::S04) }
 }
 
-/// The first fault of a begin statement.
+/// Returns the first fault of a begin statement.
 #[tactic(auto, unfolding(crate::specs::Line::begin_fault))]
 fn begin_fault(last: usize, tokens: LineTokens<'_>) -> Option<TokenRefusal>
     requires { length (texts tokens) < 2 ^ 59 }
@@ -75,7 +75,7 @@ pub(crate) fn read_begin(alloc: Global, line: Line<'_>) -> Result<Statement, Lin
     }))
 }
 
-/// Whether tokens are `using keys` and nothing behind it.
+/// Returns whether tokens are `using keys`, without tokens after it.
 fn is_using_keys(tokens: LineTokens<'_>) -> bool
     ensures { result ≡ is_using_keys (texts tokens.entry) }
 {
@@ -84,7 +84,7 @@ fn is_using_keys(tokens: LineTokens<'_>) -> bool
         && tokens.behind(2).is_empty()
 }
 
-/// What is wrong with a group statement around its parentheses, behind which stands a tail.
+/// Returns the code of a group statement's fault outside its parentheses, which are followed by `tail`.
 fn group_head(tokens: LineTokens<'_>, tail: LineTokens<'_>) -> Option<Code>
     ensures { result ≡ group_head (texts tokens.entry) (texts tail.entry) }
 {
@@ -95,7 +95,7 @@ fn group_head(tokens: LineTokens<'_>, tail: LineTokens<'_>) -> Option<Code>
     }
 }
 
-/// The first fault of a group statement.
+/// Returns the first fault of a group statement.
 #[tactic(auto, unfolding(crate::specs::Line::group_fault))]
 fn group_fault(last: usize, tokens: LineTokens<'_>) -> Option<TokenRefusal>
     requires { length (texts tokens) < 2 ^ 59 }

@@ -1,12 +1,14 @@
-//! The program that a source states, or the first refusal where a line states nothing that can be read.
+//! Parses a source as a program, or returns its first refusal.
 //!
-//! It stands on `kmn_lines` for lines, `kmn_tokens` for tokens, `kmn_items` for the items of a statement, and `rule_model` for the
-//! statements. `specs/Source` says which program a source is and what it is refused for, `specs/Line` what a line states;
-//! `docs/LANGUAGE.md` tells it to a keyboard writer. The layer above calls `parse`, which answers exactly that program or
-//! that refusal, and rests on `laws`; for the name of a system store it calls `system_store_name`.
+//! Depends on `kmn_base`, on `kmn_lines` for lines, `kmn_tokens` for tokens, `kmn_items` for the items of a statement,
+//! `rule_model` for the statements, and `virtual_keys` for the names of keys. `specs/Source` defines the program and the first
+//! refusal of a source, and `specs/Line` the statement of a line; `docs/LANGUAGE.md` describes them for keyboard writers. The
+//! layer above calls `parse`, which returns exactly that program or that refusal, and relies on `laws`. For the name of a
+//! system store it calls `system_store_name`.
 //!
-//! `specs/Programs` says which text a program has, `specs/Spelled` which programs a text can say. A layer above that writes
-//! such a text calls `programs_are_read_back`, a function with an empty body, for the law that it is read as the program.
+//! `specs/Programs` defines the text of a program, and `specs/Spelled` defines the programs that a text can express. A layer
+//! above that writes such a text calls `programs_are_read_back`, a function with an empty body, for the law that the text is
+//! read as the program.
 #![tactic(auto)]
 
 mod group_line;

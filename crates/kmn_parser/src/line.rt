@@ -33,7 +33,7 @@ fn read_tokens(alloc: Global, line: Line<'_>) -> Result<Statement, LineError>
     }
 }
 
-/// Reads the tokens of a line with a number, behind the last group before it.
+/// Reads the tokens of a line with a number, after the last group before it.
 pub(crate) fn read_line(
     alloc: Global,
     group: LastGroup,

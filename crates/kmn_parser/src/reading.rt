@@ -15,10 +15,11 @@ use rule_model::{GroupDef, Program, RuleDef};
 use std::alloc::Global;
 use std::str;
 
-/// Reads a source as a program, or gives its first refusal: by bytes (`L05`, `L01`, at line 1), then by the tokens of
-/// all lines (`L02` to `L04`), then by their statements (`S01` to `S12`, and `L02` and `L04` of numbers in words). A
-/// refusal has the number of its logical line's first physical line. `TooLarge` never comes. The language is that of the
-/// Keyman language reference; which fault is the first, and what it leaves open, is our own choice (`docs/LANGUAGE.md`).
+/// Parses a source as a program. Errors: `Memory` if an allocation fails; else the first refusal of the source. Bytes are
+/// checked first (`L05`, `L01`, at line 1), then the tokens of all lines (`L02` to `L04`), then their statements (`S01` to
+/// `S12`, and `L02` and `L04` of numbers in words). A refusal has the number of its logical line's first physical line.
+/// `TooLarge` is never returned. The language is that of the Keyman language reference. The order of faults, and what the
+/// reference leaves open, are our own choice (`docs/LANGUAGE.md`).
 #[tactic(auto, unfolding(crate::specs::Source::parsed))]
 pub fn parse(alloc: Global, source: &[u8]) -> Result<Program, CompileError>
     ensures { Answers (parsed source.now) result }
@@ -32,15 +33,15 @@ pub fn parse(alloc: Global, source: &[u8]) -> Result<Program, CompileError>
     }
 }
 
-/// A code at a line.
+/// Returns the error of a code at a line.
 fn refused(line: u32, code: Code) -> CompileError
     ensures { result ≡ CompileError.Refused (record { line = line; code = code }) }
 {
     CompileError::Refused(Refusal { line, code })
 }
 
-/// What the lines of a source come to so far: the program of their statements with its last group, or the first refusal
-/// among these. A refused source is read on, since the tokens of all lines come before any statement.
+/// The result of the lines of a source so far: the program of their statements with its last group, or the first refusal among
+/// these. A refused source is read to its end, since faults in the tokens of any line precede faults in statements.
 #[derive(Drop)]
 struct Reading {
     program: Program,
@@ -48,7 +49,7 @@ struct Reading {
     refused: Option<Refusal>,
 }
 
-/// Reads a source of characters, each line once.
+/// Reads the lines of a source in UTF-8, each once. Errors: as in `parse`.
 #[tactic(auto, using(crate::proofs::LineLemmas::by_recursion, crate::proofs::LineLemmas::reads_on))]
 fn read_text(alloc: Global, source: &str) -> Result<Program, CompileError>
     requires { length source.now ≤ TEXT_BYTES }
@@ -73,7 +74,7 @@ fn read_text(alloc: Global, source: &str) -> Result<Program, CompileError>
     }
 }
 
-/// Reads the tokens of one line more. Want of memory leaves the reading as it may be.
+/// Reads the tokens of another line. Errors: `Memory` if an allocation fails; the reading is then unspecified.
 fn read_on(
     alloc: Global,
     source: &str,
@@ -109,7 +110,7 @@ fn read_on(
     }
 }
 
-/// A group as the last one.
+/// Returns a group as the last one.
 fn last_group(using_keys: bool) -> LastGroup
     ensures { result ≡ last_group using_keys }
 {
@@ -120,7 +121,7 @@ fn last_group(using_keys: bool) -> LastGroup
     }
 }
 
-/// The last group behind a statement.
+/// Returns the last group after a statement.
 fn group_after(group: LastGroup, statement: &Statement) -> LastGroup
     ensures { result ≡ group_after group statement.now }
 {

@@ -1,4 +1,4 @@
-//! Rules, and what a group does after a match or where nothing matches.
+//! Rules, and what a group does after a match or if no rule matches.
 
 ghost use Rattle.std.specs.Prelude.{◌≡◌, ◌+◌, ◌<◌, ◌≤◌, ◌^◌, length};
 ghost use Rattle.kmn_items.specs.TokenTexts.{texts, with_text, Reads};
@@ -14,14 +14,14 @@ use kmn_lines::{Token, TokenKind};
 use rule_model::{RuleDef, RuleKind, SrcItem};
 use std::alloc::Global;
 
-/// The places of a rule's first `>`, and of its first `+` before it; the end of what was searched where there is none.
+/// The indexes of a rule's first `>`, and of its first `+` before it. If there is none, the index is the end of the searched tokens.
 #[derive(Clone, Copy)]
 struct Signs {
     arrow: usize,
     plus: usize,
 }
 
-/// The code of a statement that wants a group before it.
+/// Returns the code of a statement that requires a group before it.
 fn no_group(group: LastGroup) -> Option<Code>
     ensures { result ≡ no_group group }
 {
@@ -31,14 +31,14 @@ fn no_group(group: LastGroup) -> Option<Code>
     }
 }
 
-/// Whether a token is two quotes with nothing between them.
+/// Returns whether a token is two quotes with nothing between them.
 fn is_empty_quote(source: &[u8], token: Token) -> bool
     ensures { result ≡ is_empty_quote (with_text source.now token) }
 {
     token.kind == TokenKind::Quoted && text_in(source, token).len() == 2
 }
 
-/// Whether some token stands for an item.
+/// Returns whether some token denotes an item.
 fn has_items(tokens: LineTokens<'_>) -> bool
     ensures { result ≡ has_items (texts tokens.entry) }
 {
@@ -54,7 +54,7 @@ fn has_items(tokens: LineTokens<'_>) -> bool
     false
 }
 
-/// The code of a statement without an output, with the first `>` at a place.
+/// Returns the code of a statement without an output, given the index of the first `>`.
 fn no_output(arrow: usize, tokens: LineTokens<'_>) -> Option<Code>
     ensures { result ≡ no_output arrow (texts tokens.entry) }
 {
@@ -67,7 +67,7 @@ fn no_output(arrow: usize, tokens: LineTokens<'_>) -> Option<Code>
     }
 }
 
-/// The first fault of a match or nomatch statement before its output.
+/// Returns the first fault of a match or nomatch statement before its output.
 #[tactic(auto, unfolding(crate::specs::Line::match_fault))]
 fn match_fault(group: LastGroup, arrow: usize, tokens: LineTokens<'_>) -> Option<TokenRefusal>
     ensures { result ≡ match_fault group arrow (texts tokens.entry) }
@@ -117,7 +117,7 @@ pub(crate) fn read_match(
     }))
 }
 
-/// Whether tokens begin as a rule can that has no `>`.
+/// Returns whether tokens without `>` begin like a rule.
 fn begins_rule(tokens: LineTokens<'_>) -> bool
     ensures { result ≡ begins_rule (texts tokens.entry) }
 {
@@ -131,7 +131,7 @@ fn begins_rule(tokens: LineTokens<'_>) -> bool
     }
 }
 
-/// Whether the group before uses keys.
+/// Returns whether the group before uses keys.
 fn uses_keys(group: LastGroup) -> bool
     ensures { result ≡ uses_keys group }
 {
@@ -141,7 +141,7 @@ fn uses_keys(group: LastGroup) -> bool
     }
 }
 
-/// The least code of a rule that stands at its first token.
+/// Returns the least code of a rule at its first token.
 #[tactic(auto, unfolding(crate::specs::Line::rule_head))]
 fn rule_head(group: LastGroup, signs: Signs, tokens: LineTokens<'_>) -> Option<Code>
     ensures { result ≡ rule_head group signs.arrow signs.plus (texts tokens.entry) }
@@ -162,7 +162,7 @@ fn rule_head(group: LastGroup, signs: Signs, tokens: LineTokens<'_>) -> Option<C
     }
 }
 
-/// The key of a rule, which stands between `+` and `>`.
+/// Returns the key of a rule between `+` and `>`.
 #[tactic(auto, unfolding(crate::specs::Line::rule_key))]
 fn rule_key(alloc: Global, line: Line<'_>, signs: Signs) -> Result<Option<SrcItem>, LineError>
     requires few { length (texts line.tokens) < 2 ^ 59 }
@@ -205,14 +205,14 @@ fn rule_body(alloc: Global, line: Line<'_>, signs: Signs) -> Result<RuleDef, Lin
     })
 }
 
-/// Whether a code is less than another, as they are printed.
+/// Returns whether a code is less than another, as they are printed.
 fn is_lesser(code: Code, other: Code) -> bool
     ensures { result ≡ is_lesser code other }
 {
     code.text() < other.text()
 }
 
-/// The earlier of a code at the first token and a fault.
+/// Returns the earlier of a code at the first token and a fault.
 fn earlier(head: Code, found: TokenRefusal) -> TokenRefusal
     ensures { result ≡ earlier head found }
 {
@@ -223,7 +223,7 @@ fn earlier(head: Code, found: TokenRefusal) -> TokenRefusal
     }
 }
 
-/// Reads a rule whose signs stand at their places.
+/// Reads a rule, given the indexes of its symbols.
 fn rule_at(alloc: Global, line: Line<'_>, signs: Signs) -> Result<Statement, LineError>
     requires few { length (texts line.tokens) < 2 ^ 59 }
     requires within { signs.arrow ≤ length (texts line.tokens) }

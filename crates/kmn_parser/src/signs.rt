@@ -1,4 +1,4 @@
-//! The signs and words that part a statement.
+//! The symbols and words that separate the sections of a statement.
 
 ghost use Rattle.std.specs.Prelude.{◌≡◌, ◌≤◌, length};
 ghost use Rattle.std.specs.List.{position_or_len};
@@ -10,7 +10,7 @@ use kmn_base::names::same_name;
 use kmn_items::{LineTokens, text_in};
 use kmn_lines::{Token, TokenKind};
 
-/// Whether a token is a sign.
+/// Returns whether a token is a symbol.
 pub(crate) fn is_sign(sign: Sign, kind: TokenKind) -> bool
     ensures { result ≡ is_sign sign kind }
 {
@@ -21,7 +21,7 @@ pub(crate) fn is_sign(sign: Sign, kind: TokenKind) -> bool
     }
 }
 
-/// The place of the first token that is a sign, or the number of the tokens.
+/// Returns the index of the first token that is a symbol, or the number of tokens.
 fn sign_place(sign: Sign, tokens: &[Token]) -> usize
     ensures place { result ≡ position_or_len (λ token. is_sign sign token.kind) tokens.now }
     ensures within { result ≤ length tokens.now }
@@ -36,7 +36,7 @@ fn sign_place(sign: Sign, tokens: &[Token]) -> usize
     place
 }
 
-/// The place of the first token that is a sign, or the number of the tokens, which have their texts in a source.
+/// Returns the index of the first token that is a symbol, or the number of tokens, whose texts are in a source.
 #[tactic(auto, using(crate::proofs::LineLemmas::place_with_texts, kmn_items::proofs::TextLemmas::length_with_texts))]
 pub(crate) fn place_of(sign: Sign, tokens: LineTokens<'_>) -> usize
     ensures place { result ≡ place_of sign (texts tokens.entry) }
@@ -45,7 +45,7 @@ pub(crate) fn place_of(sign: Sign, tokens: LineTokens<'_>) -> usize
     sign_place(sign, tokens.tokens)
 }
 
-/// Whether tokens begin with a word, in any ASCII case.
+/// Returns whether tokens begin with a word, in any ASCII case.
 pub(crate) fn begins_word(word: &[u8], tokens: LineTokens<'_>) -> bool
     ensures { result ≡ begins_word word.now (texts tokens.entry) }
 {
@@ -57,7 +57,7 @@ pub(crate) fn begins_word(word: &[u8], tokens: LineTokens<'_>) -> bool
     }
 }
 
-/// The tokens behind the first `)`.
+/// Returns the tokens after the first `)`.
 pub(crate) fn behind_close<'a>(tokens: LineTokens<'a>) -> LineTokens<'a>
     ensures { texts result ≡ behind_close (texts tokens.entry) }
 {

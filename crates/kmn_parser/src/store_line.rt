@@ -16,7 +16,7 @@ use rule_model::system::{BITMAP, CASED_KEYS, DROPPED, LEFT_OUT, MNEMONIC_LAYOUT,
 use rule_model::{SrcItem, StoreDef};
 use std::alloc::Global;
 
-/// The id of each system store that a source can state.
+/// The id of each system store that a source can define.
 static SYSTEM_STORES: [(&str, u32); 27] = [
     ("bitmap", BITMAP),
     ("copyright", 2),
@@ -47,7 +47,7 @@ static SYSTEM_STORES: [(&str, u32); 27] = [
     ("kmw_embedcss", DROPPED),
 ];
 
-/// The id of a system store by its name without `&`.
+/// Returns the id of a system store by its name without `&`.
 #[tactic(auto, unfolding(crate::specs::Line::system_stores))]
 fn system_id(name: &[u8]) -> Option<u32>
     ensures { result ≡ named_in system_stores name.now }
@@ -55,7 +55,7 @@ fn system_id(name: &[u8]) -> Option<u32>
     named_in(&SYSTEM_STORES, name)
 }
 
-/// The name that a table has for an id; empty where it has none.
+/// Returns the name that a table has for an id, or an empty name.
 fn name_in(table: &[(&'static str, u32)], id: u32) -> &'static [u8]
     ensures { result.now ≡ unwrap_or (option_map (λ (row : List ℕ × ℕ). row.0) (find (λ (row : List ℕ × ℕ). nat_eq row.1 id) (map (λ row. (row.0.now, row.1)) table.now))) [] }
 {
@@ -67,7 +67,8 @@ fn name_in(table: &[(&'static str, u32)], id: u32) -> &'static [u8]
     b""
 }
 
-/// The name without `&` of a system store by its id: the first that a source can state for it; empty where there is none.
+/// Returns the name without `&` of the system store with an id: the first name by which a source can define it, or an empty
+/// name if there is none.
 #[tactic(auto, unfolding(crate::specs::Line::system_stores))]
 pub fn system_store_name(id: u32) -> &'static [u8]
     ensures { result.now ≡ system_store_name id }
@@ -75,7 +76,7 @@ pub fn system_store_name(id: u32) -> &'static [u8]
     name_in(&SYSTEM_STORES, id)
 }
 
-/// The id of a store by its name: 0 for one without `&`, None for a system store that there isn't.
+/// Returns the id of a store by its name: 0 for a name without `&`, None for an unknown system store.
 fn store_system(name: &[u8]) -> Option<u32>
     ensures { result ≡ store_system name.now }
 {
@@ -86,7 +87,7 @@ fn store_system(name: &[u8]) -> Option<u32>
     }
 }
 
-/// The fault of a store's name and of what closes it.
+/// Returns the fault of a store's name and of the parenthesis that closes it.
 fn store_form(last: usize, tokens: LineTokens<'_>) -> Option<TokenRefusal>
     requires { length (texts tokens) < 2 ^ 59 }
     ensures { result ≡ store_form last (texts tokens.entry) }
@@ -104,7 +105,7 @@ fn store_form(last: usize, tokens: LineTokens<'_>) -> Option<TokenRefusal>
     broken(last, 3, &[Slot::Close], rest)
 }
 
-/// The first fault of a store statement before its items.
+/// Returns the first fault of a store statement before its items.
 #[tactic(auto, unfolding(crate::specs::Line::store_fault))]
 fn store_fault(last: usize, tokens: LineTokens<'_>) -> Option<TokenRefusal>
     requires { length (texts tokens) < 2 ^ 59 }
@@ -120,7 +121,7 @@ fn store_fault(last: usize, tokens: LineTokens<'_>) -> Option<TokenRefusal>
     }
 }
 
-/// A store of a name, with its items; only an ordinary one keeps the name.
+/// Creates a store with a name and its items. Only an ordinary store keeps the name. Errors: `Memory` if an allocation fails.
 fn store_def(alloc: Global, line: u32, name: &[u8], items: Seq<SrcItem>) -> Result<StoreDef, Memory>
     ensures { IfOk result (λ store. store ≡ store_def line name.now items) }
 {
