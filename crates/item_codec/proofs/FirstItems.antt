@@ -1,4 +1,4 @@
--- The item that units begin with is the one that they are spelled from.
+-- If units begin with the spelling of an item, this item is read first.
 use Rattle.std.proofs.Common.{◌≡◌, ℕ, Some, List, [], ◌++◌, length, ◌∙◌, ap, arith}
 use Rattle.std.proofs.lemmas.List.{append-nil}
 use Rattle.kmn_base.specs.declared.units.UnitItem.{UnitItem}

@@ -1,4 +1,4 @@
--- What a walk gives of bytes that are spelled, and of bytes that are not.
+-- The results for bytes that are spelled, and for bytes that are not.
 use Rattle.std.proofs.Common.{◌≡◌, ℕ, ◌+◌, ◌-◌, ◌<◌, Option, Some, None, List, [], ◌∷◌, ◌++◌, length, map, refl, sym, ◌∙◌, ap, subst, inl, inr, arith, append-nil, length-append}
 use Rattle.std.specs.Prelude.{Result, Ok, Err}
 use Rattle.std.specs.Option.{unwrap_or}
@@ -20,7 +20,7 @@ use Rattle.item_codec.proofs.FirstItems.{first_item-bytes, length-spelled}
 abbrev pub Results : Type 0
 Results = List (Result UnitItem BadUnits)
 
--- the bytes of the item before are passed over
+-- the bytes of the previous item are skipped
 passed_over : (at : ℕ) (front rest : List ℕ) → results_from (length front) at (front ++ rest) ≡ results_from 0 (at + length front) rest
 passed_over at [] rest = ap (λ n. results_from 0 n rest) (omega arith)
 passed_over at (byte ∷ front) rest = passed_over (at + 1) front rest ∙ ap (λ n. results_from 0 n rest) (omega arith)
@@ -38,7 +38,7 @@ item_first item at (byte ∷ front) rest size some no_fault is =
     ∙ ap (λ passed. Ok item ∷ behind passed) (omega arith)
     ∙ ap (λ (results : Results). Ok item ∷ results) others
 
--- a spelled item comes, and then what the bytes behind it give
+-- a spelled item is followed by the results of the bytes after it
 item_then_rest : (item : UnitItem) (at : ℕ) (rest : List ℕ) → IsSpellable item
     → results_from 0 at (unit_bytes (spelling item) ++ rest) ≡ Ok item ∷ results_from 0 (at + spelled_size item) rest
 item_then_rest item at rest h =
@@ -46,7 +46,7 @@ item_then_rest item at rest h =
     item_first item at (unit_bytes (spelling item)) rest size (omega (arith, size, (spellings_are_short item).0))
     (spelled_item_is_no_fault item rest h) (first_item-bytes item rest h)
 
--- the same, with the size of the item counted by what is left
+-- the same, with the size of the item computed from the rest
 pub item_comes : (item : UnitItem) (at : ℕ) (bytes rest : List ℕ) → IsSpellable item → bytes ≡ unit_bytes (spelling item) ++ rest
     → results_from 0 at bytes ≡ Ok item ∷ results_from 0 (at + (length bytes - length rest)) rest
 item_comes item at bytes rest h is =
@@ -55,7 +55,7 @@ item_comes item at bytes rest h is =
     ap (results_from 0 at) is ∙ item_then_rest item at rest h
     ∙ ap (λ n. Ok item ∷ results_from 0 (at + n) rest) (omega (arith, size))
 
--- a fault comes, and nothing behind it
+-- after a fault there are no more results
 pub fault_comes : (at : ℕ) (bytes : List ℕ) (kind : BadKind) (code : ℕ) → fault_at bytes ≡ Some (kind, code)
     → results_from 0 at bytes ≡ Err (record { kind = kind; at = at; code = code }) ∷ []
 fault_comes at [] kind code is = absurd (cc)
@@ -92,7 +92,7 @@ bad_gives_its_fault bytes bad is =
     ∙ ap (λ n. map Ok is.items ++ results_from 0 n is.rest) place
     ∙ ap (λ (results : Results). map Ok is.items ++ results) (fault_comes bad.at is.rest bad.kind bad.code is.fault)
 
--- the fault that is given, if there is one
+-- the fault among the results, if there is one
 abbrev fault_given : Results → Option BadUnits
 fault_given [] = None
 fault_given (Ok item ∷ results) = fault_given results
@@ -110,7 +110,7 @@ last_fault_given : (items : List UnitItem) (bad : BadUnits) → fault_given (map
 last_fault_given [] bad = refl
 last_fault_given (i ∷ items) bad = last_fault_given items bad
 
--- what was spelled gives its items again
+-- spelled items are read as the same items
 pub items_given_again : (items : List UnitItem) → All IsSpellable items → items_given (results_of (unit_bytes (flat_map spelling items))) ≡ items
 items_given_again items h = ap items_given (spelled_gives_its_items items h) ∙ items_given-map items
 

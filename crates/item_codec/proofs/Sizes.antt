@@ -1,4 +1,4 @@
--- The items that are read of bytes take no more bytes than these.
+-- The items that are read from bytes are not longer than the bytes.
 use Rattle.std.proofs.Common.{◌≡◌, ℕ, ◌+◌, ◌<◌, ◌≤◌, ◌⊎◌, List, [], ◌∷◌, ◌++◌, length, map, sym, ◌∙◌, ap, inl, inr, arith, append-nil, length-append}
 use Rattle.std.specs.Prelude.{Result, Ok, Err}
 use Rattle.std.specs.List.{All, flat_map}
@@ -11,7 +11,7 @@ use Rattle.item_codec.specs.Walk.{spelled_size, results_of}
 use Rattle.item_codec.proofs.FirstItems.{length-spelled}
 use Rattle.item_codec.proofs.Results.{spelled_gives_its_items, bad_gives_its_fault}
 
--- the bytes of the items before the first fault
+-- the size of the items before the first fault
 abbrev pub sizes : List (Result UnitItem BadUnits) → ℕ
 sizes [] = 0
 sizes (Ok item ∷ results) = spelled_size item + sizes results
@@ -32,6 +32,6 @@ sizes_within_of bytes (inl s) =
 sizes_within_of bytes (inr (bad, is)) =
     omega (arith, ap sizes (bad_gives_its_fault bytes bad is), sizes-items is.items (Err bad ∷ []), ap length is.parts, length-append (unit_bytes (flat_map spelling is.items)) is.rest)
 
--- the items of bytes aren't longer than the bytes
+-- the items of bytes are not longer than the bytes
 pub sizes_within : (bytes : List ℕ) → All (λ byte. byte < 256) bytes → sizes (results_of bytes) ≤ length bytes
 sizes_within bytes h = sizes_within_of bytes (spelled_through_or_bad bytes h)

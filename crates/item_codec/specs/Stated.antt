@@ -1,4 +1,4 @@
--- The codes of items as numbers. Definitions use the constants of the code, so these say what they are.
+-- The codes of items as numbers. Definitions use the constants of the code, so these state their values.
 use Rattle.std.specs.Prelude.{◌≡◌}
 use Rattle.item_codec.specs.declared.item_codes.TheConstants.{ANY, INDEX, CONTEXT, NUL, ENTER, STOP, BEEP, DEAD, KEY, CONTEXT_AT, NOT_ANY, SET, TEST, SAVE, RESET, SYSTEM_TEST, SET_SYSTEM, UNEQUAL, EQUAL}
 

@@ -1,4 +1,4 @@
-//! The item at the front of bytes, or what is wrong with it.
+//! The item at the beginning of bytes, or its fault.
 
 ghost use Rattle.std.specs.Prelude.{◌≡◌, ◌<◌, ◌∷◌, [], ◌++◌, length, Some, IsTrue, MatchResult};
 ghost use Rattle.kmn_base.specs.declared.units.TheConstants.{SENTINEL};
@@ -9,7 +9,7 @@ use crate::item_codes::{self, EQUAL, UNEQUAL};
 use crate::units::{KEY_END, first_two_units, first_unit};
 use kmn_base::{BadKind, SENTINEL, UnitItem};
 
-/// Why the bytes begin with no item, with the unlisted code of `U2`, else 0.
+/// Why bytes do not begin with an item, with the unlisted code of `U2`, else 0.
 #[derive(Clone, Copy)]
 pub(crate) struct BadItem {
     pub(crate) kind: BadKind,
@@ -17,7 +17,7 @@ pub(crate) struct BadItem {
 }
 
 impl BadItem {
-    /// A bad item that names no code.
+    /// Creates a bad item without a code.
     fn of(kind: BadKind) -> BadItem
         ensures kind { result.kind ≡ kind }
         ensures code { result.code ≡ 0 }
@@ -26,7 +26,7 @@ impl BadItem {
     }
 }
 
-/// The bytes end inside an item: after whole units, or after the first byte of one.
+/// Returns the fault of bytes that end inside an item: after whole units, or after the first byte of a unit.
 fn end_fault(bytes: &[u8]) -> BadItem
     ensures kind { result.kind ≡ end_fault bytes.now }
     ensures code { result.code ≡ 0 }
@@ -38,7 +38,7 @@ fn end_fault(bytes: &[u8]) -> BadItem
     })
 }
 
-/// How many operands the item of a code has; None for a code that no item has.
+/// Returns the number of operands of a code's item, and None for a code that no item has.
 fn operand_count(code: u16) -> Option<usize>
     ensures { result ≡ operand_count code }
 {
@@ -57,7 +57,7 @@ fn operand_count(code: u16) -> Option<usize>
     }
 }
 
-/// The item of a code without operands.
+/// Returns the item of a code without operands.
 fn bare_item(code: u16) -> UnitItem
     requires { operand_count code ≡ Some 0 }
     ensures spellable { IsSpellable result }
@@ -72,7 +72,7 @@ fn bare_item(code: u16) -> UnitItem
     }
 }
 
-/// The item of a code with one operand.
+/// Returns the item of a code with one operand.
 fn item_of_one(code: u16, operand: u16) -> UnitItem
     requires count { operand_count code ≡ Some 1 }
     requires operand { IsOperand operand }
@@ -91,7 +91,7 @@ fn item_of_one(code: u16, operand: u16) -> UnitItem
     }
 }
 
-/// The item of a code with two operands.
+/// Returns the item of a code with two operands.
 fn item_of_two(code: u16, first: u16, second: u16) -> UnitItem
     requires count { operand_count code ≡ Some 2 }
     requires first { IsOperand first }
@@ -107,7 +107,7 @@ fn item_of_two(code: u16, first: u16, second: u16) -> UnitItem
     }
 }
 
-/// The item of a code with three operands, of which a key's last and a comparison have a form.
+/// Returns the item of a code with three operands. The last operand of a key and the operand of a comparison have a required form.
 fn item_of_three(code: u16, first: u16, second: u16, third: u16) -> Result<UnitItem, BadItem>
     requires count { operand_count code ≡ Some 3 }
     requires first { IsOperand first }
@@ -132,7 +132,7 @@ fn item_of_three(code: u16, first: u16, second: u16, third: u16) -> Result<UnitI
     }
 }
 
-/// The item of a code with the operand at the front of bytes, and the bytes behind it.
+/// Returns the item of a code with the operand at the beginning of the bytes, and the bytes after it.
 #[tactic(auto, using(crate::proofs::Operands::operands_stand, crate::proofs::Operands::operands_end))]
 fn behind_code_of_one(code: u16, bytes: &[u8]) -> Result<(UnitItem, &[u8]), BadItem>
     requires { operand_count code ≡ Some 1 }
@@ -149,7 +149,7 @@ fn behind_code_of_one(code: u16, bytes: &[u8]) -> Result<(UnitItem, &[u8]), BadI
     Ok((item_of_one(code, operand), behind))
 }
 
-/// The item of a code with the two operands at the front of bytes, and the bytes behind it.
+/// Returns the item of a code with the two operands at the beginning of the bytes, and the bytes after it.
 #[tactic(auto, using(crate::proofs::Operands::operands_stand, crate::proofs::Operands::operands_end))]
 fn behind_code_of_two(code: u16, bytes: &[u8]) -> Result<(UnitItem, &[u8]), BadItem>
     requires { operand_count code ≡ Some 2 }
@@ -166,7 +166,7 @@ fn behind_code_of_two(code: u16, bytes: &[u8]) -> Result<(UnitItem, &[u8]), BadI
     Ok((item_of_two(code, first, second), behind))
 }
 
-/// The item of a code with the three operands at the front of bytes, and the bytes behind it.
+/// Returns the item of a code with the three operands at the beginning of the bytes, and the bytes after it.
 #[tactic(auto, using(crate::proofs::Operands::operands_stand, crate::proofs::Operands::operands_end))]
 fn behind_code_of_three(code: u16, bytes: &[u8]) -> Result<(UnitItem, &[u8]), BadItem>
     requires { operand_count code ≡ Some 3 }
@@ -186,7 +186,7 @@ fn behind_code_of_three(code: u16, bytes: &[u8]) -> Result<(UnitItem, &[u8]), Ba
     Ok((item_of_three(code, first, second, third)?, behind))
 }
 
-/// The item of a code with the operands at the front of bytes, and the bytes behind it.
+/// Returns the item of a code with the operands at the beginning of the bytes, and the bytes after it.
 fn behind_code(code: u16, bytes: &[u8]) -> Result<(UnitItem, &[u8]), BadItem>
     ensures { MatchResult result
         (λ first. StandsFirst (unit_bytes (SENTINEL ∷ code ∷ []) ++ bytes.now) first.0 first.1.now)
@@ -204,7 +204,7 @@ fn behind_code(code: u16, bytes: &[u8]) -> Result<(UnitItem, &[u8]), BadItem>
     }
 }
 
-/// The item whose code is at the front of bytes, and the bytes behind it.
+/// Returns the item whose code is at the beginning of the bytes, and the bytes after it.
 #[tactic(auto, using(crate::proofs::Operands::sentinel_fault_unit))]
 fn behind_sentinel(bytes: &[u8]) -> Result<(UnitItem, &[u8]), BadItem>
     ensures { MatchResult result
@@ -217,7 +217,7 @@ fn behind_sentinel(bytes: &[u8]) -> Result<(UnitItem, &[u8]), BadItem>
     behind_code(code, behind)
 }
 
-/// The character whose surrogate pair begins with a high surrogate.
+/// Returns the character of the surrogate pair that begins with a high surrogate, and the bytes after it.
 fn behind_high(high: u16, bytes: &[u8]) -> Result<(UnitItem, &[u8]), BadItem>
     requires { IsTrue (is_high_surrogate high) }
     ensures { MatchResult result
@@ -241,7 +241,7 @@ fn behind_high(high: u16, bytes: &[u8]) -> Result<(UnitItem, &[u8]), BadItem>
     }
 }
 
-/// The item that begins with a unit, and the bytes behind it.
+/// Returns the item that begins with a unit, and the bytes after it.
 fn behind_unit(unit: u16, bytes: &[u8]) -> Result<(UnitItem, &[u8]), BadItem>
     ensures { MatchResult result
         (λ first. StandsFirst (unit_bytes (unit ∷ []) ++ bytes.now) first.0 first.1.now)
@@ -258,7 +258,7 @@ fn behind_unit(unit: u16, bytes: &[u8]) -> Result<(UnitItem, &[u8]), BadItem>
     }
 }
 
-/// The item that the bytes begin with and the bytes behind it, or why they begin with none.
+/// Returns the item at the beginning of the bytes and the bytes after it, or why they do not begin with an item.
 #[tactic(auto, using(crate::proofs::Operands::fault_at_unit))]
 pub(crate) fn first_item(bytes: &[u8]) -> Result<(UnitItem, &[u8]), BadItem>
     requires { 0 < length bytes.now }

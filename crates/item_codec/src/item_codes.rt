@@ -1,4 +1,4 @@
-//! The code behind the sentinel of each item that is no character, and how a condition compares.
+//! The code after the sentinel of each item that is not a character, and the comparisons of a condition.
 
 pub const ANY: u16 = 0x01;
 
@@ -34,7 +34,7 @@ pub const SYSTEM_TEST: u16 = 0x17;
 
 pub const SET_SYSTEM: u16 = 0x18;
 
-/// The comparison of a `Test` or `SystemTest` that asks for another value.
+/// The comparison of a `Test` or `SystemTest` that requires another value.
 pub const UNEQUAL: u16 = 1;
-/// The one that asks for the value.
+/// The comparison that requires the value.
 pub const EQUAL: u16 = 2;

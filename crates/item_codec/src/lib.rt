@@ -1,9 +1,9 @@
-//! The items of a compiled string, read from its bytes in place and spelled as bytes.
+//! Reads the items of a compiled string from its bytes in place, and spells items as bytes.
 //!
-//! It stands on `kmn_base`, whose `specs/Spelling` has the one spelling of each item and the faults. The layer above
-//! walks bytes by `items_of`, which contracts see as the list `results_of` of what it gives, appends the spelling of
-//! an item by `spell`, and counts its units by `unit_count`; `laws` says that what was spelled is read again. `item_codes` has
-//! the codes of items by name.
+//! Depends on `kmn_base`, whose `specs/Spelling` defines the one spelling of each item and the faults. The layers above iterate
+//! over bytes by `items_of`, which contracts model as the list `results_of` of its results, append the spelling of an item by
+//! `spell`, and count its units by `unit_count`; `laws` states that spelled items are read again. `item_codes` names the codes
+//! of items.
 #![tactic(auto)]
 
 mod codes;

@@ -6,7 +6,7 @@ use crate::item_codes;
 use crate::units::{KEY_END, put_units};
 use kmn_base::{Memory, SENTINEL, Seq, UnitItem};
 
-/// Appends the units of a character, or nothing for want of memory.
+/// Appends the units of a character. Errors: `Memory` if an allocation fails; the list is then unchanged.
 pub fn put_char(out: &mut Seq<u8>, c: char) -> Result<(), Memory>
     ensures { MatchResult result (λ _. out.new ≡ out.old ++ unit_bytes (char_units c)) (λ _. out.new ≡ out.old) }
 {
@@ -14,7 +14,7 @@ pub fn put_char(out: &mut Seq<u8>, c: char) -> Result<(), Memory>
     put_units(out, c.encode_utf16(&mut units))
 }
 
-/// How many units a character has.
+/// Returns the number of units of a character.
 pub fn char_unit_count(c: char) -> u32
     ensures units { result ≡ length (char_units c) }
     ensures few { result ≤ 2 }
@@ -22,7 +22,7 @@ pub fn char_unit_count(c: char) -> u32
     c.len_utf16() as u32
 }
 
-/// How many units the spelling of an item has.
+/// Returns the number of units of an item's spelling.
 pub fn unit_count(item: UnitItem) -> u32
     ensures units { result ≡ length (spelling item) }
     ensures few { result ≤ MOST_UNITS }
@@ -42,8 +42,8 @@ pub fn unit_count(item: UnitItem) -> u32
     }
 }
 
-/// Appends the item's only spelling, units as two bytes each with the lower first. For want of memory nothing is
-/// appended.
+/// Appends the item's only spelling, each unit as two bytes with the lower byte first. Errors: `Memory` if an allocation fails;
+/// the list is then unchanged.
 pub fn spell(out: &mut Seq<u8>, item: UnitItem) -> Result<(), Memory>
     requires { IsSpellable item }
     ensures { MatchResult result (λ _. out.new ≡ out.old ++ unit_bytes (spelling item)) (λ _. out.new ≡ out.old) }

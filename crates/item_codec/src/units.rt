@@ -1,4 +1,4 @@
-//! Units at the front of bytes, and at the end of a list of bytes.
+//! Units at the beginning of bytes, and at the end of a list of bytes.
 
 ghost use Rattle.std.specs.Prelude.{◌≡◌, ◌<◌, ◌≤◌, ◌∷◌, [], ◌++◌, length, MatchOption, MatchResult};
 ghost use Rattle.kmn_base.specs.Spelling.{unit_bytes};
@@ -8,10 +8,10 @@ use kmn_base::{Memory, Seq};
 /// The last operand of a virtual key.
 pub(crate) const KEY_END: u16 = 0x10;
 
-/// The most units that an item has.
+/// The greatest number of units of an item.
 pub(crate) const MOST_UNITS: usize = 5;
 
-/// The first unit, and the bytes behind it; None where there are fewer than two bytes.
+/// Returns the first unit and the bytes after it, or None if there are fewer than two bytes.
 #[tactic(auto, using(kmn_base::proofs::UnitBytes::unit_bytes_joined))]
 pub(crate) fn first_unit(bytes: &[u8]) -> Option<(u16, &[u8])>
     ensures { MatchOption result (length bytes.now < 2) (λ first. bytes.now ≡ unit_bytes (first.0 ∷ []) ++ first.1.now) }
@@ -22,7 +22,7 @@ pub(crate) fn first_unit(bytes: &[u8]) -> Option<(u16, &[u8])>
     Some((u16::from_le_bytes([*low, *high]), behind))
 }
 
-/// The first two units, and the bytes behind them; None where there are fewer than four bytes.
+/// Returns the first two units and the bytes after them, or None if there are fewer than four bytes.
 #[tactic(auto, using(kmn_base::proofs::UnitBytes::unit_bytes_joined))]
 pub(crate) fn first_two_units(bytes: &[u8]) -> Option<((u16, u16), &[u8])>
     ensures { MatchOption result (length bytes.now < 4) (λ first. bytes.now ≡ unit_bytes (first.0.0 ∷ first.0.1 ∷ []) ++ first.1.now) }
@@ -32,7 +32,7 @@ pub(crate) fn first_two_units(bytes: &[u8]) -> Option<((u16, u16), &[u8])>
     Some(((first, second), behind))
 }
 
-/// Appends units, or nothing for want of memory.
+/// Appends units. Errors: `Memory` if an allocation fails; the list is then unchanged.
 pub(crate) fn put_units(out: &mut Seq<u8>, units: &[u16]) -> Result<(), Memory>
     requires { length units.now ≤ MOST_UNITS }
     ensures { MatchResult result (λ _. out.new ≡ out.old ++ unit_bytes units.now) (λ _. out.new ≡ out.old) }

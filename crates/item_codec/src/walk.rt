@@ -6,8 +6,8 @@ use crate::codes::first_item;
 use kmn_base::{BadUnits, UnitItem};
 use std::marker::Model;
 
-/// The items that bytes spell, read in place, and at the first place at which none is spelled the fault, behind which
-/// nothing comes. Contracts see it as the list of what it has still to give.
+/// An iterator over the items that bytes spell, read in place, and the fault at the first position at which no item is spelled,
+/// after which it ends. Contracts model it as the list of its remaining results.
 #[derive(Drop)]
 pub struct Items<'a> {
     rest: &'a [u8],
@@ -60,9 +60,9 @@ impl<'a> Iterator for Items<'a> {
     }
 }
 
-/// The items that bytes spell, of which there are at most 67,108,864. A fault has the place, in bytes, of the first unit
-/// of its item, and `code` is the unlisted code of `U2`, else 0. Of several faults of one item the first of U6, U2, U3,
-/// U4, U5 and U1 is given.
+/// Iterates over the items that bytes spell. There may be at most 67,108,864 bytes. A fault has the position, in bytes, of the
+/// first unit of its item, and `code` is the unlisted code of `U2`, else 0. If an item has several faults, the first of U6, U2,
+/// U3, U4, U5 and U1 is returned.
 #[tactic(auto, unfolding(crate::specs::Walk::results_of))]
 pub fn items_of(bytes: &[u8]) -> Items<'_>
     requires { length bytes.now ≤ FILE_BYTES }

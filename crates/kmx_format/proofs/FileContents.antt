@@ -1,4 +1,4 @@
--- The contents of a file's strings - elements, contexts, outputs and names - are read as they were written.
+-- Reading the contents of a file's strings - elements, contexts, outputs and names - returns the written ones.
 use Rattle.std.proofs.Common.{◌≡◌, ◌≢◌, ℕ, ◌+◌, ◌-◌, ◌/◌, ◌%◌, ◌<◌, ◌≤◌, true, List, [], ◌∷◌, ◌++◌, get_or, map, Option, Some, refl, ap, ap₂, ◌∙◌, arith, inl, inr, ◌⊎◌, add-sub_cancel}
 use Rattle.std.specs.List.{All, flat_map, filter_map}
 use Rattle.std.specs.Option.{unwrap_or}
@@ -26,7 +26,7 @@ use Rattle.kmx_format.proofs.FileStands.{StandsAt}
 use Rattle.kmx_format.proofs.FileStrings.{string_at-stands}
 use Rattle.kmx_format.proofs.FileItems.{char_units_low, char_units_high, char_units-nonzero, item_units-nonzero, items_of-item_units}
 
--- ---- from unit items back
+-- ---- reading unit items
 
 element_again : (e : Element) → element_of_unit_item (unit_item_of_element e) ≡ Some e
 element_again (element.Char c) = refl
@@ -65,7 +65,7 @@ filter_map-map : {X Y : Type 0} (there : X → Y) (again : Y → Option X) → (
 filter_map-map there again same [] = refl
 filter_map-map {X} there again same (x ∷ xs) = rw (same x) (ap (λ (ys : List X). x ∷ ys) (filter_map-map there again same xs))
 
--- what a string spells, where it stands
+-- the items that a string in a file spells
 contents : {X : Type 0} (there : X → UnitItem) (again : UnitItem → Option X) → ((x : X) → again (there x) ≡ Some x)
     → (bytes : List ℕ) (place : ℕ) (xs : List X) → 0 < place → All (λ x. IsSpellable (there x)) xs
     → StandsAt bytes place (string (item_units (map there xs)))

@@ -1,4 +1,4 @@
--- The groups of a file are read as they were written, each with its key records.
+-- Reading the groups of a file returns the written groups, each with its key records.
 use Rattle.std.proofs.Common.{◌≡◌, ℕ, ◌+◌, ◌*◌, ◌^◌, ◌<◌, Bool, true, false, not, nat_eq, List, [], ◌∷◌, ◌++◌, length, map, refl, ap, ◌∙◌, length-append, arith, lit<}
 use Rattle.std.specs.List.{All, flat_map}
 use Rattle.std.proofs.lemmas.List.Elements.{All-head, All-tail}
@@ -29,7 +29,7 @@ length-group_record rules_place place group =
     ∷ offset_of (output_units group.on_nomatch) (place + length (string name) + length (string on_match)) ∷ length group.rules ∷ flag group.using_keys ∷ [])
 
 module _ (bytes : List ℕ) (small : length bytes < 2 ^ 32) (store_count group_count : ℕ) where
-  -- the key records of a group, which an empty group has at no place
+  -- the key records of a group; an empty group has none at any position
   rules_at_offset : (using_keys : Bool) (rules_place strings_place : ℕ) (rules : List Rule) → 0 < strings_place → All (IsWritableRule store_count group_count using_keys) rules
       → StandsAt bytes rules_place (rule_records strings_place rules) → StandsAt bytes strings_place (flat_map rule_strings rules)
       → rules_from bytes using_keys (offset_of rules rules_place) (length rules) ≡ map rule_without_place rules

@@ -1,4 +1,4 @@
--- What items are spelled as is read as these items again.
+-- Spelled items are read as the same items.
 use Rattle.std.proofs.Common.{◌≡◌, ◌≢◌, ℕ, ◌+◌, ◌-◌, ◌/◌, ◌%◌, ◌<◌, ◌≤◌, List, [], ◌∷◌, length, length-append, arith, lt-ltb, le-ltb, inl, inr, ⊎_elim}
 use Rattle.std.specs.List.{All}
 use Rattle.std.proofs.lemmas.List.Elements.{All-head, All-tail, All-nil, All-cons, All-append, All-from_recursion}
@@ -27,7 +27,7 @@ char_units-nonzero c h =
 
 -- ---- items
 
--- the units of an item that has a spelling, none of which is 0
+-- the units of an item that has a spelling are not 0
 spelling-nonzero : (item : UnitItem) → IsSpellable item → All (λ unit. unit ≢ 0) (spelling item)
 spelling-nonzero (Char c) h = char_units-nonzero c h.1
 spelling-nonzero (Any store) h = All-from_recursion (λ unit. unit ≢ 0) (spelling (Any store)) (omega arith, (omega arith, (omega arith, tt)))
@@ -88,7 +88,7 @@ unfolding item_units
 length-item_units [] = omega arith
 length-item_units (item ∷ items) = omega (arith, length-append (spelling item) (item_units items), spelling-length item, length-item_units items)
 
--- the law of the spelling: items that have one are read again
+-- the law of spelling: items that have a spelling are read again
 pub items_of-item_units : (items : List UnitItem) → All IsSpellable items → items_of (item_units items) ≡ items
 unfolding items_of item_units
 items_of-item_units items h = items_given_again items h

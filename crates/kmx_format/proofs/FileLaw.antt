@@ -1,4 +1,4 @@
--- Reading a file gives back the tables that were written.
+-- Reading a file returns the tables that were written.
 use Rattle.std.proofs.Common.{◌≡◌, ℕ, ◌+◌, ◌*◌, ◌/◌, ◌%◌, ◌^◌, ◌<◌, true, List, [], ◌∷◌, ◌++◌, length, map, refl, ap₂, ◌∙◌, length-append, arith, lit<, inl, inr}
 use Rattle.std.specs.List.{All, flat_map}
 use Rattle.kmn_base.proofs.StandingItems.{listed}
@@ -27,7 +27,7 @@ length-group_records rules_at place (group ∷ groups) =
     let behind : ℕ = place + length (group_strings group) in
     omega (arith, length-append (group_record rules_at place group) (group_records next behind groups), length-group_record rules_at place group, length-group_records next behind groups)
 
--- a word that fits two bytes is read off its first two
+-- if a word fits in two bytes, its first two bytes are read as the word
 half_of_word : (bytes : List ℕ) (place n : ℕ) → n < 2 ^ 16 → StandsAt bytes place (word n) → half_at bytes place ≡ n
 unfolding half word
 half_of_word bytes place n below h =
@@ -38,7 +38,7 @@ version-small version h =
     listed (λ m. m < 2 ^ 16) version_numbers version
     (lit< tt, (lit< tt, (lit< tt, (lit< tt, (lit< tt, (lit< tt, (lit< tt, (lit< tt, (lit< tt, tt))))))))) h
 
--- an array that has records stands at its offset
+-- an array that has records is at its offset
 stores_at_offset : (bytes : List ℕ) (small : length bytes < 2 ^ 32) (at place : ℕ) (stores : List Store) → 0 < place → All IsWritableStore stores
     → StandsAt bytes at (store_records place stores) → StandsAt bytes place (flat_map store_strings stores) → stores_from bytes (offset_of stores at) (length stores) ≡ stores
 stores_at_offset bytes small at place [] positive writable fields strings = refl
@@ -66,7 +66,7 @@ groups_of tables = group_records (rules_place tables) (group_strings_place table
 abbrev rules_of_all : Tables → List ℕ
 rules_of_all tables = rule_records (rule_strings_place tables) (all_rules tables)
 
--- the parts of a file, each at its place
+-- the parts of a file, each at its position
 pub record Parts (tables : Tables) (picture : List ℕ) (bytes : List ℕ) : Type 0 where
   pub head : StandsAt bytes 0 (header tables picture)
   pub stores : StandsAt bytes stores_place (store_records (store_strings_place tables) tables.stores)
@@ -77,7 +77,7 @@ pub record Parts (tables : Tables) (picture : List ℕ) (bytes : List ℕ) : Typ
   pub rule_strings : StandsAt bytes (rule_strings_place tables) (flat_map rule_strings (all_rules tables))
   pub last : StandsAt bytes (picture_place tables) picture
 
--- how long a file is up to each of its parts
+-- the length of a file up to each of its parts
 record Lengths (tables : Tables) (picture : List ℕ) : Type 0 where
   to_stores : length (header tables picture) ≡ stores_place
   to_groups : length (header tables picture ++ stores_of tables) ≡ groups_place tables

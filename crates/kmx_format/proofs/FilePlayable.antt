@@ -1,4 +1,4 @@
--- Tables that a file can have are those that can be played and whose names can stand in a file.
+-- Tables that a file can have are those that can be played and whose names can be written to a file.
 use Rattle.std.proofs.Common.{List, [], ◌∷◌, length}
 use Rattle.std.specs.List.{All}
 use Rattle.std.proofs.lemmas.List.Elements.{All-nil, All-cons, All-head, All-tail, All-weaker}
@@ -6,7 +6,7 @@ use Rattle.rule_model.specs.declared.tables.Tables.{Tables}
 use Rattle.kmx_format.specs.Writable.{IsWritableName, IsWritableStore, IsWritableGroup, IsWritable}
 use Rattle.kmx_format.specs.Playable.{IsPlayableStore, IsPlayableGroup, IsPlayable, HasWritableNames, WritableIsPlayableWithNames}
 
--- what holds of all, from two things that hold of all
+-- if all elements have two properties from which a third follows, all have the third
 joined : {X : Type 0} (P Q R : X → Type 0) → ((x : X) → P x → Q x → R x) → (xs : List X) → All P xs → All Q xs → All R xs
 joined P Q R join [] p q = All-nil R
 joined P Q R join (x ∷ xs) p q =

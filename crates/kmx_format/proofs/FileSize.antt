@@ -1,4 +1,4 @@
--- A file of tables that a file can have isn't longer than its limits allow.
+-- A file of tables that a file can have is not longer than its limits allow.
 use Rattle.std.proofs.Common.{◌≡◌, ℕ, ◌+◌, ◌*◌, ◌^◌, ◌<◌, ◌≤◌, List, [], ◌∷◌, ◌++◌, length, map, length-append, arith, inl, inr}
 use Rattle.std.specs.List.{All, flat_map}
 use Rattle.std.proofs.lemmas.Bool.{cases_lt}
@@ -55,7 +55,7 @@ unfolding string
 string_at_most [] = omega arith
 string_at_most (unit ∷ units) = omega (arith, length-append (unit_bytes (unit ∷ units)) (unit_bytes (0 ∷ [])), length-unit_bytes (unit ∷ units))
 
--- what items spell
+-- the bytes that items spell
 pub items_at_most : {X : Type 0} (there : X → UnitItem) (xs : List X) → length (string (item_units (map there xs))) ≤ 10 * length xs + 2
 items_at_most there xs = omega (arith, string_at_most (item_units (map there xs)), item_units_at_most (map there xs), length-map xs there)
 

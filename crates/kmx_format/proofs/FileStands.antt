@@ -1,4 +1,4 @@
--- Bytes that stand at a place of a file, and the numbers among them.
+-- Bytes at a position of a file, and the numbers among them.
 use Rattle.std.proofs.Common.{◌≡◌, ℕ, zero, suc, ◌+◌, ◌-◌, ◌*◌, ◌^◌, ◌<◌, ◌≤◌, List, [], ◌∷◌, ◌++◌, length, take, drop, get_or, refl, sym, ap, subst, ◌∙◌, append_assoc, append-nil, length-append, length-drop, arith, true, le-leb, leb}
 use Rattle.std.specs.Int.{w16, w32, to_le_bytes}
 use Rattle.std.proofs.lemmas.List.{drop-drop, drop_at, take_at}
@@ -6,7 +6,7 @@ use Rattle.std.proofs.lemmas.Nat.{from_le_bytes-to_le_bytes_2, from_le_bytes-to_
 use Rattle.kmx_format.specs.File.{half, word, words}
 use Rattle.kmx_format.specs.TablesOf.{half_at, word_at}
 
--- the bytes have xs at the place, whatever comes behind
+-- the bytes have xs at the position, whatever follows
 pub record StandsAt (bytes : List ℕ) (place : ℕ) (xs : List ℕ) : Type 0 where
   pub rest : List ℕ
   pub is : drop place bytes ≡ xs ++ rest
@@ -15,7 +15,7 @@ pub record StandsAt (bytes : List ℕ) (place : ℕ) (xs : List ℕ) : Type 0 wh
 pub whole : (bytes : List ℕ) → StandsAt bytes 0 bytes
 whole bytes = record { rest = []; is = sym (append-nil bytes); within = omega arith }
 
--- what stands there lies within the bytes
+-- the bytes at a position are within the file
 pub end_within : (bytes : List ℕ) (place : ℕ) (xs : List ℕ) → StandsAt bytes place xs → place + length xs ≤ length bytes
 end_within bytes place xs h =
     let lengths : length bytes - place ≡ length xs + length h.rest = sym (length-drop place bytes) ∙ ap length h.is ∙ length-append xs h.rest in
@@ -63,7 +63,7 @@ word_at-stands bytes place n below h =
     let at : take 4 (drop place bytes) ≡ to_le_bytes w32 n = ap (take 4) h.is ∙ take_at (to_le_bytes w32 n) h.rest 4 refl in
     rw (inside, at) (from_le_bytes-to_le_bytes_4 n below)
 
--- each of several words stands behind those before it
+-- each of several words comes after those before it
 pub nth_word : (bytes : List ℕ) (place : ℕ) (ns : List ℕ) (i : ℕ) → i < length ns → StandsAt bytes place (words ns) → StandsAt bytes (place + 4 * i) (word (get_or ns i 0))
 nth_word bytes place [] i below h = absurd (omega arith)
 nth_word bytes place (n ∷ ns) zero below h =

@@ -1,4 +1,4 @@
--- A string that stands in a file is read as its units.
+-- A string in a file is read as its units.
 use Rattle.std.proofs.Common.{◌≡◌, ◌≢◌, ℕ, ◌+◌, ◌<◌, false, eqb, List, [], ◌∷◌, ◌++◌, drop, refl, ap, ◌∙◌, append_assoc, arith, ne_eqb}
 use Rattle.std.specs.List.{All}
 use Rattle.std.proofs.lemmas.List.Elements.{All-head, All-tail}

@@ -1,4 +1,4 @@
--- Tables without the places of keys are tables that a file can have, where those with them are.
+-- If a file can have tables, it can have them without the positions of keys.
 use Rattle.std.proofs.Common.{◌≡◌, ℕ, ◌≤◌, Bool, List, [], ◌∷◌, length, map, refl, sym, ap, subst, ◌∙◌, length-append, arith, inl, inr}
 use Rattle.std.specs.List.{All, flat_map}
 use Rattle.std.proofs.lemmas.List.{length-map}

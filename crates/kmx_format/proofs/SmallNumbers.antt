@@ -1,4 +1,4 @@
--- Numbers and units that are read of bytes are small.
+-- Numbers and units that are read from bytes are small.
 use Rattle.std.proofs.Common.{◌≡◌, ℕ, ◌+◌, ◌^◌, ◌<◌, ◌≤◌, Bool, true, false, leb, List, [], ◌∷◌, length, take, drop, refl, sym, ap, ◌∙◌, arith, le-leb, lit<}
 use Rattle.std.specs.Prelude.{nat_eq, nat_le, if◌then◌else◌}
 use Rattle.std.specs.Int.{w16, w32, from_le_bytes}

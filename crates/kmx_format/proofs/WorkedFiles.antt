@@ -1,4 +1,4 @@
--- The definition of a file gives the bytes that were worked out by hand.
+-- The definition of a file has the bytes that were worked out by hand.
 use Rattle.std.proofs.Common.{◌≢◌, ℕ, ◌^◌, ◌<◌, true, List, [], ◌∷◌, refl, arith, lit<, lit≤, inr}
 use Rattle.std.specs.List.{All}
 use Rattle.std.specs.Str.{chars}

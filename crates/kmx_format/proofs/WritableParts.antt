@@ -1,4 +1,4 @@
--- The plainest parts of tables that a file can have: ASCII names, contexts without items, and outputs of characters.
+-- The simplest parts of tables that a file can have: ASCII names, contexts without items, and outputs of characters.
 use Rattle.std.proofs.Common.{true, ◌≡◌, ◌≢◌, ℕ, zero, suc, ◌<◌, ◌≤◌, List, [], ◌∷◌, length, map, refl, ap, ◌∙◌, arith, lit≤}
 use Rattle.std.specs.List.{All, flat_map}
 use Rattle.std.specs.Str.{IsAscii, chars}
@@ -37,7 +37,7 @@ writable_name name h short =
       units = omega (arith, ap length units);
     }
 
--- characters name no store and no group
+-- characters do not name stores or groups
 no_stores : (cs : List ℕ) → flat_map stores_of_output (map output.Char cs) ≡ []
 no_stores [] = refl
 no_stores (c ∷ cs) = no_stores cs

@@ -1,5 +1,5 @@
--- The bytes of a compiled file: header, store array, group array, key arrays, strings and picture, with no byte
--- between them and none shared. Numbers are little-endian, and places count from the file's start.
+-- The bytes of a `.kmx` file: header, store array, group array, key arrays, strings and picture, without gaps and without overlaps.
+-- Numbers are little-endian, and offsets count from the file's start.
 use Rattle.std.specs.Prelude.{ℕ, ◌+◌, ◌*◌, Bool, if◌then◌else◌, List, [], ◌∷◌, ◌++◌, length}
 use Rattle.std.specs.List.{flat_map}
 use Rattle.std.specs.Int.{w16, w32, to_le_bytes}
@@ -26,12 +26,12 @@ word number = to_le_bytes w32 number
 abbrev pub words : List ℕ → List ℕ
 words = flat_map word
 
--- a string: its units and a zero unit; an empty one has no bytes at all
+-- a string: its units and a zero unit; an empty string has no bytes
 unfoldable pub string : List ℕ → List ℕ
 string [] = []
 string (unit ∷ units) = unit_bytes (unit ∷ units) ++ unit_bytes (0 ∷ [])
 
--- where a file says that a list stands: at its place, and at 0 where there is nothing of it
+-- the offset of a list in a file: its position, or 0 if the list is empty
 abbrev pub offset_of : {X : Type 0} → List X → ℕ → ℕ
 offset_of [] place = 0
 offset_of (x ∷ xs) place = place
@@ -48,13 +48,13 @@ group_strings group = string (name_units group.name) ++ string (output_units gro
 abbrev pub rule_strings : Rule → List ℕ
 rule_strings rule = string (pattern_units rule.context) ++ string (output_units rule.output)
 
--- the record of a store whose strings begin at a place
+-- the record of a store whose strings begin at a position
 abbrev pub store_record : ℕ → Store → List ℕ
 store_record place store =
     let name = name_units store.name in
     words (store.system ∷ offset_of name place ∷ offset_of (element_units store.elements) (place + length (string name)) ∷ [])
 
--- the store array, with the strings of each store behind those of the stores before it
+-- the store array, where the strings of each store follow those of the stores before it
 abbrev pub store_records : ℕ → List Store → List ℕ
 store_records place [] = []
 store_records place (store ∷ stores) = store_record place store ++ store_records (place + length (store_strings store)) stores
@@ -63,7 +63,7 @@ store_records place (store ∷ stores) = store_record place store ++ store_recor
 abbrev pub flag : Bool → ℕ
 flag b = if b then 1 else 0
 
--- the record of a group whose key records and whose strings begin at two places
+-- the record of a group whose key records and whose strings begin at these two positions
 abbrev pub group_record : ℕ → ℕ → Group → List ℕ
 group_record rules_place place group =
     let name = name_units group.name in
@@ -72,7 +72,7 @@ group_record rules_place place group =
     ∷ offset_of (output_units group.on_nomatch) (place + length (string name) + length (string on_match))
     ∷ length group.rules ∷ flag group.using_keys ∷ [])
 
--- the group array, with the records and strings of each group behind those of the groups before it
+-- the group array, where the records and strings of each group follow those of the groups before it
 abbrev pub group_records : ℕ → ℕ → List Group → List ℕ
 group_records rules_place place [] = []
 group_records rules_place place (group ∷ groups) =
@@ -85,7 +85,7 @@ key_code Any = 0
 key_code (Char unit) = unit
 key_code (Virtual flags code) = code
 
--- the shift flags of a key record, which only a virtual key has
+-- the shift flags of a key record; only a virtual key has flags
 abbrev pub key_flags : RuleKey → ℕ
 key_flags Any = 0
 key_flags (Char unit) = 0
@@ -95,13 +95,13 @@ key_flags (Virtual flags code) = flags
 abbrev pub rule_fields : Rule → ℕ → ℕ → List ℕ
 rule_fields rule context output = half (key_code rule.key) ++ half 0 ++ words (rule.line ∷ key_flags rule.key ∷ output ∷ context ∷ [])
 
--- a key record whose strings begin at a place
+-- a key record whose strings begin at a position
 abbrev pub rule_record : ℕ → Rule → List ℕ
 rule_record place rule =
     let context = pattern_units rule.context in
     rule_fields rule (offset_of context place) (offset_of (output_units rule.output) (place + length (string context)))
 
--- key records, with the strings of each behind those of the records before it
+-- key records, where the strings of each follow those of the records before it
 abbrev pub rule_records : ℕ → List Rule → List ℕ
 rule_records place [] = []
 rule_records place (rule ∷ rules) = rule_record place rule ++ rule_records (place + length (rule_strings rule)) rules
@@ -114,36 +114,35 @@ rules_of group = group.rules
 abbrev pub all_rules : Tables → List Rule
 all_rules tables = flat_map rules_of tables.groups
 
--- where the store array begins: behind the header
+-- the position of the store array: after the header
 abbrev pub stores_place : ℕ
 stores_place = HEADER_BYTES
 
--- where the group array begins
+-- the position of the group array
 abbrev pub groups_place : Tables → ℕ
 groups_place tables = stores_place + STORE_BYTES * length tables.stores
 
--- where the key arrays begin
+-- the position of the key arrays
 abbrev pub rules_place : Tables → ℕ
 rules_place tables = groups_place tables + GROUP_BYTES * length tables.groups
 
--- where the strings of stores begin
+-- the position of the strings of stores
 abbrev pub store_strings_place : Tables → ℕ
 store_strings_place tables = rules_place tables + RULE_BYTES * length (all_rules tables)
 
--- where the strings of groups begin
+-- the position of the strings of groups
 abbrev pub group_strings_place : Tables → ℕ
 group_strings_place tables = store_strings_place tables + length (flat_map store_strings tables.stores)
 
--- where the strings of key records begin
+-- the position of the strings of key records
 abbrev pub rule_strings_place : Tables → ℕ
 rule_strings_place tables = group_strings_place tables + length (flat_map group_strings tables.groups)
 
--- where the picture begins
+-- the position of the picture
 abbrev pub picture_place : Tables → ℕ
 picture_place tables = rule_strings_place tables + length (flat_map rule_strings (all_rules tables))
 
--- the words of the header: identifier, version, four that are not looked at, counts, arrays, start groups, flags,
--- hotkey, picture
+-- the words of the header: identifier, version, four ignored words, counts, arrays, start groups, flags, hotkey, picture
 abbrev pub header_words : Tables → List ℕ → List ℕ
 header_words tables picture =
     IDENTIFIER ∷ tables.version ∷ 0 ∷ 0 ∷ 0 ∷ 0

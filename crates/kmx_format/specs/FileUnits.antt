@@ -1,4 +1,4 @@
--- What the strings of a file spell: names, elements, contexts and outputs as UTF-16 units.
+-- The spelling of a file's strings: names, elements, contexts and outputs as UTF-16 units.
 use Rattle.std.specs.Prelude.{ℕ, ◌+◌, List, map}
 use Rattle.std.specs.List.{flat_map}
 use Rattle.std.specs.Str.{chars}
@@ -13,13 +13,13 @@ use Rattle.rule_model.specs.declared.tables.Pat.TheVariants as pattern
 use Rattle.rule_model.specs.declared.tables.Out.{Out}
 use Rattle.rule_model.specs.declared.tables.Out.TheVariants as output
 
--- an element of a store as it is spelled
+-- the unit item of a store element
 abbrev pub unit_item_of_element : Element → UnitItem
 unit_item_of_element (element.Char c) = spelled.Char c
 unit_item_of_element (element.Mark mark) = spelled.Dead mark
 unit_item_of_element (element.Key flags code) = spelled.Key flags code
 
--- an item of a context as it is spelled; a file counts stores from 1
+-- the unit item of a context item; a file counts stores from 1
 abbrev pub unit_item_of_pattern : Pat → UnitItem
 unit_item_of_pattern (pattern.Char c) = spelled.Char c
 unit_item_of_pattern (pattern.Mark mark) = spelled.Dead mark
@@ -33,7 +33,7 @@ unit_item_of_pattern (pattern.SystemEqual id value) = spelled.SystemTest (id + 1
 unit_item_of_pattern (pattern.SystemUnequal id value) = spelled.SystemTest (id + 1) UNEQUAL (value + 1)
 unit_item_of_pattern pattern.Nul = spelled.Nul
 
--- an item of an output as it is spelled; a file counts stores and groups from 1
+-- the unit item of an output item; a file counts stores and groups from 1
 abbrev pub unit_item_of_output : Out → UnitItem
 unit_item_of_output (output.Char c) = spelled.Char c
 unit_item_of_output (output.Mark mark) = spelled.Dead mark
@@ -49,7 +49,7 @@ unit_item_of_output output.Nul = spelled.Nul
 unit_item_of_output output.Beep = spelled.Beep
 unit_item_of_output output.Stop = spelled.Stop
 
--- the units of unit items one after the other
+-- the units of a list of unit items
 unfoldable pub item_units : List UnitItem → List ℕ
 item_units = flat_map spelling
 
@@ -65,6 +65,6 @@ pattern_units context = item_units (map unit_item_of_pattern context)
 abbrev pub output_units : List Out → List ℕ
 output_units output = item_units (map unit_item_of_output output)
 
--- a name, which tables have in UTF-8, in UTF-16
+-- a name in UTF-16; tables contain it in UTF-8
 unfoldable pub name_units : List ℕ → List ℕ
 name_units name = flat_map char_units (chars name)

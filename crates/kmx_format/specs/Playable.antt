@@ -1,5 +1,5 @@
--- Which tables can be played: each number that an item names is below its count, each offset points at what it must, and
--- the limits are kept. It says nothing of names.
+-- The tables that can be played: each number that an item names is below its count, each offset points to an item of the required kind,
+-- and the limits are kept. Names are not restricted.
 use Rattle.std.specs.Prelude.{◌≡◌, ℕ, ◌^◌, ◌<◌, ◌≤◌, ◌⊎◌, ◌↔◌, true, length}
 use Rattle.std.specs.List.{All, flat_map}
 use Rattle.kmn_base.specs.declared.limits.TheConstants.{STORE_ELEMENTS, STORES, GROUPS, RECORDS, ALL_ELEMENTS}
@@ -13,13 +13,13 @@ use Rattle.kmx_format.specs.File.{all_rules}
 use Rattle.kmx_format.specs.Versions.{is_version}
 use Rattle.kmx_format.specs.Writable.{elements_of, IsWritableName, IsWritableRule, IsWritableMatchOutput, IsWritable}
 
--- each element of a store has a spelling, and there aren't too many
+-- each element of a store has a spelling, and there are not too many
 pub record IsPlayableStore (store : Store) : Type 0 where
   pub system : store.system < 2 ^ 32
   pub elements : All (λ element. IsSpellable (unit_item_of_element element)) store.elements
   pub element_count : length store.elements ≤ STORE_ELEMENTS
 
--- a group of tables with so many stores and groups
+-- a group of tables with these counts of stores and groups
 pub record IsPlayableGroup (store_count group_count : ℕ) (group : Group) : Type 0 where
   pub rules : All (IsWritableRule store_count group_count group.using_keys) group.rules
   pub on_match : IsWritableMatchOutput store_count group_count group.on_match
@@ -37,11 +37,11 @@ pub record IsPlayable (tables : Tables) : Type 0 where
   pub rule_count : length (all_rules tables) ≤ RECORDS
   pub element_count : length (flat_map elements_of tables.stores) ≤ ALL_ELEMENTS
 
--- the names of stores and groups can stand in a file
+-- the names of stores and groups can be written to a file
 pub record HasWritableNames (tables : Tables) : Type 0 where
   pub stores : All (λ store. IsWritableName store.name) tables.stores
   pub groups : All (λ group. IsWritableName group.name) tables.groups
 
--- a file can have the tables that can be played and whose names can stand in one, and no others
+-- a file can have exactly the tables that can be played and whose names can be written to a file
 abbrev pub WritableIsPlayableWithNames : Type 0
 WritableIsPlayableWithNames = (tables : Tables) → IsWritable tables ↔ IsPlayable tables × HasWritableNames tables

@@ -1,10 +1,11 @@
--- The places and sizes of a file as numbers. Definitions use the constants of the code, so these say what they are.
+-- The offsets and sizes of a file as numbers. Definitions use the constants of the code, so these state their values.
 use Rattle.std.specs.Prelude.{◌≡◌}
 use Rattle.kmx_format.specs.declared.places.TheConstants.{IDENTIFIER, IDENTIFIER_AT, VERSION_AT, CHECKSUM_AT, STORE_COUNT_AT, GROUP_COUNT_AT, STORES_AT, GROUPS_AT, START_ANSI_AT, START_UNICODE_AT, FLAGS_AT, PICTURE_AT, PICTURE_SIZE_AT, STORE_NAME_AT, STORE_ELEMENTS_AT, GROUP_RULES_AT, GROUP_MATCH_AT, GROUP_NOMATCH_AT, GROUP_RULE_COUNT_AT, GROUP_USING_KEYS_AT, RULE_LINE_AT, RULE_FLAGS_AT, RULE_OUTPUT_AT, RULE_CONTEXT_AT}
 use Rattle.kmx_format.specs.declared.sizes.TheConstants.{HEADER_BYTES, STORE_BYTES, GROUP_BYTES, RULE_BYTES}
 use Rattle.kmx_format.specs.declared.versions.TheConstants.{OWN_VERSION}
 
--- the identifier and the version of a file that states none, each word of the header and each field of a record at this place
+-- the identifier and the version of a file that states none have these values, and each word of the header and each field of a record
+-- has this offset
 pub record PlacesAreAsStated : Type 0 where
   pub identifier : IDENTIFIER ≡ 0x5354_584B
   pub identifier_at : IDENTIFIER_AT ≡ 0
@@ -32,7 +33,7 @@ pub record PlacesAreAsStated : Type 0 where
   pub rule_context_at : RULE_CONTEXT_AT ≡ 16
   pub own_version : OWN_VERSION ≡ 0x0A00
 
--- the header and each kind of record have so many bytes
+-- the header and each kind of record have this number of bytes
 pub record SizesAreAsStated : Type 0 where
   pub header_bytes : HEADER_BYTES ≡ 64
   pub store_bytes : STORE_BYTES ≡ 12

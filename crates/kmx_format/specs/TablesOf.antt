@@ -1,5 +1,5 @@
--- The tables that bytes have, each field read at its place. What stands outside the bytes is read as 0, and a string
--- that no zero unit ends goes to the last whole unit.
+-- The tables of bytes, each field read at its position. Bytes past the end are read as 0, and a string without a zero unit ends at the
+-- last whole unit.
 use Rattle.std.specs.Prelude.{ℕ, zero, suc, ◌+◌, ◌-◌, Bool, not, nat_eq, nat_le, if◌then◌else◌, List, [], ◌∷◌, length, take, drop, map, Option, Some, None}
 use Rattle.std.specs.List.{filter_map}
 use Rattle.std.specs.Int.{w16, w32, from_le_bytes}
@@ -25,11 +25,11 @@ use Rattle.rule_model.specs.declared.tables.Tables.{Tables}
 use Rattle.kmx_format.specs.declared.places.TheConstants.{GROUPS_AT, GROUP_COUNT_AT, GROUP_MATCH_AT, GROUP_NOMATCH_AT, GROUP_RULES_AT, GROUP_RULE_COUNT_AT, GROUP_USING_KEYS_AT, RULE_CONTEXT_AT, RULE_FLAGS_AT, RULE_LINE_AT, RULE_OUTPUT_AT, START_ANSI_AT, START_UNICODE_AT, STORES_AT, STORE_COUNT_AT, STORE_ELEMENTS_AT, STORE_NAME_AT, VERSION_AT}
 use Rattle.kmx_format.specs.declared.sizes.TheConstants.{STORE_BYTES, GROUP_BYTES, RULE_BYTES}
 
--- the number in the two bytes at a place
+-- the number in the two bytes at a position
 unfoldable pub half_at : List ℕ → ℕ → ℕ
 half_at bytes place = if nat_le (place + 2) (length bytes) then from_le_bytes w16 (take 2 (drop place bytes)) else 0
 
--- the number in the four bytes at a place
+-- the number in the four bytes at a position
 unfoldable pub word_at : List ℕ → ℕ → ℕ
 word_at bytes place = if nat_le (place + 4) (length bytes) then from_le_bytes w32 (take 4 (drop place bytes)) else 0
 
@@ -42,11 +42,11 @@ before_zero (unit ∷ units) = if nat_eq unit 0 then [] else unit ∷ before_zer
 unfoldable pub string_at : List ℕ → ℕ → List ℕ
 string_at bytes offset = if nat_eq offset 0 then [] else before_zero (whole_units (drop offset bytes))
 
--- the items that the units spell, up to the first place at which none stands
+-- the items that units spell, up to the first position at which no item is spelled
 unfoldable pub items_of : List ℕ → List UnitItem
 items_of units = items_given (results_of (unit_bytes units))
 
--- the element of a store that is spelled so
+-- the store element of a unit item
 abbrev pub element_of_unit_item : UnitItem → Option Element
 element_of_unit_item (spelled.Char c) = Some (element.Char c)
 element_of_unit_item (spelled.Dead mark) = Some (element.Mark mark)
@@ -66,7 +66,7 @@ system_comparison_of system comparison value =
     else if nat_eq comparison EQUAL then Some (pattern.SystemEqual (system - 1) (value - 1))
     else None
 
--- the item of a context that is spelled so
+-- the context item of a unit item
 abbrev pub pattern_of_unit_item : UnitItem → Option Pat
 pattern_of_unit_item (spelled.Char c) = Some (pattern.Char c)
 pattern_of_unit_item (spelled.Dead mark) = Some (pattern.Mark mark)
@@ -79,7 +79,7 @@ pattern_of_unit_item (spelled.SystemTest system comparison value) = system_compa
 pattern_of_unit_item spelled.Nul = Some pattern.Nul
 pattern_of_unit_item _ = None
 
--- the item of an output that is spelled so
+-- the output item of a unit item
 abbrev pub output_of_unit_item : UnitItem → Option Out
 output_of_unit_item (spelled.Char c) = Some (output.Char c)
 output_of_unit_item (spelled.Dead mark) = Some (output.Mark mark)
@@ -96,23 +96,23 @@ output_of_unit_item spelled.Beep = Some output.Beep
 output_of_unit_item spelled.Stop = Some output.Stop
 output_of_unit_item _ = None
 
--- a name: UTF-16, with U+FFFD for a surrogate without its partner, given in UTF-8
+-- a name in UTF-8, read from UTF-16, with U+FFFD for an unpaired surrogate
 unfoldable pub name_at : List ℕ → ℕ → List ℕ
 name_at bytes offset = encode_utf8_all (utf16_lossy_chars (string_at bytes offset))
 
--- the elements that the string at an offset spells, without what may not stand in a store
+-- the elements of the string at an offset, without items that are not allowed in a store
 abbrev pub elements_at : List ℕ → ℕ → List Element
 elements_at bytes offset = filter_map element_of_unit_item (items_of (string_at bytes offset))
 
--- the context that the string at an offset spells, without what may not stand in one
+-- the context of the string at an offset, without items that are not allowed in one
 abbrev pub patterns_at : List ℕ → ℕ → List Pat
 patterns_at bytes offset = filter_map pattern_of_unit_item (items_of (string_at bytes offset))
 
--- the output that the string at an offset spells, without what may not stand in one
+-- the output of the string at an offset, without items that are not allowed in one
 abbrev pub outputs_at : List ℕ → ℕ → List Out
 outputs_at bytes offset = filter_map output_of_unit_item (items_of (string_at bytes offset))
 
--- the store whose record stands at a place
+-- the store whose record is at a position
 abbrev pub store_at : List ℕ → ℕ → Store
 store_at bytes place = record {
   system = word_at bytes place;
@@ -120,19 +120,19 @@ store_at bytes place = record {
   elements = elements_at bytes (word_at bytes (place + STORE_ELEMENTS_AT));
 }
 
--- so many stores, whose records stand one after the other
+-- `count` stores, whose records follow one another
 abbrev pub stores_from : List ℕ → ℕ → ℕ → List Store
 stores_from bytes place zero = []
 stores_from bytes place (suc count) = store_at bytes place ∷ stores_from bytes (place + STORE_BYTES) count
 
--- the key of a record: a character where it has no flags
+-- the key of a record: a character if it has no flags
 abbrev pub key_of : Bool → ℕ → ℕ → RuleKey
 key_of using_keys code flags =
     if not using_keys then key.Any
     else if nat_eq flags 0 then key.Char code
     else key.Virtual flags code
 
--- the key record at a place; a file doesn't keep the place in a key store
+-- the key record at a position; a file does not contain the position in a key store
 abbrev pub rule_at : List ℕ → Bool → ℕ → Rule
 rule_at bytes using_keys place = record {
   line = word_at bytes (place + RULE_LINE_AT);
@@ -142,16 +142,16 @@ rule_at bytes using_keys place = record {
   output = outputs_at bytes (word_at bytes (place + RULE_OUTPUT_AT));
 }
 
--- so many key records, one after the other
+-- `count` key records, which follow one another
 abbrev pub rules_from : List ℕ → Bool → ℕ → ℕ → List Rule
 rules_from bytes using_keys place zero = []
 rules_from bytes using_keys place (suc count) = rule_at bytes using_keys place ∷ rules_from bytes using_keys (place + RULE_BYTES) count
 
--- whether the group whose record stands at a place uses keys
+-- whether the group whose record is at a position uses keys
 abbrev pub uses_keys_at : List ℕ → ℕ → Bool
 uses_keys_at bytes place = not (nat_eq (word_at bytes (place + GROUP_USING_KEYS_AT)) 0)
 
--- the group whose record stands at a place
+-- the group whose record is at a position
 abbrev pub group_at : List ℕ → ℕ → Group
 group_at bytes place = record {
   name = name_at bytes (word_at bytes place);
@@ -161,12 +161,12 @@ group_at bytes place = record {
   on_nomatch = outputs_at bytes (word_at bytes (place + GROUP_NOMATCH_AT));
 }
 
--- so many groups, whose records stand one after the other
+-- `count` groups, whose records follow one another
 abbrev pub groups_from : List ℕ → ℕ → ℕ → List Group
 groups_from bytes place zero = []
 groups_from bytes place (suc count) = group_at bytes place ∷ groups_from bytes (place + GROUP_BYTES) count
 
--- the tables that the bytes have; the version is the low half of its word, which no version passes
+-- the tables of bytes; the version is the low half of its word, since no version is larger
 unfoldable pub tables_of : List ℕ → Tables
 tables_of bytes = record {
   version = half_at bytes VERSION_AT;
@@ -176,14 +176,14 @@ tables_of bytes = record {
   groups = groups_from bytes (word_at bytes GROUPS_AT) (word_at bytes GROUP_COUNT_AT);
 }
 
--- a rule as a file keeps it: without the place of its key in a key store
+-- a rule as in a file: without the position of its key in a key store
 abbrev pub rule_without_place : Rule → Rule
 rule_without_place rule = record rule { place = 0 }
 
--- a group as a file keeps it
+-- a group as in a file
 abbrev pub group_without_places : Group → Group
 group_without_places group = record group { rules = map rule_without_place group.rules }
 
--- tables as a file keeps them: without the places of keys in key stores
+-- tables as in a file: without the positions of keys in key stores
 abbrev pub no_places : Tables → Tables
 no_places tables = record tables { groups = map group_without_places tables.groups }

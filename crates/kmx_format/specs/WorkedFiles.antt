@@ -1,4 +1,4 @@
--- Two files whose bytes were worked out by hand, and the tables that they have.
+-- Two files whose bytes were worked out by hand, and their tables.
 use Rattle.std.specs.Prelude.{◌≡◌, ℕ, true, List, [], ◌∷◌}
 use Rattle.kmn_base.specs.declared.items.Element.TheVariants as element
 use Rattle.kmn_base.specs.declared.keys.RuleKey.{RuleKey}
@@ -10,11 +10,11 @@ use Rattle.rule_model.specs.declared.tables.Store.{Store}
 use Rattle.rule_model.specs.declared.tables.Tables.{Tables}
 use Rattle.kmx_format.specs.File.{file_of}
 
--- a rule without context that gives one character
+-- a rule without context that outputs one character
 abbrev pub plain_rule : ℕ → RuleKey → ℕ → Rule
 plain_rule line k c = record { line = line; place = 0; key = k; context = []; output = output.Char c ∷ [] }
 
--- tables of the version 10.0 with one group, which is called main and uses keys
+-- tables of version 10.0 with one group, which is called main and uses keys
 abbrev pub main_tables : List Store → List Rule → Tables
 main_tables stores rules = record {
   version = 0x0A00;
@@ -24,7 +24,7 @@ main_tables stores rules = record {
   groups = record { name = 0x6D ∷ 0x61 ∷ 0x69 ∷ 0x6E ∷ []; using_keys = true; rules = rules; on_match = []; on_nomatch = [] } ∷ [];
 }
 
--- in line 3, the character a gives b
+-- in line 3, a rule with the character a as its key that outputs b
 abbrev pub one_rule : Tables
 one_rule = main_tables [] (plain_rule 3 (key.Char 0x61) 0x62 ∷ [])
 
@@ -59,7 +59,7 @@ two_keys_bytes =
     ∷ 0x6F ∷ 0 ∷ 0 ∷ 0 ∷ 0x78 ∷ 0 ∷ 0x79 ∷ 0 ∷ 0 ∷ 0
     ∷ 0x6D ∷ 0 ∷ 0x61 ∷ 0 ∷ 0x69 ∷ 0 ∷ 0x6E ∷ 0 ∷ 0 ∷ 0 ∷ 0x78 ∷ 0 ∷ 0 ∷ 0 ∷ 0x79 ∷ 0 ∷ 0 ∷ 0 ∷ []
 
--- the definition of a file gives these bytes
+-- the definition of a file has these bytes
 pub record AreWorkedFiles : Type 0 where
   pub of_one_rule : file_of one_rule [] ≡ one_rule_bytes
   pub of_two_keys : file_of two_keys [] ≡ two_keys_bytes

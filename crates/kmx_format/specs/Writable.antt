@@ -1,4 +1,4 @@
--- Which tables a file can have.
+-- The tables that a file can have.
 use Rattle.std.specs.Prelude.{◌||◌, ◌≡◌, ◌≢◌, ℕ, zero, suc, ◌^◌, ◌<◌, ◌≤◌, ◌⊎◌, Bool, true, false, nat_eq, bit_and, List, [], ◌∷◌, length, take, slice_get, slice_index_or, IsSomeAnd}
 use Rattle.std.specs.List.{All, flat_map}
 use Rattle.std.specs.Str.{IsUtf8, chars}
@@ -29,7 +29,7 @@ pub record IsWritableName (name : List ℕ) : Type 0 where
   pub characters : All (λ c. (c ≢ 0) × (c ≢ SENTINEL)) (chars name)
   pub units : length (name_units name) ≤ FILE_NAME_UNITS
 
--- each element of a store has a spelling, and there aren't too many
+-- each element of a store has a spelling, and there are not too many
 pub record IsWritableStore (store : Store) : Type 0 where
   pub system : store.system < 2 ^ 32
   pub name : IsWritableName store.name
@@ -61,7 +61,7 @@ abbrev pub groups_of_output : Out → List ℕ
 groups_of_output (output.Enter group) = group ∷ []
 groups_of_output _ = []
 
--- whether an item asks for a system option that a file can ask for: the platform or the layer, which alone is set
+-- whether an item tests only a system option that a file can test, the platform or the layer; a file can set only the layer
 abbrev pub has_system_id : Pat → Bool
 has_system_id (pattern.SystemEqual id value) = nat_eq id PLATFORM || nat_eq id LAYER
 has_system_id (pattern.SystemUnequal id value) = nat_eq id PLATFORM || nat_eq id LAYER
@@ -76,31 +76,31 @@ abbrev pub is_any : Pat → Bool
 is_any (pattern.Any store) = true
 is_any _ = false
 
--- an offset, counted from 1, is that of an item which passes a test
+-- an offset, counted from 1, points to an item that passes a test
 abbrev pub PointsTo : (Pat → Bool) → List Pat → ℕ → Type 0
 PointsTo test context zero = ⊥
 PointsTo test context (suc place) = IsSomeAnd (slice_get context place) (λ item. test item ≡ true)
 
--- an item of a context points to an item before it: `index` to an `any`, `context(n)` to a matched item
+-- an item of a context refers to an earlier item: `index` to an `any`, `context(n)` to a matched item
 abbrev pub PointsBack : List Pat → Pat → Type 0
 PointsBack before (pattern.Index store offset) = PointsTo is_any before offset
 PointsBack before (pattern.ContextAt offset) = PointsTo is_matched before offset
 PointsBack before _ = Unit {0}
 
--- an item of an output points to an item of the context: `index` to an `any`, `context(n)` to a matched item
+-- an item of an output refers to an item of the context: `index` to an `any`, `context(n)` to a matched item
 abbrev pub PointsInto : List Pat → Out → Type 0
 PointsInto context (output.Index store offset) = PointsTo is_any context offset
 PointsInto context (output.ContextAt offset) = PointsTo is_matched context offset
 PointsInto context _ = Unit {0}
 
--- whether an item of an output needs the context of a rule, which match and nomatch don't have
+-- whether an item of an output requires the context of a rule, which match and nomatch do not have
 abbrev pub needs_context : Out → Bool
 needs_context (output.Index store offset) = true
 needs_context output.Context = true
 needs_context (output.ContextAt offset) = true
 needs_context _ = false
 
--- each item of a context has a spelling, names one of so many stores where it names one, and points to items before it
+-- each item of a context has a spelling, names only stores below the count, and refers only to earlier items
 pub record IsWritableContext (store_count : ℕ) (context : List Pat) : Type 0 where
   pub items : All (λ item. IsSpellable (unit_item_of_pattern item)) context
   pub stores : All (λ store. store < store_count) (flat_map stores_of_pattern context)
@@ -108,7 +108,7 @@ pub record IsWritableContext (store_count : ℕ) (context : List Pat) : Type 0 w
   pub offsets : (place : ℕ) (d : Pat) → place < length context → PointsBack (take place context) (slice_index_or context place d)
   pub item_count : length context ≤ CONTEXT_ITEMS
 
--- each item of an output has a spelling, and names one of so many stores and groups where it names one
+-- each item of an output has a spelling, and names only stores and groups below the counts
 pub record IsWritableOutput (store_count group_count : ℕ) (output : List Out) : Type 0 where
   pub items : All (λ item. IsSpellable (unit_item_of_output item)) output
   pub stores : All (λ store. store < store_count) (flat_map stores_of_output output)
@@ -125,7 +125,7 @@ IsWritableKey true key.Any = ⊥
 IsWritableKey true (key.Char unit) = unit < 2 ^ 16
 IsWritableKey true (key.Virtual flags code) = (flags ≢ 0) × (bit_and flags SHIFT_FLAGS ≡ flags) × (code < 2 ^ 16)
 
--- a key record of a group that uses keys or doesn't
+-- a key record of a group that uses keys or does not
 pub record IsWritableRule (store_count group_count : ℕ) (using_keys : Bool) (rule : Rule) : Type 0 where
   pub line : rule.line < 2 ^ 32
   pub key : IsWritableKey using_keys rule.key
@@ -138,7 +138,7 @@ pub record IsWritableMatchOutput (store_count group_count : ℕ) (output : List 
   pub itself : IsWritableOutput store_count group_count output
   pub no_context : All (λ item. needs_context item ≡ false) output
 
--- a group of tables with so many stores and groups
+-- a group of tables with these counts of stores and groups
 pub record IsWritableGroup (store_count group_count : ℕ) (group : Group) : Type 0 where
   pub name : IsWritableName group.name
   pub rules : All (IsWritableRule store_count group_count group.using_keys) group.rules

@@ -4,7 +4,7 @@ ghost use Rattle.kmx_format.specs.File.{rules_of};
 
 use rule_model::Group;
 
-/// How many key records all groups have.
+/// Returns the number of key records of all groups.
 pub fn rule_count(groups: &[Group]) -> u64
     requires { length (flat_map rules_of groups.now) < 2 ^ 64 }
     ensures { result ≡ length (flat_map rules_of groups.now) }

@@ -1,10 +1,10 @@
-//! The form of a compiled keyboard file: its bytes, with what is read of them.
+//! Defines the format of a compiled keyboard (a `.kmx` file): its bytes, and the tables that are read from them.
 //!
-//! It stands on `kmn_base`, `item_codec` and `rule_model`. `specs/File` has the bytes of the file of tables,
-//! `specs/TablesOf` the tables that bytes have, `specs/Writable` which tables a file can have, `specs/Versions` the versions of
-//! the format, and `laws` says that these fit together, and which numbers the places and sizes are. Writer and reader take the sizes
-//! of records, the places of the header's words, the count of key records and the spelling of items from here, and all that speak of
-//! versions their table.
+//! Depends on `kmn_base`, `item_codec` and `rule_model`. `specs/File` defines the bytes of the file of tables, `specs/TablesOf`
+//! the tables of bytes, `specs/Writable` the tables that a file can have, and `specs/Versions` the versions of the format.
+//! `laws` states that these fit together, and the numbers of offsets and sizes. The writer and the readers use the sizes of
+//! records, the offsets of the header's words, the count of key records and the spelling of items from here. All crates that
+//! use versions use this table of versions.
 #![tactic(auto)]
 
 mod counts;

@@ -1,32 +1,32 @@
-//! Where the header of a file has its words, in bytes from the file's start, and where a record has its fields, in bytes from
-//! the record's start: at 0 a store has its system id, a group the offset of its name, and a key record its key.
+//! The offsets of the header's words, in bytes from the file's start, and of a record's fields, in bytes from the record's
+//! start. At 0 a store has its system id, a group the offset of its name, and a key record its key.
 
-/// The identifier of such files, the bytes `KXTS`.
+/// The identifier of `.kmx` files, the bytes `KXTS`.
 pub const IDENTIFIER: u32 = 0x5354_584B;
 
-/// Where the identifier stands.
+/// The offset of the identifier.
 pub const IDENTIFIER_AT: usize = 0;
 /// The version.
 pub const VERSION_AT: usize = 4;
-/// A checksum, which is 0 in the files that are written here.
+/// A checksum, which is 0 in the files that this project writes.
 pub const CHECKSUM_AT: usize = 8;
 /// The count of stores.
 pub const STORE_COUNT_AT: usize = 24;
 /// The count of groups.
 pub const GROUP_COUNT_AT: usize = 28;
-/// The place of the store array.
+/// The offset of the store array.
 pub const STORES_AT: usize = 32;
-/// The place of the group array.
+/// The offset of the group array.
 pub const GROUPS_AT: usize = 36;
-/// The number of the group in which a press begins where a system knows no Unicode, or `NO_GROUP`.
+/// The number of the group in which a press begins on a system without Unicode, or `NO_GROUP`.
 pub const START_ANSI_AT: usize = 40;
 /// The number of the group in which a press begins.
 pub const START_UNICODE_AT: usize = 44;
 /// The flags of the keyboard.
 pub const FLAGS_AT: usize = 48;
-/// The place of the picture.
+/// The offset of the bitmap.
 pub const PICTURE_AT: usize = 56;
-/// How many bytes the picture has.
+/// The size of the bitmap in bytes.
 pub const PICTURE_SIZE_AT: usize = 60;
 
 /// In the record of a store, the offset of its name.
@@ -34,7 +34,7 @@ pub const STORE_NAME_AT: usize = 4;
 /// The offset of its elements.
 pub const STORE_ELEMENTS_AT: usize = 8;
 
-/// In the record of a group, the place of its key records.
+/// In the record of a group, the offset of its key records.
 pub const GROUP_RULES_AT: usize = 4;
 /// The offset of its match output.
 pub const GROUP_MATCH_AT: usize = 8;
@@ -42,7 +42,7 @@ pub const GROUP_MATCH_AT: usize = 8;
 pub const GROUP_NOMATCH_AT: usize = 12;
 /// The count of its key records.
 pub const GROUP_RULE_COUNT_AT: usize = 16;
-/// Whether it uses keys: 0 where it doesn't.
+/// Whether it uses keys: 0 if it does not.
 pub const GROUP_USING_KEYS_AT: usize = 20;
 
 /// In a key record, the line of the source.

@@ -1,4 +1,4 @@
-//! How many bytes the header of a file and its records have.
+//! The sizes of a file's header and records in bytes.
 
 /// Bytes of the header.
 pub const HEADER_BYTES: usize = 64;

@@ -1,4 +1,4 @@
-//! Elements, context items and output items as they are spelled in the strings of a file.
+//! The spelling of elements, context items and output items in the strings of a file.
 
 ghost use Rattle.std.specs.Prelude.{◌≡◌, ◌+◌, ◌<◌, ◌^◌};
 ghost use Rattle.kmn_base.specs.declared.units.UnitItem.{UnitItem};
@@ -9,11 +9,11 @@ use item_codec::item_codes::{EQUAL, UNEQUAL};
 use kmn_base::{Element, UnitItem};
 use rule_model::{Out, Pat};
 
-/// What stands in a string as an item of it.
+/// An item that a string can contain.
 pub trait Spelled {
     ghost spelled: { Self → UnitItem };
 
-    /// The item as it is spelled.
+    /// Returns the unit item that the string contains for this item.
     fn unit_item(&self) -> UnitItem
         requires { IsSpellable (spelled self.now) }
         ensures { result ≡ spelled self.now };
@@ -31,7 +31,7 @@ impl Spelled for Element {
     }
 }
 
-/// A store or group number as a file has it, from 1.
+/// Returns a store or group number as in a file, counted from 1.
 fn from_one(number: u32) -> u16
     requires { number + 1 < 2 ^ 16 }
     ensures { result ≡ number + 1 }

@@ -4,10 +4,10 @@ ghost use Rattle.std.specs.Prelude.{◌≡◌, ℕ, List, [], find, map, nat_eq,
 ghost use Rattle.std.specs.List.{list_any};
 ghost use Rattle.kmx_format.specs.Versions.{file_versions, is_version, version_text};
 
-/// The number of version 10.0, which a file has where its source states none.
+/// The number of version 10.0, which a file has if its source states no version.
 pub const OWN_VERSION: u16 = 0x0A00;
 
-/// The text of each version, as `&version` states it, with the number that a file has for it.
+/// The text of each version, as in `&version`, with its number in a file.
 static VERSIONS: [(&'static str, u16); 9] = [
     ("6.0", 0x0600),
     ("7.0", 0x0700),
@@ -20,14 +20,14 @@ static VERSIONS: [(&'static str, u16); 9] = [
     ("17.0", 0x1100),
 ];
 
-/// The text of each version, as `&version` states it, with the number that a file has for it.
+/// Returns the text of each version, as in `&version`, with its number in a file.
 pub fn file_versions() -> &'static [(&'static str, u16)]
     ensures { map (λ row. (row.0.now, row.1)) result.now ≡ file_versions }
 {
     &VERSIONS
 }
 
-/// Whether a number is among those of a table.
+/// Returns whether a number is among the numbers of a table.
 fn has_number(table: &[(&str, u16)], number: u32) -> bool
     ensures { result ≡ list_any (nat_eq number) (map (λ (row : List ℕ × ℕ). row.1) (map (λ row. (row.0.now, row.1)) table.now)) }
 {
@@ -39,14 +39,14 @@ fn has_number(table: &[(&str, u16)], number: u32) -> bool
     false
 }
 
-/// Whether a number is that of a version.
+/// Returns whether a number is the number of a version.
 pub fn is_version(number: u32) -> bool
     ensures { result ≡ is_version number }
 {
     has_number(&VERSIONS, number)
 }
 
-/// The text that a table has for a number; empty where it has none.
+/// Returns the text that a table has for a number, or an empty text if there is none.
 fn text_in(table: &[(&'static str, u16)], number: u16) -> &'static [u8]
     ensures { result.now ≡ unwrap_or (option_map (λ (row : List ℕ × ℕ). row.0) (find (λ (row : List ℕ × ℕ). nat_eq row.1 number) (map (λ row. (row.0.now, row.1)) table.now))) [] }
 {
@@ -58,7 +58,7 @@ fn text_in(table: &[(&'static str, u16)], number: u16) -> &'static [u8]
     b""
 }
 
-/// The text of the version of a number; empty where there is none of it.
+/// Returns the text of the version with a number, or an empty text if there is none.
 pub fn version_text(number: u16) -> &'static [u8]
     ensures { result.now ≡ version_text number }
 {
