@@ -56,7 +56,7 @@ abbrev pub best_rule : SourceNames → (RuleDef → Option Caught) → List Rule
 best_rule names caught [] = None
 best_rule names caught (r ∷ rs) = best_rule_with names r (caught r) (best_rule names caught rs)
 
--- the meaning of a chosen statement, and the record that then goes
+-- the meaning of a selected statement, and the record that is then selected
 abbrev pub src_chosen : SourceNames → ChosenRule → Chosen
 src_chosen names x = (src_rule names x.0, x.1)
 
@@ -81,7 +81,7 @@ best-map names caught (r ∷ rs) =
     ap (best_with (src_rule names r) (caught (src_rule names r))) (best-map names caught rs)
     ∙ with-map names r (caught (src_rule names r)) (best_rule names (λ r. caught (src_rule names r)) rs)
 
--- what is said of each statement is said of the best, which has caught what it has
+-- a property of each statement is a property of the best one, which caught what it catches
 Within : (RuleDef → Type 0) → (RuleDef → Option Caught) → Option ChosenRule → Type 0
 Within P caught o = (x : ChosenRule) → o ≡ Some x → P x.0 × (caught x.0 ≡ Some x.1)
 
@@ -107,7 +107,7 @@ unfolding Within
 best_rule-within names P caught [] h = λ x e. absurd (none-some x e)
 best_rule-within names P caught (r ∷ rs) h = with_within names P caught r (caught r) (best_rule names caught rs) h.0 refl (best_rule-within names P caught rs h.1)
 
--- the order of records is one, and between rules of different lines it is that of the rules
+-- the order of records is a strict weak order, and for rules with different lines it is the order of the rules
 pub records_order : IsStrictWeakOrder stands_before
 records_order =
     ranks_by (then_total (then_total (back_total (on_total (λ (x : Rule). length x.context) nat_cmp_total)) (on_total (λ (x : Rule). x.line) nat_cmp_total)) (on_total (λ (x : Rule). x.place) nat_cmp_total)) (λ x. x)
@@ -135,7 +135,7 @@ either_record : (numbers : Numbers) (press : KeyPress) (b : Bool) (x y : ChosenR
 either_record numbers press true x y = refl
 either_record numbers press false x y = refl
 
--- the earlier of two records is that of the better rule
+-- the earlier of two records is the record of the better rule
 prefer-kept : (numbers : Numbers) (press : KeyPress) (names : SourceNames) (r : RuleDef) (c : Option Caught) (others : Option ChosenRule) →
     ((x : ChosenRule) → others ≡ Some x → nat_eq x.0.line r.line ≡ false) →
     prefer stands_before (option_map (caught_record numbers press r) c) (option_map (chosen_record numbers press) others) ≡ option_map (chosen_record numbers press) (best_rule_with names r c others)
@@ -158,7 +158,7 @@ records-apart numbers press r (Some c) (Some other) apart x y e f after =
     ∙ lines_part (length (map (file_pattern numbers) other.0.context)) (length (map (file_pattern numbers) r.context)) other.0.line r.line (chosen_record numbers press other).place (caught_record numbers press r c).place
     (apart other refl) ((λ i. stands_before (at_y i) (at_x i)) ∙ after)
 
--- no other rule stands in a line of its own
+-- if a rule has its own line, no other rule is in this line
 other_lines : (r : RuleDef) (rs : List RuleDef) → list_any (λ (other : RuleDef). nat_eq other.line r.line) rs ≡ false → AllByRecursion (λ (other : RuleDef). nat_eq other.line r.line ≡ false) rs
 other_lines r [] h = tt
 other_lines r (other ∷ rs) h =
@@ -178,7 +178,7 @@ first-found f caught [] = refl
 first-found f caught (x ∷ xs) =
     found_with f caught x (caught (f x)) (first caught (map f xs)) (find (λ x. is_some (caught (f x))) xs) refl (first-found f caught xs)
 
--- what a record catches that passes, where its rule catches this
+-- what a record that passes catches, if its rule catches this
 lost-caught : (k : Option (List Catch)) (place : Option (Option ℕ)) (b : Bool) (c : Caught) →
     caught_by k place ≡ Some c → is_some (caught_by k (one_place b)) ≡ true → caught_by k (one_place b) ≡ Some (lost c)
 lost-caught None place b c e h = absurd (none-some c e)
@@ -191,7 +191,7 @@ caught-catches None place c e = absurd (none-some c e)
 caught-catches (Some catches) None c e = absurd (none-some c e)
 caught-catches (Some catches) (Some place) c e = ap (option_map (λ (c : Caught). c.catches)) e
 
--- one group at a moment
+-- one group in a state
 module _ (p : Program) (t : Tables) (l : Linked p t) (values : List (List Element)) (left : List Item) (press : KeyPress) (using_keys : Bool) where
   abbrev pub best_now : List RuleDef → Option ChosenRule
   best_now rs = best_rule (names_of p) (rule_caught p t l values left press using_keys) rs
@@ -233,7 +233,7 @@ module _ (p : Program) (t : Tables) (l : Linked p t) (values : List (List Elemen
             ∙ length-map x.0.context (src_pattern (names_of p));
       }
 
-  -- the record of the best rule catches what the rule does, but for the place of its key
+  -- the record of the best rule catches what the rule does, except the position of its key
   record_catches : (x : ChosenRule) → BestKnown x → passes p t l values left press using_keys (chosen_record (numbers_of p) press x) ≡ true →
       record_caught p t l values left press using_keys (chosen_record (numbers_of p) press x) ≡ Some (lost x.1)
   record_catches x h passed =
@@ -247,7 +247,7 @@ module _ (p : Program) (t : Tables) (l : Linked p t) (values : List (List Elemen
       (sym (rule-parts p t l values left press using_keys x.0) ∙ h.caught)
       (ap is_some (sym parts) ∙ passed)
 
-  -- the meaning of a record that goes, with what it catches
+  -- the meaning of a selected record, with what it catches
   abbrev pub tab_chosen : ChosenRule → Chosen
   tab_chosen x = (tab_rule t.stores using_keys (chosen_record (numbers_of p) press x), lost x.1)
 
@@ -259,7 +259,7 @@ module _ (p : Program) (t : Tables) (l : Linked p t) (values : List (List Elemen
   found_chosen (Some x) xs known h =
       ap (option_map (λ c. (tab_rule t.stores using_keys (chosen_record (numbers_of p) press x), c))) (record_catches x (known x refl) h.passes)
 
-  -- the first record of a sorted table that holds is that of the best rule
+  -- the first record of a sorted table that holds is the record of the best rule
   pub choice-kept : (rs : List RuleDef) → AllByRecursion (KnownRule p using_keys) rs → have_own_lines rs ≡ true →
       (table : List Rule) → IsPermutation (flat_map (rule_records (numbers_of p)) rs) table → IsSortedBy stands_before table →
       first (holds (content (tab t).stores values) left press) (map (tab_rule t.stores using_keys) table) ≡ option_map tab_chosen (best_now rs)

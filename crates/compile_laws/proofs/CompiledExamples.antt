@@ -80,12 +80,12 @@ of_z =
       output = output.Char 120 ∷ output.Char 121 ∷ output.Set 2 4 ∷ [];
     }
 
--- a record for each element of the key store, with the element that `index` puts at its place
+-- a record for each element of the key store, with the element that `index` puts at its position
 records_numbered : (file_group (numbers_of numbered) main_group).rules ≡ of_a ∷ of_b ∷ of_z ∷ []
 unfolding names_of stores_of values_of same_name code_in cased_keys
 records_numbered = refl
 
--- the longer context goes first, and the places of a key store in their order
+-- the longer context is first, and the elements of a key store are in their order
 order_numbered : IsSortedBy stands_before (of_z ∷ of_a ∷ of_b ∷ [])
 order_numbered zero d low less = refl
 order_numbered (suc zero) d low less = refl

@@ -41,7 +41,7 @@ filter_whole q (x ∷ xs) h =
     let each = and_parts (q x) (list_all q xs) h in
     (λ i. cond (each.0 i) (x ∷ filter q xs) (filter q xs)) ∙ ap (λ ys. x ∷ ys) (filter_whole q xs each.1)
 
--- the parts of what makes a word
+-- the parts of the condition for a word
 record Word (name : List ℕ) : Type 0 where
   some : not (nat_eq (length name) 0) ≡ true
   whole : All (λ b. nat_eq 32 b ≡ false) name
@@ -56,7 +56,7 @@ word_parts name h =
 pub space_text : IsUtf8 (32 ∷ [])
 space_text = (32 ∷ [], (refl, ap (λ bs. bs ++ []) (encode_ascii 32 (omega arith))))
 
--- joined words are text, and part again
+-- joined words are text, and are split again
 pub joined_text : (name : List ℕ) (names : List (List ℕ)) → list_all is_word (name ∷ names) ≡ true → IsUtf8 (join_with_byte 32 (name ∷ names))
 joined_text name [] h = (word_parts name (and_parts (is_word name) true h).0).text
 joined_text name (next ∷ names) h =
@@ -81,7 +81,7 @@ pub read_chars : (cs : List ℕ) → filter_map element_char (map element.Char c
 read_chars [] = refl
 read_chars (c ∷ cs) = ap (λ rest. c ∷ rest) (read_chars cs)
 
--- the words that a store of words gives
+-- the words of a store of words are read again
 pub words_again : (names : List (List ℕ)) → list_all is_word names ≡ true → words (encode_utf8_all (chars (join_with_byte 32 names))) ≡ names
 words_again [] h = ap (λ cs. words (encode_utf8_all cs)) chars-nil
 words_again (name ∷ names) h =

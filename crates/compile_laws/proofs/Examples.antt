@@ -1,4 +1,4 @@
--- Programs and their tables played side by side by computation, and a program that meets what the law rests on.
+-- Programs and their tables played side by side by computation, and a program that satisfies the conditions of the law.
 use Rattle.std.proofs.Common.{◌≡◌, ℕ, zero, suc, ◌<◌, true, List, [], ◌∷◌, ◌++◌, map, replicate, Option, Some, None, refl, sym, subst, arith, length, lit<}
 use Rattle.std.specs.Prelude.{codes, slice_index_or}
 use Rattle.std.specs.Char.{encode_utf8}
@@ -42,8 +42,8 @@ use Rattle.compile_laws.proofs.Whole.{meaning_kept}
 use Rattle.compile_laws.specs.Ordered.{compiled_tables}
 use Rattle.compile_laws.proofs.CompiledExamples.{store}
 
--- what is seen of each step: what it deleted and inserted, the items before the caret, and the current and saved values but
--- for the system options
+-- the visible part of each step: what it deleted and inserted, the items before the caret, and the current and saved values except those
+-- of the system options
 abbrev Seen : Type 0
 Seen = ℕ × List ℕ × List Item × List (List Element) × List (Option (List Element))
 
@@ -82,14 +82,14 @@ letters = map source.Char
 abbrev virtual : ℕ → ℕ → SrcItem
 virtual flags code = source.Key (record { flags = flags; code = code; name = [] })
 
--- the longer context goes first, though its line is the later
+-- the rule with the longer context is selected, though its line is later
 longer_first :
     played (program [] (rule 3 [] (source.Char 99) (letters (codes "x")) ∷ rule 4 (letters (codes "a")) (source.Char 99) (letters (codes "y")) ∷ [])) (press 65 ∷ press 67 ∷ [])
     ≡ both ((0, codes "a", item.Char 97 ∷ [], [], []) ∷ (1, codes "y", item.Char 121 ∷ [], [], []) ∷ [])
 unfolding played
 longer_first = refl
 
--- an element that stands twice counts at its first place
+-- an element that occurs twice counts at its first position
 abbrev indexing : List ℕ → Program
 indexing w =
     program (store 3 (codes "v") (letters (codes "aea")) ∷ store 4 (codes "w") (letters w) ∷ [])
@@ -103,7 +103,7 @@ past_the_end : played (indexing (codes "x")) (press 69 ∷ press 49 ∷ []) ≡ 
 unfolding played
 past_the_end = refl
 
--- `any` as the key is each element of its store, and `index` at the key's place goes along
+-- `any` as the key is each element of its store, and `index` at the key's offset uses the same position
 abbrev along : List SrcItem → List ℕ → Program
 along k o = program (store 1 (codes "k") k ∷ store 2 (codes "o") (letters o) ∷ []) (rule 5 [] (source.Any (codes "k")) (source.Index (codes "o") 1 ∷ []) ∷ [])
 
@@ -132,7 +132,7 @@ fifty_entries :
 unfolding played
 fifty_entries = refl
 
--- a place is caught before the option changes, and its content is that of the moment of acting
+-- a position is caught before the option changes, and its content is that of the state in which the item acts
 caught_before :
     played
     (program (store 3 (codes "o") (letters (codes "ab")) ∷ [])
@@ -182,7 +182,7 @@ switched_and_back :
 unfolding played
 switched_and_back = refl
 
--- each value has one store, behind those of the statements
+-- each value has one store, after the stores of the statements
 values_once :
     (compiled_tables switching).stores
     ≡ record { system = 0; name = codes "o"; elements = map element.Char (codes "0") }
@@ -192,7 +192,7 @@ values_once :
 unfolding played
 values_once = refl
 
--- a virtual key in a store equals no item, and comes to nothing in `index` and `outs`
+-- a virtual key in a store is not equal to any item, and has no effect in `index` and `outs`
 key_in_store :
     played
     (program (store 3 (codes "v") (letters (codes "ab")) ∷ store 4 (codes "m") (virtual 0x4000 65 ∷ letters (codes "zb")) ∷ [])
@@ -209,7 +209,7 @@ key_in_store :
 unfolding played
 key_in_store = refl
 
--- names of the key dictionary count by their first appearance, in a statement that is dropped too, and without case
+-- names of the key dictionary are numbered by their first appearance, also in a dropped statement, and without case
 abbrev named : List ℕ → SrcItem
 named name = source.Key (record { flags = 0x4000; code = 0; name = name })
 
@@ -235,7 +235,7 @@ names_numbered : played naming (press 256 ∷ press 257 ∷ press 258 ∷ []) �
 unfolding played
 names_numbered = refl
 
--- a program with an option, a key store, a key of the dictionary and a rule that has to move, and its tables in full
+-- a program with an option, a key store, a key of the dictionary and a rule that has to move, and its whole tables
 abbrev toggle : Program
 toggle =
     program (store 1 (codes "o") (letters (codes "0")) ∷ store 2 (codes "k") (virtual 0x4000 65 ∷ source.Char 98 ∷ []) ∷ [])
@@ -273,7 +273,7 @@ toggle_named : IsWellNamed toggle
 unfolding played is_utf8
 toggle_named = record { start = refl; groups = refl; words = refl; stores = refl }
 
--- the records in the source's order, of which the last comes to the front
+-- the records in the source's order, where the last one moves to the front
 abbrev toggle_first : List Rule
 toggle_first =
     record { line = 4; place = 0; key = key.Virtual 0x4000 65; context = []; output = output.Set 0 3 ∷ [] }
@@ -311,7 +311,7 @@ toggle_compiles =
       groups = subst (λ groups. AreOrderedGroups groups toggle_tables.groups) (sym toggle_expanded) (record { count = refl; each = toggle_each });
     }
 
--- so its meaning is kept, whatever the events
+-- so its meaning is kept for all events
 toggle_kept : (events : List Event) → trace (src toggle) events ≡ trace (tab toggle_tables) events
 toggle_kept = meaning_kept toggle toggle_tables toggle_named toggle_compiles
 
@@ -325,12 +325,12 @@ toggle_with rules = record toggle_tables { groups = record { name = codes "MAIN"
 abbrev any_group : Group
 any_group = record { name = []; using_keys = true; rules = []; on_match = []; on_nomatch = [] }
 
--- tables that lack a record are not those that the program compiles to
+-- tables that lack a record are not the tables that the program compiles to
 dropped_record : Compiles toggle (toggle_with (toggle_last ∷ [])) → ⊥
 unfolding played
 dropped_record is = let count : ◌≡◌ {A = ℕ} 1 3 = same_count _ _ (is.groups.each 0 any_group (lit< tt)) in omega arith
 
--- nor are tables that have a record twice
+-- tables that have a record twice are not the tables that the program compiles to
 doubled_record : Compiles toggle (toggle_with (toggle_last ∷ toggle_last ∷ toggle_first)) → ⊥
 unfolding played
 doubled_record is = let count : ◌≡◌ {A = ℕ} 4 3 = same_count _ _ (is.groups.each 0 any_group (lit< tt)) in omega arith

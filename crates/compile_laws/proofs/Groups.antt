@@ -1,4 +1,4 @@
--- A group of a program does what the group that it compiles to does.
+-- A group of a program has the same effect as the group that it compiles to.
 use Rattle.std.proofs.Common.{◌≡◌, ℕ, zero, suc, ◌+◌, ◌<◌, Bool, true, List, [], ◌∷◌, length, map, get_or, Option, Some, None, refl, ap, sym, ◌∙◌, subst, arith, if◌then◌else◌}
 use Rattle.std.specs.Prelude.{find, filter, option_map, option_and_then, position, slice_get, unwrap_or, flat_map}
 use Rattle.std.specs.List.{list_all}
@@ -38,7 +38,7 @@ use Rattle.virtual_keys.proofs.PositionLemmas.{position-map}
 use Rattle.compile_laws.proofs.Outputs.{SameEntry, outputs-same}
 use Rattle.compile_laws.proofs.Choices.{ChosenRule, best_now, best-map, best_known, BestKnown, src_chosen, tab_chosen, choice-kept}
 
--- what a key does by default hangs on the dictionary alone
+-- the default of a key depends only on the dictionary
 pub default-same : (a b : Keyboard) → a.dictionary ≡ b.dictionary → (press : KeyPress) (s : EventState) → by_default a press s ≡ by_default b press s
 unfolding by_default
 default-same a b e press s = λ i. default_of press (name_in (e i) press.code) s
@@ -106,7 +106,7 @@ module _ (p : Program) (t : Tables) (l : Linked p t) (d : (tab t).dictionary ≡
       ∙ (do_same g known h.rules s best (best_known p t l s.current s.left press g.using_keys (filter is_plain g.rules) known.rules)
       ∙ sym (ap (λ c. do_group (src p) e press (src_group (names_of p) g) c s) (chosen_src g s))))
 
--- where a named group stands in a program and in its tables
+-- a named group in a program and in its tables
 pub record GroupPlace (p : Program) (t : Tables) (name : List ℕ) : Type 0 where
   pub stated : GroupDef
   pub compiled : Group
@@ -148,7 +148,7 @@ group_place p t ok c name h =
     let at = at_place (position (λ (g : GroupDef). same_name g.name name) p.groups) h in
     group_stands p t ok c name at.0 at.1 (first_place (λ (g : GroupDef). same_name g.name name) p.groups at.0 at.1)
 
--- on every level a group does the same
+-- at each depth, a group has the same effect
 pub level-same : (p : Program) (t : Tables) → IsWellNamed p → Compiles p t → Linked p t → (tab t).dictionary ≡ (src p).dictionary → (press : KeyPress) (n : ℕ) →
     SameEntry p (enter_group n (src p) press) (enter_group n (tab t) press)
 level-same p t ok c l d press zero name h s = refl

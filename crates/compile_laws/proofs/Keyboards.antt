@@ -1,4 +1,4 @@
--- The parts of the keyboards of a program and of tables, which stay shut elsewhere.
+-- The parts of the keyboards of a program and of tables, which are not unfolded elsewhere.
 use Rattle.std.proofs.Common.{◌≡◌, refl}
 use Rattle.std.specs.Prelude.{map, find, List, [], ◌++◌}
 use Rattle.kmn_base.specs.declared.events.Event.{Event}

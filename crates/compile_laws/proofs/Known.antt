@@ -17,11 +17,11 @@ use Rattle.compile_laws.specs.WellNamed.{is_known_pattern, is_known_key, is_know
 use Rattle.rule_model.specs.OwnLines.{have_own_lines}
 use Rattle.compile_laws.proofs.Linked.{is_value}
 
--- the value of an item is one of the program's
+-- whether the value of an item is one of the program's
 abbrev pub has_values : Program → SrcItem → Bool
 has_values p x = list_all (is_value p) (item_values x)
 
--- a rule names what is stated, and its values are the program's
+-- a rule names only what is defined, and its values are the program's
 pub record KnownRule (p : Program) (using_keys : Bool) (r : RuleDef) : Type 0 where
   pub context : list_all (is_known_pattern p) r.context ≡ true
   pub key : is_known_key p using_keys r.key ≡ true
@@ -29,7 +29,7 @@ pub record KnownRule (p : Program) (using_keys : Bool) (r : RuleDef) : Type 0 wh
   pub context_values : list_all (has_values p) r.context ≡ true
   pub output_values : list_all (has_values p) r.output ≡ true
 
--- a match or nomatch statement that there may be
+-- an optional match or nomatch statement
 abbrev pub KnownStatement : Program → Option RuleDef → Type 0
 KnownStatement p None = Unit {0}
 KnownStatement p (Some r) = (list_all (is_known_output p 0) r.output ≡ true) × (list_all (has_values p) r.output ≡ true) × (length r.context ≡ 0)
@@ -94,7 +94,7 @@ statement_known p using_keys q other (r ∷ rs) known valued =
     (λ e. (ap (λ n. list_all (is_known_output p n) r.output) (sym (parts.statement (other r e))) ∙ parts.rule.output, parts.rule.output_values, parts.statement (other r e)))
     (λ _. statement_known p using_keys q other rs k.1 v.1)
 
--- a rule of a statement is no rule with a context
+-- a match or nomatch statement is not a rule with a context
 pub match_kind : (k : RuleKind) → is_match_kind k ≡ true → is_plain_kind k ≡ false
 match_kind Plain h = absurd (false≢true h)
 match_kind OnMatch h = refl

@@ -7,22 +7,22 @@ use Rattle.std.proofs.lemmas.Bool.{both_ways}
 use Rattle.std.proofs.lemmas.List.Elements.{All-nil, All-cons, All-head, All-tail, All-append, All-weaker, All-contains, Contains-append_left, Contains-append_right}
 use Rattle.std.proofs.lemmas.List.Sorted.{All-permutation, Contains-permutation, sorted_far}
 
--- an element that passes is x or stands behind it
+-- an element that passes is x or comes after it
 abbrev pub Follows : {X : Type 0} → (X → X → Bool) → (X → Bool) → X → X → Type 0
 Follows lt p x y = p y ≡ true → (y ≡ x) ⊎ (lt x y ≡ true)
 
--- an element that passes, and that stands before each other that does
+-- an element that passes and precedes each other element that does
 pub record IsFirst {X : Type 0} (lt : X → X → Bool) (p : X → Bool) (xs : List X) (x : X) : Type 0 where
   pub among : Contains xs x
   pub passes : p x ≡ true
   pub before : All (Follows lt p x) xs
 
--- the first that passes, or that none does
+-- the first element that passes; or no element passes
 abbrev pub FirstIfAny : {X : Type 0} → (X → X → Bool) → (X → Bool) → List X → Option X → Type 0
 FirstIfAny lt p xs None = All (λ y. p y ≡ false) xs
 FirstIfAny lt p xs (Some x) = IsFirst lt p xs x
 
--- each element stands before all behind it; or none behind it stands before it
+-- each element precedes all elements after it; or none of these precedes it
 abbrev pub Ascending : {X : Type 0} → (X → X → Bool) → List X → Type 0
 Ascending lt [] = Unit {0}
 Ascending lt (x ∷ xs) = All (λ y. lt x y ≡ true) xs × Ascending lt xs
@@ -31,7 +31,7 @@ abbrev pub Rising : {X : Type 0} → (X → X → Bool) → List X → Type 0
 Rising lt [] = Unit {0}
 Rising lt (x ∷ xs) = All (λ y. lt y x ≡ false) xs × Rising lt xs
 
--- the earlier of two that there may be
+-- the earlier of two optional elements
 abbrev pub prefer : {X : Type 0} → (X → X → Bool) → Option X → Option X → Option X
 prefer lt None b = b
 prefer lt (Some x) None = Some x
@@ -40,7 +40,7 @@ prefer lt (Some x) (Some y) = if lt y x then Some y else Some x
 none_among : {X : Type 0} (x : X) → Contains [] x → ⊥
 none_among x c = omega arith
 
--- what is in a list that has a head is the head or in the rest
+-- an element of a list with a head is the head or in the rest
 pub among_cons : {X : Type 0} (y : X) (ys : List X) (x : X) → Contains (y ∷ ys) x → (y ≡ x) ⊎ Contains ys x
 among_cons y ys x h = go h.0 h.1 h.2
   where
@@ -77,7 +77,7 @@ module _ {X : Type 0} (lt : X → X → Bool) (p : X → Bool) where
         before = All-tail (Follows lt p x) y ys f.before;
       }))
 
-  -- in order the first that passes is found
+  -- in a list in order, the first element that passes is found
   pub found_first : (xs : List X) → Rising lt xs → (o : Option X) → FirstIfAny lt p xs o → find p xs ≡ o
   found_first xs up None h = find_none xs h
   found_first xs up (Some x) h = find_some xs up x h
@@ -100,7 +100,7 @@ module _ {X : Type 0} (lt : X → X → Bool) (p : X → Bool) where
       }
   head_first false y ys e up h = skip y ys e (find p ys) h
 
-  -- of elements each of which stands before all behind it, what is found is the first
+  -- if each element precedes all elements after it, the found element is the first
   pub first_found : (xs : List X) → Ascending lt xs → FirstIfAny lt p xs (find p xs)
   first_found [] up = All-nil (λ y. p y ≡ false)
   first_found (x ∷ xs) up = head_first (p x) x xs refl up.0 (first_found xs up.1)
@@ -115,7 +115,7 @@ module _ {X : Type 0} (lt : X → X → Bool) (p : X → Bool) where
       }
 
 module _ {X : Type 0} (lt : X → X → Bool) (p : X → Bool) (trans : (x y z : X) → lt x y ≡ true → lt y z ≡ true → lt x z ≡ true) where
-  -- what stands behind y stands behind x, where x stands before y
+  -- what comes after y also comes after x, if x precedes y
   follows : (x y z : X) → lt x y ≡ true → Follows lt p y z → Follows lt p x z
   follows x y z less f passed = go (f passed)
     where
@@ -140,7 +140,7 @@ module _ {X : Type 0} (lt : X → X → Bool) (p : X → Bool) (trans : (x y z :
   none_passes : (x y : X) → p y ≡ false → Follows lt p x y
   none_passes x y fails passed = absurd (both_ways (p y) fails passed)
 
-  -- the first of two lists is the earlier of their firsts
+  -- the first of two lists is the earlier of their first elements
   pub FirstIfAny-append : (xs ys : List X) (a b : Option X) → FirstIfAny lt p xs a → FirstIfAny lt p ys b →
       ((x y : X) → a ≡ Some x → b ≡ Some y → lt y x ≡ false → lt x y ≡ true) → FirstIfAny lt p (xs ++ ys) (prefer lt a b)
   FirstIfAny-append xs ys None None h k apart = All-append (λ y. p y ≡ false) xs ys h k
@@ -168,7 +168,7 @@ rising lt o (x ∷ xs) up = (
       ap (λ m. lt (get_or (x ∷ xs) m d) (get_or xs k d)) (sym e) ∙ up (suc k) d (omega arith) (omega arith)),
 )
 
--- an order goes on
+-- an order is transitive
 pub less_trans : {X : Type 0} (lt : X → X → Bool) → IsStrictWeakOrder lt → (x y z : X) → lt x y ≡ true → lt y z ≡ true → lt x z ≡ true
 less_trans lt o x y z a b = go (lt x z) refl
   where

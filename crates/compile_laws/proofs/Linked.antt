@@ -1,4 +1,4 @@
--- What all else needs of the stores and the values of a program and of its tables.
+-- The facts on the stores and the values of a program and of its tables that the other lemmas need.
 use Rattle.std.proofs.Common.{◌≡◌, ℕ, Bool, true, List}
 use Rattle.std.specs.Prelude.{is_some, position}
 use Rattle.std.specs.Str.{bytes_eq}
@@ -14,12 +14,12 @@ use Rattle.rule_model.specs.Src.{src, value_elements}
 use Rattle.compile_laws.specs.Numbers.{numbers_of, values_of, number_of_store, number_of_value}
 use Rattle.compile_laws.specs.WellNamed.{is_store, is_fixed}
 
--- a value of a program
+-- whether a value is one of a program's
 abbrev pub is_value : Program → List ℕ → Bool
 is_value p value = is_some (position (λ known. bytes_eq known value) (values_of p))
 
--- a stated store is the same in both keyboards, a fixed store has the elements of the statement, and a value is the
--- elements of its store
+-- a defined store is the same in both keyboards, a fixed store has the elements of the statement, and a value is the elements of its
+-- store
 pub record Linked (p : Program) (t : Tables) : Type 0 where
   pub same_content : (s : List ℕ) (values : List (List Element)) → is_store p s ≡ true →
       content (tab t).stores values (Numbered (number_of_store (numbers_of p) s)) ≡ content (src p).stores values (Named s)

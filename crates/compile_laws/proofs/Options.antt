@@ -36,7 +36,7 @@ use Rattle.compile_laws.proofs.Known.{KnownRule, KnownStatement, KnownGroup, gro
 use Rattle.compile_laws.proofs.Values.{values_known}
 use Rattle.compile_laws.proofs.PlacedItems.{first_place}
 
--- a number that there is, as a list
+-- an optional number that is present, as a list
 listed : (o : Option ℕ) → is_some o ≡ true → unwrap_or o 0 ∷ [] ≡ option_to_list o ++ []
 listed None h = absurd (false≢true h)
 listed (Some n) h = refl
@@ -62,7 +62,7 @@ nul-options [] = refl
 nul-options (out ∷ outs) = refl
 
 module _ (p : Program) where
-  -- the numbers of the stores of these names
+  -- the numbers of the stores with these names
   abbrev pub numbers : List (List ℕ) → List ℕ
   numbers names = flat_map (numbers_named (stores_of p)) names
 
@@ -110,7 +110,7 @@ module _ (p : Program) where
     twice true = refl
     twice false = refl
 
-    -- each record of a key has the rule's options
+    -- each record of a key uses the rule's options
     key-options : (using_keys : Bool) (r : RuleDef) → KnownRule p using_keys r → (place : Option ℕ) (k : RuleKey) (rest : List Rule) →
         (list_any q (numbers (rule_uses r)) || list_any q (flat_map rule_options rest)) ≡ list_any q (numbers (rule_uses r)) →
         list_any q (flat_map rule_options (key_records (numbers_of p) r place k ++ rest)) ≡ list_any q (numbers (rule_uses r))
@@ -201,7 +201,7 @@ module _ (p : Program) where
         ∙ (sym (list_any-append q (numbers (group_uses g)) (numbers (flat_map group_uses gs)))
         ∙ ap (list_any q) (sym (flat_map-append (numbers_named (stores_of p)) (group_uses g) (flat_map group_uses gs)))))
 
-  -- no option stands past the stores
+  -- there are no options past the stores
   named_within : (n : ℕ) (o : Option ℕ) → ((k : ℕ) → o ≡ Some k → k < n) → (m : ℕ) → n ≤ m → list_any (nat_eq m) (option_to_list o) ≡ false
   named_within n None below m past = refl
   named_within n (Some k) below m past =
@@ -235,7 +235,7 @@ ordered_zip (x ∷ xs) [] h = absurd (omega (arith, h.count))
 ordered_zip (x ∷ xs) (y ∷ ys) h =
     (h.each 0 x (omega arith), ordered_zip xs ys (record { count = omega (arith, h.count); each = λ k d less. h.each (suc k) d (omega arith) }))
 
--- a number is an option of the tables where it is one of the program
+-- a number is an option of the tables exactly where it is one of the program
 pub options-same : (p : Program) (t : Tables) → IsWellNamed p → Compiles p t → (q : ℕ → Bool) → list_any q (tab_options t) ≡ list_any q (src_options p)
 unfolding src_options tab_options
 options-same p t ok c q =

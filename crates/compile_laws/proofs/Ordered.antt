@@ -1,4 +1,4 @@
--- The tables that a program compiles to are in order, and there are no others.
+-- The tables that a program compiles to are in order, and there are no other such tables.
 use Rattle.std.proofs.Common.{◌*◌, ◌≡◌, ℕ, zero, suc, ◌+◌, ◌<◌, ◌≤◌, Bool, true, false, not, List, [], ◌∷◌, length, map, get_or, Option, Some, None, refl, ap, sym, ◌∙◌, arith, nat_eq, if◌then◌else◌, nat_cmp, ◌⊎◌, inl, inr}
 use Rattle.std.specs.Prelude.{All, Contains, filter, flat_map, unwrap_or, slice_index_or}
 use Rattle.std.specs.Cmp.{IsStrictWeakOrder}
@@ -37,7 +37,7 @@ use Rattle.compile_laws.proofs.Known.{plain_lines}
 use Rattle.compile_laws.proofs.Least.{Rising, among_cons, rising}
 use Rattle.compile_laws.proofs.Options.{ordered_zip}
 
--- one for each element that stands before this one
+-- 1 for an element that precedes this one, else 0
 abbrev before_it : {X : Type 0} → (X → X → Bool) → X → X → ℕ
 before_it lt z w = if lt w z then 1 else 0
 
@@ -49,7 +49,7 @@ none_before lt z (x ∷ xs) h =
     let one : before_it lt z x ≡ 0 = rw here refl in
     omega (arith, sum_by-cons (before_it lt z) x xs, one, rest)
 
--- the same elements, counted by whatever number
+-- lists with the same elements, by any count
 abbrev SameSums : {X : Type 0} → List X → List X → Type 0
 SameSums {X} xs ys = (f : X → ℕ) → sum_by f ys ≡ sum_by f xs
 
@@ -76,7 +76,7 @@ module _ {X : Type 0} (lt : X → X → Bool) (order : IsStrictWeakOrder lt) (P 
       let heads : f x ≡ f y = ap f e in
       omega (arith, a, b, heads, same f)
 
-  -- two lists that rise and have the same elements are the same, where elements can be told apart by the order
+  -- two rising lists with the same elements are the same, if the order distinguishes the elements
   pub same_rising : (xs ys : List X) → All P xs → All P ys → Rising lt xs → Rising lt ys → SameSums xs ys → ys ≡ xs
   same_rising [] [] h k up risen same = refl
   same_rising [] (y ∷ ys) h k up risen same =
@@ -114,11 +114,11 @@ keyed_lines : (numbers : Numbers) (r : RuleDef) (item : Option SrcItem) → All 
 keyed_lines numbers r (Some (source.Any store)) = store_lines numbers r 0 (elements_named numbers.stores store)
 keyed_lines numbers r item = key_lines numbers r None (own_key numbers item)
 
--- the records of a key store have their places
+-- the records of a key store have their positions
 abbrev IsFrom : ℕ → Rule → Type 0
 IsFrom n x = n ≤ x.place
 
--- of a key from twice its place on, up to the next place
+-- the records of a key have positions from twice its position on, up to the next one
 key_places : (numbers : Numbers) (r : RuleDef) (place : Option ℕ) (k : RuleKey) → All (λ (x : Rule). (2 * unwrap_or place 0 ≤ x.place) × (x.place < 2 * unwrap_or place 0 + 2)) (key_records numbers r place k)
 key_places numbers r place k =
     let P : Rule → Type 0 = λ x. (2 * unwrap_or place 0 ≤ x.place) × (x.place < 2 * unwrap_or place 0 + 2) in
@@ -148,7 +148,7 @@ one_apart x a b in_a in_b = by_cases (among_cons x [] a in_a) (among_cons x [] b
     by_cases (inr no_a) at_b = none_in a no_a
     by_cases (inl at_a) (inr no_b) = none_in b no_b
 
--- of two records with different places the one at a place
+-- of two records with different positions, the one at a position
 two_apart : (x y a b : Rule) → x.place < y.place → Contains (x ∷ y ∷ []) a → Contains (x ∷ y ∷ []) b → a.place ≡ b.place → a ≡ b
 two_apart x y a b less in_a in_b same = by_cases (among_cons x (y ∷ []) a in_a) (among_cons x (y ∷ []) b in_b)
   where
@@ -171,7 +171,7 @@ key_apart numbers r place k a b =
     (λ _. two_apart x y a b (omega arith))
     (λ _ in_a in_b same. one_apart z a b in_a in_b)
 
--- two records of a rule at one place are one
+-- two records of a rule at one position are the same
 store_apart : (numbers : Numbers) (r : RuleDef) (n : ℕ) (es : List Element) (a b : Rule) →
     Contains (records_from numbers r n es) a → Contains (records_from numbers r n es) b → a.place ≡ b.place → a ≡ b
 store_apart numbers r n [] a b in_a in_b same = none_in a in_a
@@ -201,7 +201,7 @@ keyed_apart : (numbers : Numbers) (r : RuleDef) (item : Option SrcItem) (a b : R
 keyed_apart numbers r (Some (source.Any store)) a b in_a in_b same = store_apart numbers r 0 (elements_named numbers.stores store) a b in_a in_b same
 keyed_apart numbers r item a b in_a in_b same = key_apart numbers r None (own_key numbers item) a b in_a in_b same
 
--- no record of other rules stands in a line that is none of theirs
+-- records of rules with other lines do not have this line
 abbrev OffLine : ℕ → Rule → Type 0
 OffLine line x = nat_eq x.line line ≡ false
 
@@ -213,7 +213,7 @@ other_lines numbers line (r ∷ rs) none =
     (All-weaker (AtLine r.line) (OffLine line) (λ x at. (λ i. nat_eq (at i) line) ∙ each.0) (rule_records numbers r) (keyed_lines numbers r r.key))
     (other_lines numbers line rs each.1)
 
--- two records of rules with lines of their own, with one line and one place, are one
+-- two records of rules with distinct lines, with the same line and the same position, are the same
 records_apart : (numbers : Numbers) (rs : List RuleDef) → have_own_lines rs ≡ true → (a b : Rule) →
     Contains (flat_map (rule_records numbers) rs) a → Contains (flat_map (rule_records numbers) rs) b → a.line ≡ b.line → a.place ≡ b.place → a ≡ b
 records_apart numbers [] own a b in_a in_b line place = none_in a in_a
@@ -240,7 +240,7 @@ records_apart numbers (r ∷ rs) own a b in_a in_b line place =
     by_cases rest none (inr there_a) (inl here_b) = apart a.line r.line (line ∙ here b here_b) (there none a there_a)
     by_cases rest none (inr there_a) (inr there_b) = rest there_a there_b
 
--- the first of a list, if any, doesn't stand before this one
+-- the first record of a list, if any, does not precede this one
 abbrev HeadBehind : Rule → List Rule → Type 0
 HeadBehind y [] = Unit {0}
 HeadBehind y (x ∷ xs) = stands_before x y ≡ false
@@ -301,7 +301,7 @@ pub in_order_sorted : (rs : List Rule) → IsSortedBy stands_before (in_order rs
 in_order_sorted [] = λ k d low less. absurd (omega (arith, less))
 in_order_sorted (r ∷ rs) = placed_sorted r (in_order rs) (in_order_sorted rs)
 
--- records that the order doesn't tell apart have one line and one place
+-- two records that the order does not distinguish have the same line and the same position
 keys_same : (la lb line_a line_b place_a place_b : ℕ) →
     is_lt (ordering_then (ordering_then (nat_cmp lb la) (nat_cmp line_a line_b)) (nat_cmp place_a place_b)) ≡ false →
     is_lt (ordering_then (ordering_then (nat_cmp la lb) (nat_cmp line_b line_a)) (nat_cmp place_b place_a)) ≡ false →
@@ -324,7 +324,7 @@ sorted_same numbers rs own table same sorted =
     (rising stands_before records_order table sorted)
     (λ f. sum_by-IsPermutation f records table same ∙ sym (sum_by-IsPermutation f records (in_order records) (in_order_permutes records)))
 
--- a group that a group compiles to is the one with its records in order
+-- a group that a group compiles to is the group with its records in order
 group_same : (p : Program) (g : GroupDef) (h : Group) → have_own_lines g.rules ≡ true → IsOrderedGroup (file_group (numbers_of p) g) h → h ≡ ordered_group (file_group (numbers_of p) g)
 group_same p g h own o =
     group_of_order p g h o

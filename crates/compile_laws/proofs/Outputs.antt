@@ -1,4 +1,4 @@
--- What an output of a program does is what the output that it compiles to does.
+-- An output of a program has the same effect as the output that it compiles to.
 use Rattle.std.proofs.Common.{◌≡◌, ℕ, ◌+◌, Bool, true, false, List, [], ◌∷◌, ◌++◌, length, map, Option, Some, None, refl, ap, sym, ◌∙◌, if◌then◌else◌}
 use Rattle.std.specs.Prelude.{nat_eq, nat_le, filter_map, flat_map}
 use Rattle.std.specs.List.{list_all}
@@ -29,11 +29,11 @@ use Rattle.compile_laws.specs.Compiles.{file_output, file_outputs, or_nul, eleme
 use Rattle.compile_laws.specs.WellNamed.{is_known_output, is_group, is_store, is_fixed}
 use Rattle.compile_laws.proofs.Linked.{Linked, is_value}
 
--- what a record of a key store catches is what the rule catches, but for the place in the key store
+-- a record of a key store catches what the rule catches, except the position in the key store
 abbrev pub lost : Caught → Caught
 lost c = record c { key_place = None }
 
--- a group is entered alike by its name and by its number
+-- entering a group by its name and by its number has the same effect
 abbrev pub SameEntry : Program → (Ref → EventState → EventState) → (Ref → EventState → EventState) → Type 0
 SameEntry p enter_named enter_numbered =
     (g : List ℕ) → is_group p g ≡ true → (s : EventState) → enter_numbered (Numbered (number_of_group (numbers_of p) g)) s ≡ enter_named (Named g) s
@@ -50,7 +50,7 @@ stopped-puts : (xs : List Item) (s : EventState) → s.stopped ≡ true → put_
 stopped-puts [] s h = refl
 stopped-puts (x ∷ xs) s h = ap (put_items xs) (stopped-put x s h) ∙ stopped-puts xs s h
 
--- a stopped event puts nothing
+-- a stopped event puts no items
 unless_stopped : (b : Bool) (xs : List Item) (s : EventState) → s.stopped ≡ b → put_items xs s ≡ (if b then s else put_items xs s)
 unless_stopped true xs s h = stopped-puts xs s h
 unless_stopped false xs s h = refl
@@ -86,7 +86,7 @@ nul-act stores kb enter c [] s = nothing_done s.stopped s
 nul-act stores kb enter c (out ∷ outs) s = refl
 
 module _ (p : Program) (t : Tables) (l : Linked p t) (e f : Ref → EventState → EventState) (same : SameEntry p e f) (c : Caught) (n : ℕ) (count : length c.catches ≡ n) where
-  -- `index` puts the element of the key's place, or acts as it does in the source
+  -- `index` puts the element of the key's position, or acts as in the source
   index-act : (store : List ℕ) (offset : ℕ) (b : Bool) → nat_eq offset (n + 1) ≡ b → (if b then is_fixed p store else is_store p store) ≡ true → (s : EventState) →
       act (tab t) f (lost c) (map (tab_output t.stores) (if b then element_outs_if_any (element_at (elements_named (stores_of p) store) c.key_place) else output.Index (number_of_store (numbers_of p) store) offset ∷ [])) s
       ≡ (if s.stopped then s else put_element (element_at (content_now (src p) s (Named store)) (place_for_index c offset)) s)
@@ -101,7 +101,7 @@ module _ (p : Program) (t : Tables) (l : Linked p t) (e f : Ref → EventState �
       (λ i. if there i then None else place_caught c.catches offset) ∙ sym (λ i. if there i then c.key_place else place_caught c.catches offset) in
       λ i. if s.stopped then s else put_element (element_at (l.same_content store s.current known i) (places i)) s
 
-  -- an item does what it compiles to does
+  -- an item has the same effect as the items that it compiles to
   pub one-same : (x : SrcItem) → is_known_output p n x ≡ true → list_all (is_value p) (item_values x) ≡ true → (s : EventState) →
       act (tab t) f (lost c) (map (tab_output t.stores) (file_output (numbers_of p) n c.key_place x)) s
       ≡ (if s.stopped then s else act_one (src p) e c (src_output (names_of p) x) s)

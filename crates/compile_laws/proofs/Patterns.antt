@@ -1,4 +1,4 @@
--- Contexts whose items stand to the text alike catch the same.
+-- Contexts whose items match the text in the same way catch the same.
 use Rattle.std.proofs.Common.{◌≡◌, ℕ, ◌+◌, ◌-◌, Bool, true, false, not, ◌&&◌, List, [], ◌∷◌, ◌++◌, length, Option, Some, None, refl, ap, sym, ◌∙◌, arith, is_some, if◌then◌else◌, cond}
 use Rattle.std.specs.Prelude.{drop, nat_eq, nat_le}
 use Rattle.std.specs.List.{list_all, list_any, AllZip}
@@ -27,7 +27,7 @@ use Rattle.compile_laws.specs.Compiles.{file_pattern}
 use Rattle.compile_laws.specs.WellNamed.{is_known_pattern}
 use Rattle.compile_laws.proofs.Linked.{Linked, is_value}
 
--- two patterns, each at its content, ask the same
+-- two patterns, each with its content, require the same
 pub record SamePattern (ca cb : Content) (a b : Pattern) : Type 0 where
   pub takes : takes_item a ≡ takes_item b
   pub fits : (seen : List Catch) (x : Item) → matches ca seen a x ≡ matches cb seen b x
@@ -78,7 +78,7 @@ catches-same ca cb (x ∷ xs) (y ∷ ys) h seen text =
     λ i c left. catches-same ca cb xs ys h.1 (seen ++ c ∷ []) left i in
     λ i. if h.0.takes i then catch_item-same ca cb x y h.0 seen _ _ rest text i else rest i nothing_caught text
 
--- what a context catches of a left list, where its conditions are true and it has room
+-- what a context catches of a left list, if its conditions are true and the list is long enough
 abbrev pub context_caught : Content → List Item → List Pattern → Option (List Catch)
 context_caught content left context =
     if list_all (is_true content) context && has_room context left
@@ -89,7 +89,7 @@ parts : (b : Bool) (catches : Option (List Catch)) (place : Option (Option ℕ))
 parts true catches place = refl
 parts false catches place = refl
 
--- a rule holds where its context is caught and its key fits
+-- a rule holds if its context is caught and its key fits
 pub holds-parts :
     (cased : List ℕ) (content : Content) (left : List Item) (press : KeyPress) (rule : RuleMeaning) →
     holds_with cased content left press rule ≡ caught_by (context_caught content left rule.context) (fitting_place_with cased content press rule.key)
@@ -114,7 +114,7 @@ picked : (b : Bool) (m : Option (List Catch)) (cs : List Catch) → (if b then m
 picked true m cs e = e
 picked false m cs e = absurd (none-some cs e)
 
--- what is caught next, where the rest is caught
+-- what is caught next, if the rest is caught
 Next : (Catch → List Item → Option (List Catch)) → List Catch → Type 0
 Next rest cs = (c : Catch) × (left : List Item) × (rest c left ≡ Some cs)
 

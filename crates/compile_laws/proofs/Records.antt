@@ -35,7 +35,7 @@ use Rattle.virtual_keys.proofs.NamePlaces.{position_cons}
 use Rattle.compile_laws.proofs.Patterns.{SameContext, pattern-same, context_caught, context_caught-same, holds-parts}
 use Rattle.compile_laws.proofs.Least.{FirstIfAny, Ascending, first_found}
 
--- the key at a place of a key store
+-- the key at a position of a key store
 abbrev pub key_or_any : Option Element → RuleKey
 key_or_any None = key.Any
 key_or_any (Some e) = unwrap_or (key_of_element e) key.Any
@@ -44,12 +44,12 @@ abbrev pub key_elements : Numbers → Option SrcItem → List Element
 key_elements numbers (Some (source.Any store)) = elements_named numbers.stores store
 key_elements numbers item = []
 
--- the key of a rule's record for a place
+-- the key of a rule's record for a position
 abbrev pub chosen_key : Numbers → Option SrcItem → Option ℕ → RuleKey
 chosen_key numbers item None = own_key numbers item
 chosen_key numbers item (Some place) = key_or_any (slice_get (key_elements numbers item) place)
 
--- which half of a key can go for a press, and its key
+-- the half of a key that can be selected for a press, and its key
 abbrev pub half_now : List ℕ → KeyPress → RuleKey → ℕ
 half_now cased press k = if has_halves cased k && has press.mods caps then 1 else 0
 
@@ -59,11 +59,11 @@ key_now cased press k = if has_halves cased k then half_key (half_now cased pres
 abbrev pub record_now : Numbers → KeyPress → RuleDef → Option ℕ → RuleKey → Rule
 record_now numbers press r place k = file_record numbers r place (half_now numbers.cased press k) (key_now numbers.cased press k)
 
--- the record of a rule that goes when the rule has caught this
+-- the record of a rule that is selected if the rule has caught this
 abbrev pub caught_record : Numbers → KeyPress → RuleDef → Caught → Rule
 caught_record numbers press r c = record_now numbers press r c.key_place (chosen_key numbers r.key c.key_place)
 
--- the record of this half, where there are two, or the only one
+-- the record of this half, if there are two, or the only record
 now_halves : (numbers : Numbers) (press : KeyPress) (r : RuleDef) (place : Option ℕ) (k : RuleKey) → has_halves numbers.cased k ≡ true →
     record_now numbers press r place k ≡ (if has press.mods caps then file_record numbers r place 1 (half_key 1 k) else file_record numbers r place 0 (half_key 0 k))
 now_halves numbers press r place k e =
@@ -79,7 +79,7 @@ now_alone : (numbers : Numbers) (press : KeyPress) (r : RuleDef) (place : Option
 now_alone numbers press r place k e =
     λ i. file_record numbers r place (if e i && has press.mods caps then 1 else 0) (if e i then half_key (if e i && has press.mods caps then 1 else 0) k else k)
 
--- which keys fit: of two halves the one of the press alone
+-- which keys fit: of two halves, only the half of the press
 halves_fit : (cased : List ℕ) (press : KeyPress) (k : RuleKey) → has_halves cased k ≡ true →
     (key_fits (half_key 0 k) press ≡ (not (has press.mods caps) && fits_cased cased k press)) × (key_fits (half_key 1 k) press ≡ (has press.mods caps && fits_cased cased k press))
 halves_fit cased press (key.Virtual flags code) e =
@@ -98,19 +98,19 @@ alone_fits (c ∷ cs) press (key.Virtual flags code) e = sym (fits_virtual (c �
 alone_fits (c ∷ cs) press key.Any e = refl
 alone_fits (c ∷ cs) press (key.Char d) e = refl
 
--- one key that fits, or none
+-- the position of one key that fits, or None
 abbrev pub one_place : Bool → Option (Option ℕ)
 one_place b = if b then Some None else None
 
 in_place : (length_of line n m : ℕ) → n < m → is_lt (ordering_then (ordering_then (nat_cmp length_of length_of) (nat_cmp line line)) (nat_cmp n m)) ≡ true
 in_place length_of line n m less = grind (arith, nat_tests)
 
--- two records of a rule stand in the order of their places
+-- two records of a rule are in the order of their positions
 placed : (numbers : Numbers) (r : RuleDef) (a b : Option ℕ) (h g : ℕ) (k l : RuleKey) → 2 * unwrap_or a 0 + h < 2 * unwrap_or b 0 + g →
     stands_before (file_record numbers r a h k) (file_record numbers r b g l) ≡ true
 placed numbers r a b h g k l less = in_place (length (map (file_pattern numbers) r.context)) r.line (2 * unwrap_or a 0 + h) (2 * unwrap_or b 0 + g) less
 
--- the records of a key store stand in order
+-- the records of a key store are in order
 behind_place : (numbers : Numbers) (r : RuleDef) (n h : ℕ) (k : RuleKey) (m : ℕ) (es : List Element) → 2 * n + h < 2 * m →
     All (λ y. stands_before (file_record numbers r (Some n) h k) y ≡ true) (records_from numbers r m es)
 behind_place numbers r n h k m [] less = All-nil (λ y. stands_before (file_record numbers r (Some n) h k) y ≡ true)
@@ -169,7 +169,7 @@ context-same p t l values (x ∷ xs) known valued =
     let v = and_parts (has_values p x) (list_all (has_values p) xs) valued in
     (pattern-same p t l values x k.0 v.0, context-same p t l values xs k.1 v.1)
 
--- one record passes where the context is caught and its key fits
+-- a record passes if the context is caught and its key fits
 one_passes : (f : Caught → Rule) (x : Rule) → ((catches : List Catch) → f (record { catches = catches; key_place = None }) ≡ x) →
     (k : Option (List Catch)) (b : Bool) → cond (is_some (caught_by k (one_place b))) (Some x) None ≡ option_map f (caught_by k (one_place b))
 one_passes f x e None b = refl
@@ -181,7 +181,7 @@ caught_if None b = refl
 caught_if (Some catches) true = refl
 caught_if (Some catches) false = refl
 
--- the first record of a key store that passes, or one of those behind
+-- the first record of a key store that passes, or one of those after it
 next_passes : (k : Option (List Catch)) (b : Bool) (place : Option ℕ) (h g : ℕ → Rule) (x : Rule) (rest : Option Rule) →
     h 0 ≡ x → ((n : ℕ) → h (suc n) ≡ g n) → rest ≡ option_map g (option_and_then (λ catches. place) k) →
     cond (is_some k && b) (Some x) rest ≡ option_map h (option_and_then (λ catches. cond b (Some 0) (option_map suc place)) k)
@@ -205,7 +205,7 @@ key_fits_at : (cased : List ℕ) (press : KeyPress) (o : Option RuleKey) → is_
 key_fits_at cased press None h = absurd (false≢true h)
 key_fits_at cased press (Some k) h = refl
 
--- what is found of two halves of which one can pass
+-- what is found for two halves, only one of which can pass
 halves_found : (k c f : Bool) (x y : Rule) (rest : Option Rule) → cond (k && (not c && f)) (Some x) (cond (k && (c && f)) (Some y) rest) ≡ cond (k && f) (Some (if c then y else x)) rest
 halves_found false c f x y rest = refl
 halves_found true true true x y rest = refl
@@ -217,9 +217,9 @@ all_keys : (es : List Element) → are_keys es ≡ true → list_all (λ e. is_s
 all_keys [] h = refl
 all_keys (e ∷ es) h = h
 
--- one rule at a moment
+-- one rule in a state
 module _ (p : Program) (t : Tables) (l : Linked p t) (values : List (List Element)) (left : List Item) (press : KeyPress) (using_keys : Bool) where
-  -- what a rule, and what a record, catches
+  -- what a rule catches, and what a record catches
   abbrev pub rule_caught : RuleDef → Option Caught
   rule_caught r = holds_with (cased_keys p) (content (src p).stores values) left press (src_rule (names_of p) r)
 
@@ -243,14 +243,14 @@ module _ (p : Program) (t : Tables) (l : Linked p t) (values : List (List Elemen
       (sym (context_caught-same (content (src p).stores values) (content (tab t).stores values) _ _ (context-same p t l values r.context known.context known.context_values) left) i)
       (one_place (key_fits (if using_keys then k else key.Any) press)))
 
-  -- a record of a key passes where the context is caught and the key fits
+  -- a record of a key passes if the context is caught and the key fits
   record_passes : (r : RuleDef) → KnownRule p using_keys r → using_keys ≡ true → (place : Option ℕ) (half : ℕ) (k : RuleKey) →
       passes (file_record (numbers_of p) r place half k) ≡ (is_some (context_of r) && key_fits k press)
   record_passes r known keyed place half k =
       ap is_some (record-parts r known place half k)
       ∙ ((λ i. is_some (caught_by (context_of r) (one_place (key_fits (if keyed i then k else key.Any) press)))) ∙ caught_if (context_of r) (key_fits k press))
 
-  -- of the records of a key the one of the press passes, where the key fits
+  -- of the records of a key, the one of the press passes if the key fits
   found_of_key : (r : RuleDef) → KnownRule p using_keys r → using_keys ≡ true → (place : Option ℕ) (k : RuleKey) (more : List Rule) →
       find passes (key_records (numbers_of p) r place k ++ more)
       ≡ cond (is_some (context_of r) && fits_cased (cased_keys p) k press) (Some (record_now (numbers_of p) press r place k)) (find passes more)
@@ -271,7 +271,7 @@ module _ (p : Program) (t : Tables) (l : Linked p t) (values : List (List Elemen
           λ i. cond ((record_passes r known keyed place 0 k ∙ ap (λ b. is_some (context_of r) && b) (alone_fits (cased_keys p) press k e)) i)
           (Some (sym (now_alone (numbers_of p) press r place k e) i)) (find passes more)
 
-  -- the record of a rule without a key passes where the context is caught
+  -- the record of a rule without a key passes if the context is caught
   bare_found : (r : RuleDef) → KnownRule p using_keys r → (wanted : RuleKey) → (if using_keys then key.Any else key.Any) ≡ wanted →
       find passes (file_record (numbers_of p) r None 0 key.Any ∷ [])
       ≡ option_map (λ c. record_now (numbers_of p) press r c.key_place (chosen_key (numbers_of p) None c.key_place)) (caught_by (context_of r) (one_place (key_fits wanted press)))

@@ -1,4 +1,4 @@
--- The stores of a program's tables are those of the program, and more that are no options.
+-- The stores of a program's tables are those of the program, and other stores that are not options.
 use Rattle.std.proofs.Common.{◌≡◌, ℕ, zero, suc, ◌+◌, ◌<◌, ◌≤◌, Bool, true, false, List, [], ◌∷◌, ◌++◌, length, map, not, ◌&&◌, Option, Some, None, refl, ap, sym, ◌∙◌, arith, is_some, if◌then◌else◌, cond, append-nil, append_assoc}
 use Rattle.std.specs.Prelude.{nat_eq, find, option_map, position, slice_get, unwrap_or}
 use Rattle.std.specs.List.{list_any, AllByRecursion}
@@ -45,7 +45,7 @@ with_options-append options n (x ∷ xs) ys =
     ap (λ rest. record { name = x.name; elements = x.elements; is_option = list_any (nat_eq n) options; is_system = false } ∷ rest)
     (with_options-append options (n + 1) xs ys ∙ ap (λ m. with_options options (n + 1) xs ++ with_options options m ys) e)
 
--- none of the stores is an option
+-- no store of a list is an option
 abbrev NoOptions : List StoreMeaning → Type 0
 NoOptions = AllByRecursion (λ (store : StoreMeaning). store.is_option ≡ false)
 
@@ -53,7 +53,7 @@ no_options : (options : List ℕ) (n : ℕ) → ((m : ℕ) → n ≤ m → list_
 no_options options n none [] = tt
 no_options options n none (x ∷ xs) = (none n (omega arith), no_options options (n + 1) (λ m past. none m (omega arith)) xs)
 
--- two lists with the same stores and the system options behind them, in the second after more that are no options
+-- two lists of the same stores followed by the system options; the second also contains stores that are not options
 record More (a b : List StoreMeaning) : Type 0 where
   own : List StoreMeaning
   more : List StoreMeaning
@@ -121,7 +121,7 @@ first_state-same p t ok c =
       saved = map none_saved (e i);
     }
 
--- a name in a rule means a store that is no system option
+-- a name in a rule refers to a store that is not a system option
 abbrev pub is_called : List ℕ → StoreMeaning → Bool
 is_called name store = not store.is_system && same_name store.name name
 
@@ -143,7 +143,7 @@ here_or_there : (b : Bool) (x : StoreMeaning) (xs : List StoreMeaning) (o : Opti
 here_or_there true x xs o y found e h = e
 here_or_there false x xs o y found e h = one_further x xs o ∙ h
 
--- a name finds the same where system options stand behind the stores
+-- a name finds the same store if system options follow the stores
 position-none : {X : Type 0} (p : X → Bool) (xs : List X) → list_any p xs ≡ false → position p xs ≡ None
 position-none p [] h = refl
 position-none p (x ∷ xs) h =
@@ -158,7 +158,7 @@ behind_none p none (x ∷ xs) =
 named_behind : (name : List ℕ) (xs : List StoreMeaning) → store_number (xs ++ system_options) (Named name) ≡ store_number xs (Named name)
 named_behind name xs = behind_none (is_called name) refl xs
 
--- the elements of a named store are those of the first that has the name
+-- the elements of a named store are those of the first store with the name
 elements-named : (name : List ℕ) (options : List ℕ) (n : ℕ) (xs : List Store) →
     elements_at (with_options options n xs) (store_number (with_options options n xs) (Named name)) ≡ elements_named xs name
 elements-named name options n [] = refl
@@ -169,7 +169,7 @@ elements-named name options n (x ∷ xs) =
     ∙ here_or_there (same_name x.name name) x' rest (position (is_called name) rest) x
     (find (λ (store : Store). same_name store.name name) xs) refl (elements-named name options (n + 1) xs)
 
--- a store that is no option has its elements
+-- a store that is not an option has its elements
 only_elements : (b : Bool) (k : ℕ) (value elements : List Element) → is_some {T = ℕ} (if b then Some k else None) ≡ false → (if b then value else elements) ≡ elements
 only_elements true k value elements h = absurd (true≢false h)
 only_elements false k value elements h = refl
@@ -237,7 +237,7 @@ module _ (p : Program) (t : Tables) (ok : IsWellNamed p) (c : Compiles p t) (s :
       ∙ (elements_at-append m.own (m.more ++ system_options) at_s.0 s_within
       ∙ (sym (elements_at-append m.own system_options at_s.0 s_within) ∙ (λ i. elements_at (sym m.first i) (sym s_named i))))
 
--- elements of a place that is found are those with more behind
+-- the elements at a found position do not change if stores follow
 elements_before : (xs ys : List StoreMeaning) (p : StoreMeaning → Bool) (o : Option ℕ) → position p xs ≡ o → elements_at (xs ++ ys) o ≡ elements_at xs o
 elements_before xs ys p None e = refl
 elements_before xs ys p (Some n) e = elements_at-append xs ys n (first_place p xs n e).within

@@ -1,4 +1,4 @@
--- Keyboards whose events do the same have the same traces.
+-- If the events of two keyboards have the same effects, their traces are the same.
 use Rattle.std.proofs.Common.{◌≡◌, ℕ, List, [], ◌∷◌, refl}
 use Rattle.kmn_base.specs.declared.events.Event.{Event}
 use Rattle.rule_model.specs.Keyboard.{Keyboard}

@@ -1,4 +1,4 @@
--- Each value of an item is one of the program's.
+-- Each value of an item is one of the program's values.
 use Rattle.std.proofs.Common.{◌≡◌, ℕ, Bool, true, false, ◌&&◌, ◌||◌, List, [], ◌∷◌, ◌++◌, refl, ap, sym, ◌∙◌, if◌then◌else◌}
 use Rattle.std.specs.Prelude.{flat_map}
 use Rattle.std.specs.List.{list_all, list_any}
@@ -19,7 +19,7 @@ pub list_all-flat_map : {X Y : Type 0} (q : Y → Bool) (f : X → List Y) (xs :
 list_all-flat_map q f [] = refl
 list_all-flat_map q f (x ∷ xs) = list_all-append q (f x) (flat_map f xs) ∙ ap (λ b. list_all q (f x) && b) (list_all-flat_map q f xs)
 
--- what is seen stays
+-- seen elements are kept
 kept : {X : Type 0} (same : X → X → Bool) (q : X → Bool) (seen xs : List X) → list_any q seen ≡ true → list_any q (distinct_onto same seen xs) ≡ true
 kept same q seen [] h = h
 kept same q seen (x ∷ xs) h = kept same q _ xs (go (list_any (λ y. same y x) seen))
@@ -28,7 +28,7 @@ kept same q seen (x ∷ xs) h = kept same q _ xs (go (list_any (λ y. same y x) 
     go true = h
     go false = list_any-append q seen (x ∷ []) ∙ or_left (list_any q seen) (list_any q (x ∷ [])) h
 
--- of a list whose items are the same as themselves each is the same as a distinct one
+-- if each item of a list is the same as itself, each is the same as one of the distinct items
 among_distinct : {X : Type 0} (same : X → X → Bool) → ((x : X) → same x x ≡ true) → (seen xs : List X) → list_all (λ x. list_any (λ y. same y x) (distinct_onto same seen xs)) xs ≡ true
 among_distinct same itself seen [] = refl
 among_distinct same itself seen (x ∷ xs) = and_from _ _ (kept same (λ y. same y x) _ xs (go (list_any (λ y. same y x) seen) refl)) (among_distinct same itself _ xs)

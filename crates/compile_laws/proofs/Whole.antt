@@ -1,4 +1,4 @@
--- The law: the tables that a well-named program compiles to take its steps.
+-- The law: the tables that a well-named program compiles to take the same steps as the program.
 use Rattle.std.proofs.Common.{◌≡◌, ℕ, true, Option, Some, None, refl, ap, sym, ◌∙◌}
 use Rattle.std.specs.Prelude.{find}
 use Rattle.std.proofs.lemmas.Bool.{false≢true}

@@ -1,4 +1,4 @@
--- Which tables a program compiles to.
+-- The tables that a program compiles to.
 use Rattle.std.specs.Prelude.{◌≡◌, ℕ, ◌+◌, ◌*◌, ◌<◌, Bool, false, not, nat_eq, if◌then◌else◌, List, [], ◌∷◌, ◌++◌, length, map, flat_map, filter, find, Option, Some, None, unwrap_or, slice_index_or}
 use Rattle.std.specs.List.Sorted.{IsPermutation, IsSortedBy}
 use Rattle.std.specs.Ordering.{is_lt, ordering_then, nat_cmp}
@@ -26,7 +26,7 @@ use Rattle.rule_model.specs.Naming.{mark_number, key_number, elements_named}
 use Rattle.rule_model.specs.Src.{is_plain, is_on_match, is_on_nomatch, is_unicode}
 use Rattle.compile_laws.specs.Numbers.{Numbers, numbers_of, number_of_store, number_of_group, number_of_value, number_of_start, version_of, compiled_stores}
 
--- a context item of a file; one that may not stand in a context is a `nul`
+-- a context item of a file; an item that is not allowed in a context is a `nul`
 abbrev pub file_pattern : Numbers → SrcItem → Pat
 file_pattern numbers (source.Char c) = pattern.Char c
 file_pattern numbers (source.Dead name) = pattern.Mark (mark_number numbers.names name)
@@ -40,19 +40,19 @@ file_pattern numbers (source.SystemEqual id value) = pattern.SystemEqual id (num
 file_pattern numbers (source.SystemUnequal id value) = pattern.SystemUnequal id (number_of_value numbers value)
 file_pattern numbers item = pattern.Nul
 
--- an element as an output; a virtual key comes to nothing
+-- an element as an output; a virtual key has no output
 abbrev pub element_outs : Element → List Out
 element_outs (element.Char c) = output.Char c ∷ []
 element_outs (element.Mark m) = output.Mark m ∷ []
 element_outs (element.Key flags code) = []
 
--- an element that there may be, as an output
+-- an optional element as an output
 abbrev pub element_outs_if_any : Option Element → List Out
 element_outs_if_any None = []
 element_outs_if_any (Some e) = element_outs e
 
--- an output item of a rule with so many context items and, where it has a key store, the key at this place of it:
--- `outs` becomes the elements of its store, and `index` at the key's place the element of its store at that place
+-- an output item of a rule with `count` context items and, if it has a key store, with the key at this position of the store: `outs`
+-- becomes the elements of its store, and `index` at the key's offset becomes the element of its store at this position
 abbrev pub file_output : Numbers → ℕ → Option ℕ → SrcItem → List Out
 file_output numbers count place (source.Char c) = output.Char c ∷ []
 file_output numbers count place (source.Dead name) = output.Mark (mark_number numbers.names name) ∷ []
@@ -72,7 +72,7 @@ file_output numbers count place source.Beep = output.Beep ∷ []
 file_output numbers count place source.Stop = output.Stop ∷ []
 file_output numbers count place item = output.Nul ∷ []
 
--- an output that comes to nothing is a `nul`
+-- an output without items is a `nul`
 abbrev pub or_nul : List Out → List Out
 or_nul [] = output.Nul ∷ []
 or_nul (out ∷ outs) = out ∷ outs
@@ -86,12 +86,12 @@ abbrev pub has_halves : List ℕ → RuleKey → Bool
 has_halves cased (key.Virtual flags code) = is_exchanged cased flags code
 has_halves cased wanted = false
 
--- the key of one of the two
+-- the key of one of the two records
 abbrev pub half_key : ℕ → RuleKey → RuleKey
 half_key half (key.Virtual flags code) = key.Virtual (half_flags half flags) code
 half_key half wanted = wanted
 
--- the record of a rule with this key and, where it has a key store, the place of the key in it, and of two halves this one
+-- the record of a rule with this key, with the position of the key in a key store, if there is one, and with one of two halves
 abbrev pub file_record : Numbers → RuleDef → Option ℕ → ℕ → RuleKey → Rule
 file_record numbers rule place half wanted =
     record {
@@ -102,20 +102,20 @@ file_record numbers rule place half wanted =
       output = file_outputs numbers (length rule.context) place rule.output;
     }
 
--- the records of a rule for a key: one, or two halves
+-- the records of a rule for a key: one record, or two halves
 abbrev pub key_records : Numbers → RuleDef → Option ℕ → RuleKey → List Rule
 key_records numbers rule place wanted =
     if has_halves numbers.cased wanted
     then file_record numbers rule place 0 (half_key 0 wanted) ∷ file_record numbers rule place 1 (half_key 1 wanted) ∷ []
     else file_record numbers rule place 0 wanted ∷ []
 
--- the records for each element of a key store, which stand from this place on; a key store that is checked has no mark
+-- the records for each element of a key store from this position on; a key store that was checked contains no mark
 abbrev pub records_from : Numbers → RuleDef → ℕ → List Element → List Rule
 records_from numbers rule place [] = []
 records_from numbers rule place (e ∷ elements) =
     key_records numbers rule (Some place) (unwrap_or (key_of_element e) key.Any) ++ records_from numbers rule (place + 1) elements
 
--- the key of a rule that has no key store; a rule of a group without keys has none
+-- the key of a rule without a key store; a rule of a group without keys has no key
 abbrev pub own_key : Numbers → Option SrcItem → RuleKey
 own_key numbers (Some (source.Char c)) = key.Char c
 own_key numbers (Some (source.Key k)) = key.Virtual k.flags (key_number numbers.names k)
@@ -130,7 +130,7 @@ keyed_records numbers rule item = key_records numbers rule None (own_key numbers
 abbrev pub rule_records : Numbers → RuleDef → List Rule
 rule_records numbers rule = keyed_records numbers rule rule.key
 
--- the output of a match or nomatch statement, empty where there is none
+-- the output of a match or nomatch statement, which is empty if there is none
 abbrev pub statement_outputs : Numbers → Option RuleDef → List Out
 statement_outputs numbers None = []
 statement_outputs numbers (Some rule) = file_outputs numbers 0 None rule.output
@@ -146,13 +146,13 @@ file_group numbers group =
       on_nomatch = statement_outputs numbers (find is_on_nomatch group.rules);
     }
 
--- a record stands before another: its context is longer; or as long, and its line earlier; or its line the same, and
--- its place earlier: that of its key in the key store, and of a cased key's two records
+-- a record precedes another: its context is longer; or the contexts are equally long and its line is earlier; or the lines are equal and
+-- its position is earlier, which is the key's position in the key store and the order of a cased key's two records
 abbrev pub stands_before : Rule → Rule → Bool
 stands_before a b =
     is_lt (ordering_then (ordering_then (nat_cmp (length b.context) (length a.context)) (nat_cmp a.line b.line)) (nat_cmp a.place b.place))
 
--- a group has the records of another group, each once and in order, and is else the same
+-- a group has each record of another group once and in order, and is the same in all other fields
 pub record IsOrderedGroup (expanded ordered : Group) : Type 0 where
   pub name : ordered.name ≡ expanded.name
   pub using_keys : ordered.using_keys ≡ expanded.using_keys
@@ -161,7 +161,7 @@ pub record IsOrderedGroup (expanded ordered : Group) : Type 0 where
   pub on_match : ordered.on_match ≡ expanded.on_match
   pub on_nomatch : ordered.on_nomatch ≡ expanded.on_nomatch
 
--- of two lists of groups each one of the second has the records of that of the first in order
+-- each group of the second list has the records of the group at the same position of the first list in order
 pub record AreOrderedGroups (expanded ordered : List Group) : Type 0 where
   pub count : length ordered ≡ length expanded
   pub each : (k : ℕ) (group : Group) → k < length expanded → IsOrderedGroup (slice_index_or expanded k group) (slice_index_or ordered k group)
@@ -170,7 +170,7 @@ pub record AreOrderedGroups (expanded ordered : List Group) : Type 0 where
 abbrev pub is_ansi : BeginDef → Bool
 is_ansi start = not start.unicode
 
--- the tables are those of a program: its version, start groups and stores, and its groups with their records in order
+-- the tables of a program: its version, start groups and stores, and its groups with their records in order
 pub record Compiles (program : Program) (tables : Tables) : Type 0 where
   pub version : tables.version ≡ version_of program
   pub start_ansi : tables.start_ansi ≡ number_of_start (numbers_of program) (find is_ansi program.begins)

@@ -15,24 +15,23 @@ use Rattle.rule_model.specs.Trace.{trace}
 use Rattle.rule_model.specs.Transcript.{transcript}
 use Rattle.rule_model.specs.declared.script.Entry.{Entry}
 
--- the tables that a well-named program compiles to begin in the same state as the program and take the same steps,
--- whatever the events
+-- the tables that a well-named program compiles to begin in the same state as the program and take the same steps for all events
 abbrev pub MeaningIsKept : Type 0
 MeaningIsKept =
     (program : Program) (tables : Tables) → IsWellNamed program → Compiles program tables →
     (events : List Event) → trace (src program) events ≡ trace (tab tables) events
 
--- and print the same of a script
+-- these tables print the same lines for a script as the program
 abbrev pub TranscriptIsKept : Type 0
 TranscriptIsKept =
     (program : Program) (tables : Tables) → IsWellNamed program → Compiles program tables →
     (entries : List Entry) → transcript (src program) entries ≡ transcript (tab tables) entries
 
--- each rule of a group has a line of its own
+-- each rule of a group has its own line
 abbrev pub HasOwnLines : Program → Type 0
 HasOwnLines program = list_all (λ (group : GroupDef). have_own_lines group.rules) program.groups ≡ true
 
--- where rules have lines of their own there are no other tables that a program compiles to
+-- if rules have distinct lines, a program compiles to only one list of tables
 abbrev pub TablesAreOnlyOnes : Type 0
 TablesAreOnlyOnes = (program : Program) (tables : Tables) → HasOwnLines program → Compiles program tables → tables ≡ compiled_tables program
 

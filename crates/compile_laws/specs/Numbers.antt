@@ -1,4 +1,4 @@
--- The numbers that a program's stores, groups and values have in its compiled file, and the stores added there.
+-- The numbers of a program's stores, groups and values in its compiled keyboard, and the stores that are added to it.
 use Rattle.std.specs.Prelude.{ℕ, ◌+◌, Bool, nat_eq, List, [], ◌∷◌, ◌++◌, length, map, flat_map, find, position, Option, Some, None, option_map, unwrap_or}
 use Rattle.std.specs.List.{join_with_byte}
 use Rattle.std.specs.Str.{bytes_eq, chars}
@@ -28,25 +28,25 @@ item_values (source.SystemUnequal id value) = value ∷ []
 item_values (source.SetSystem id value) = value ∷ []
 item_values item = []
 
--- the values of a program, each once, by first appearance
+-- the distinct values of a program, by first appearance
 unfoldable pub values_of : Program → List (List ℕ)
 values_of program = distinct_onto bytes_eq [] (flat_map item_values (flat_map rule_items (all_rules program)))
 
--- the store that a file has for a value
+-- the store of a value in a file
 abbrev pub value_store : List ℕ → Store
 value_store value = record { system = 0; name = []; elements = value_elements value }
 
--- the store of the key dictionary, where there is a name: the names, parted by spaces
+-- the store of the key dictionary, if there are names: the names, separated by spaces
 abbrev pub dictionary_stores : List (List ℕ) → List Store
 dictionary_stores [] = []
 dictionary_stores (name ∷ names) = record { system = KEY_DICTIONARY; name = []; elements = map element.Char (chars (join_with_byte 32 (name ∷ names))) } ∷ []
 
--- the stores of a compiled file: those of the statements, the key dictionary, and one for each value
+-- the stores of a compiled keyboard: the stores of the statements, the key dictionary, and one store for each value
 abbrev pub compiled_stores : Program → List Store
 compiled_stores program = stores_of program ++ (dictionary_stores (names_of program).keys ++ map value_store (values_of program))
 
--- what a program's numbers are found by: its names, stores, groups and values, and the number of the first value store; and
--- the codes of its cased keys
+-- what a program's numbers are computed from: its names, stores, groups and values, the number of the first value store, and the codes
+-- of its cased keys
 pub record Numbers : Type 0 where
   pub names : SourceNames
   pub stores : List Store
@@ -55,7 +55,7 @@ pub record Numbers : Type 0 where
   pub first_value : ℕ
   pub cased : List ℕ
 
--- the numbers of a program: behind the stores of the statements stands the key dictionary, if any, and then the values
+-- the numbers of a program: the stores of the statements are followed by the key dictionary, if any, and then by the values
 abbrev pub numbers_of : Program → Numbers
 numbers_of program =
     record {
@@ -67,7 +67,7 @@ numbers_of program =
       cased = cased_keys program;
     }
 
--- the number of a store in the file: the place of the first that has the name
+-- the number of a store in the file: the index of the first store with the name
 abbrev pub number_of_store : Numbers → List ℕ → ℕ
 number_of_store numbers name = unwrap_or (position (λ (store : Store). same_name store.name name) numbers.stores) 0
 
@@ -79,7 +79,7 @@ number_of_group numbers name = unwrap_or (position (λ known. same_name known na
 abbrev pub number_of_value : Numbers → List ℕ → ℕ
 number_of_value numbers value = numbers.first_value + unwrap_or (position (λ known. bytes_eq known value) numbers.values) 0
 
--- the version that a store of `&version` states, or that of a program that states none
+-- the version that a store of `&version` states, or the version of a program without one
 abbrev pub stated_version : Option Store → ℕ
 stated_version None = OWN_VERSION
 stated_version (Some store) =
@@ -89,11 +89,11 @@ stated_version (Some store) =
 abbrev pub is_version : Store → Bool
 is_version store = nat_eq store.system VERSION
 
--- the version of the file: what the first `&version` states
+-- the version of the file: the one that the first `&version` states
 abbrev pub version_of : Program → ℕ
 version_of program = stated_version (find is_version (stores_of program))
 
--- the number of the start group that a statement names, or what a file has for none
+-- the number of the start group that a statement names, or the number for no group
 abbrev pub number_of_start : Numbers → Option BeginDef → ℕ
 number_of_start numbers None = NO_GROUP
 number_of_start numbers (Some start) = number_of_group numbers start.group

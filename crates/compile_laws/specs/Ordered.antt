@@ -8,7 +8,7 @@ use Rattle.rule_model.specs.Src.{is_unicode}
 use Rattle.compile_laws.specs.Numbers.{numbers_of, number_of_start, version_of, compiled_stores}
 use Rattle.compile_laws.specs.Compiles.{file_group, stands_before, is_ansi}
 
--- a record among records in order: behind all that stand before it
+-- inserts a record into sorted records, after all records that precede it
 abbrev pub placed : Rule → List Rule → List Rule
 placed record_now [] = record_now ∷ []
 placed record_now (other ∷ others) = if stands_before other record_now then other ∷ placed record_now others else record_now ∷ other ∷ others

@@ -1,4 +1,4 @@
--- What the meaning of a compiled program rests on: what its items name is stated, and its keys can be told apart.
+-- The conditions for keeping the meaning of a program: the names in its items are defined, and its keys can be distinguished.
 use Rattle.std.specs.Prelude.{◌≡◌, ℕ, ◌+◌, Bool, true, false, not, ◌&&◌, ◌||◌, nat_eq, if◌then◌else◌, List, [], ◌∷◌, length, find, Option, Some, None, is_some, position}
 use Rattle.std.specs.List.{list_all, list_any}
 use Rattle.std.specs.Str.{is_utf8}
@@ -19,11 +19,11 @@ use Rattle.rule_model.specs.Naming.{names_of, stores_of, elements_named}
 use Rattle.rule_model.specs.Tab.{with_options, is_dictionary}
 use Rattle.rule_model.specs.Src.{src_options, is_plain, is_unicode}
 
--- a store of this name is stated
+-- whether a store with this name is defined
 abbrev pub is_store : Program → List ℕ → Bool
 is_store program name = is_some (position (λ (store : Store). same_name store.name name) (stores_of program))
 
--- a group of this name is stated
+-- whether a group with this name is defined
 abbrev pub is_group : Program → List ℕ → Bool
 is_group program name = is_some (position (λ (group : GroupDef). same_name group.name name) program.groups)
 
@@ -31,11 +31,11 @@ is_group program name = is_some (position (λ (group : GroupDef). same_name grou
 abbrev pub stated_stores : Program → List StoreMeaning
 stated_stores program = with_options (src_options program) 0 (stores_of program)
 
--- no option store has this name
+-- whether no option store has this name
 abbrev pub is_fixed : Program → List ℕ → Bool
 is_fixed program name = not (is_some (option_number (stated_stores program) (Named name)))
 
--- the stores that a context item names are stated
+-- whether the stores that a context item names are defined
 abbrev pub is_known_pattern : Program → SrcItem → Bool
 is_known_pattern program (source.Any store) = is_store program store
 is_known_pattern program (source.NotAny store) = is_store program store
@@ -44,7 +44,8 @@ is_known_pattern program (source.Equal store value) = is_store program store
 is_known_pattern program (source.Unequal store value) = is_store program store
 is_known_pattern program item = true
 
--- what an output item names is stated; `index` at the key's place, one behind so many context items, names no option
+-- whether the names in an output item are defined; `index` at the key's offset, which is one after the `count` context items, does not
+-- name an option
 abbrev pub is_known_output : Program → ℕ → SrcItem → Bool
 is_known_output program count (source.Index store offset) =
     if nat_eq offset (count + 1) then is_fixed program store else is_store program store
@@ -54,40 +55,40 @@ is_known_output program count (source.Save store) = is_store program store
 is_known_output program count (source.Reset store) = is_store program store
 is_known_output program count item = true
 
--- there are elements, and each of them can be a key
+-- whether there are elements, and each of them can be a key
 abbrev pub are_keys : List Element → Bool
 are_keys [] = false
 are_keys (e ∷ elements) = list_all (λ e. is_some (key_of_element e)) (e ∷ elements)
 
--- a rule has a key only in a group with keys; a key store is no option, and its elements can be keys
+-- whether a rule has a key only in a group with keys, a key store is not an option, and its elements can be keys
 abbrev pub is_known_key : Program → Bool → Option SrcItem → Bool
 is_known_key program using_keys None = true
 is_known_key program using_keys (Some (source.Any store)) =
     using_keys && (is_fixed program store && are_keys (elements_named (stores_of program) store))
 is_known_key program using_keys (Some item) = using_keys
 
--- what the items of a rule name is stated, and a match or nomatch statement has no context
+-- whether the names in the items of a rule are defined, and a match or nomatch statement has no context
 abbrev pub is_known_rule : Program → Bool → RuleDef → Bool
 is_known_rule program using_keys rule =
     (is_plain rule || nat_eq (length rule.context) 0)
     && (list_all (is_known_pattern program) rule.context
     && (is_known_key program using_keys rule.key && list_all (is_known_output program (length rule.context)) rule.output))
 
--- the rules of a group have lines of their own, and what they name is stated
+-- whether the rules of a group have distinct lines, and the names in them are defined
 abbrev pub is_known_group : Program → GroupDef → Bool
 is_known_group program group = have_own_lines group.rules && list_all (is_known_rule program group.using_keys) group.rules
 
--- a name that can stand among others which spaces part
+-- whether a name can be one of several names separated by spaces
 abbrev pub is_word : List ℕ → Bool
 is_word name = not (nat_eq (length name) 0) && (not (list_any (nat_eq 32) name) && is_utf8 name)
 
--- there is a start statement, and its group is stated
+-- whether there is a start statement, and its group is defined
 abbrev pub is_known_start : Program → Option BeginDef → Bool
 is_known_start program None = false
 is_known_start program (Some start) = is_group program start.group
 
--- a program whose tables keep its meaning: it has a Unicode start group, what its rules name is stated, the names of
--- its key dictionary are words, and no store of a statement is a key dictionary
+-- a program whose tables keep its meaning: it has a Unicode start group, the names in its rules are defined, the names of its key
+-- dictionary are words, and no store of a statement is a key dictionary
 pub record IsWellNamed (program : Program) : Type 0 where
   pub start : is_known_start program (find is_unicode program.begins) ≡ true
   pub groups : list_all (is_known_group program) program.groups ≡ true

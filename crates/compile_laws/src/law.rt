@@ -1,17 +1,17 @@
 ghost use Rattle.compile_laws.specs.Law.{MeaningIsKept, TablesAreOnlyOnes, ProgramCompiles, TranscriptIsKept};
 
-/// Whatever events come, the compiled tables of a well-named program take the same steps as its source.
+/// For all events, the compiled tables of a well-named program take the same steps as its source.
 pub fn compiling_keeps_meaning()
     ensures { MeaningIsKept }
 {}
 
-/// What is printed of a script is the same, too.
+/// They also print the same lines for a script.
 #[tactic(auto, using(crate::proofs::Whole::transcript_kept))]
 pub fn compiling_keeps_transcripts()
     ensures { TranscriptIsKept }
 {}
 
-/// A program whose rules have lines of their own compiles to one list of tables, which `compiled_tables` gives.
+/// A program whose rules have distinct lines compiles to one list of tables, which is `compiled_tables`.
 #[tactic(auto, using(crate::proofs::Ordered::tables_are_only_ones, crate::proofs::Ordered::program_compiles))]
 pub fn program_has_its_tables()
     ensures only { TablesAreOnlyOnes }

@@ -3,7 +3,7 @@ use Rattle.std.specs.Prelude.{◌≡◌}
 use Rattle.rule_model.specs.declared.tables.Tables.{Tables}
 use Rattle.compile_laws.specs.Compiles.{AreOrderedGroups}
 
--- tables have the records of each group of other tables, each once and in order, and are else the same
+-- tables have each record of the groups of other tables once and in order, and are the same in all other parts
 pub record IsOrdered (expanded ordered : Tables) : Type 0 where
   pub version : ordered.version ≡ expanded.version
   pub start_ansi : ordered.start_ansi ≡ expanded.start_ansi

@@ -1,7 +1,7 @@
-//! The records of compiled tables in order.
+//! Sorts the records of compiled tables.
 //!
-//! It stands on `kmn_base`, `rule_model` and, for the order, on `kmx_format`. `specs/Order` says what tables in order
-//! are. The layer above calls `order`, which takes no memory and refuses nothing.
+//! Depends on `rule_model` for tables and on `compile_laws` for the order of records. `specs/Order` defines tables in order.
+//! The layer above calls `order`, which does not allocate and cannot fail.
 #![tactic(auto)]
 
 mod ordering;

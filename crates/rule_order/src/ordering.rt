@@ -1,5 +1,5 @@
-//! The order of records: the longer context first, then the earlier line, then the smaller place: that of the key in a key
-//! store and, of the two records of a cased key, that of the half.
+//! The order of records: the longer context first, then the earlier line, then the smaller position, which is the key's
+//! position in a key store and the order of the two records of a cased key.
 
 ghost use Rattle.std.specs.List.Sorted.{IsPermutation, IsSortedBy};
 ghost use Rattle.compile_laws.specs.Compiles.{stands_before, IsOrderedGroup, AreOrderedGroups};
@@ -8,7 +8,7 @@ ghost use Rattle.rule_order.specs.Order.{IsOrdered};
 use rule_model::{Group, Rule, Tables};
 use std::cmp::Reverse;
 
-/// Puts records in order.
+/// Sorts records.
 fn order_records(records: &mut [Rule])
     ensures records { IsPermutation records.old records.new }
     ensures in_order { IsSortedBy stands_before records.new }
@@ -18,14 +18,14 @@ fn order_records(records: &mut [Rule])
     });
 }
 
-/// Puts the records of a group in order.
+/// Sorts the records of a group.
 fn order_group(group: &mut Group)
     ensures { IsOrderedGroup group.old group.new }
 {
     order_records(group.rules.as_mut_slice());
 }
 
-/// Puts the records of each group in order.
+/// Sorts the records of each group.
 fn order_groups(groups: &mut [Group])
     ensures { AreOrderedGroups groups.old groups.new }
 {
@@ -34,8 +34,8 @@ fn order_groups(groups: &mut [Group])
     }
 }
 
-/// Puts the records of each group in order: by falling length of the context, then by rising line, then by rising place.
-/// Version, start groups and stores stay.
+/// Sorts the records of each group: by falling length of the context, then by rising line, then by rising position. Version,
+/// start groups and stores are unchanged.
 pub fn order(tables: &mut Tables)
     ensures { IsOrdered tables.old tables.new }
 {
