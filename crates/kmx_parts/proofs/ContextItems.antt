@@ -1,4 +1,4 @@
--- Items of a context that are read of a string are the patterns that are read of it.
+-- The items of a context that are read from a string are the patterns that are read from it.
 use Rattle.std.proofs.Common.{◌≡◌, List, [], ◌∷◌, map, refl, ap, ◌∙◌}
 use Rattle.std.specs.Prelude.{Option, Some, None, option_map}
 use Rattle.std.specs.List.{cons_option, filter_map}
@@ -22,7 +22,7 @@ pattern_again (pattern.SystemEqual id value) = refl
 pattern_again (pattern.SystemUnequal id value) = refl
 pattern_again pattern.Nul = refl
 
--- so is one that is read
+-- the same for an item that is read
 pub pattern_read : (unit : UnitItem) → option_map pattern_of (item_of_unit_item unit) ≡ pattern_of_unit_item unit
 pattern_read unit = read (pattern_of_unit_item unit) where
   read : (p : Option Pat) → option_map pattern_of (option_map item_of p) ≡ p

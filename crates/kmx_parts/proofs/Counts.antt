@@ -1,4 +1,4 @@
--- A string spells no more parts than it has bytes.
+-- A string spells at most as many parts as it has bytes.
 use Rattle.std.proofs.Common.{ℕ, zero, suc, ◌+◌, ◌-◌, ◌≤◌, List, [], ◌∷◌, length, arith}
 use Rattle.std.specs.Prelude.{Option, Some, None, Result, Ok, Err}
 use Rattle.std.specs.List.{filter_map}

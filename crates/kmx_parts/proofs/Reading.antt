@@ -1,4 +1,4 @@
--- Records that stand one after the other, by number; units that are read again.
+-- Records that follow one another, by number; units that are read again.
 use Rattle.std.proofs.Common.{◌≡◌, ℕ, zero, suc, ◌+◌, ◌-◌, ◌*◌, ◌<◌, ◌≤◌, Bool, List, [], ◌∷◌, length, refl, sym, ap, ◌∙◌, append-nil, arith}
 use Rattle.std.specs.Prelude.{Some, None, slice_get}
 use Rattle.std.proofs.lemmas.Option.{slice_get_past}
@@ -11,7 +11,7 @@ use Rattle.kmx_format.specs.TablesOf.{store_at, stores_from, rule_at, rules_from
 pub units_again : (units : List ℕ) → whole_units (unit_bytes units) ≡ units
 units_again units = ap whole_units (sym (append-nil (unit_bytes units))) ∙ whole_units-unit_bytes units [] ∙ append-nil units
 
--- records of one size that stand one after the other
+-- records of one size that follow one another
 module _ {X : Type 0} (record_at : ℕ → X) (size : ℕ) (records_from : ℕ → ℕ → List X)
     (none : (place : ℕ) → records_from place zero ≡ [])
     (more : (place count : ℕ) → records_from place (suc count) ≡ record_at place ∷ records_from (place + size) count) where
@@ -41,7 +41,7 @@ module _ {X : Type 0} (record_at : ℕ → X) (size : ℕ) (records_from : ℕ �
   record_past : (place count i : ℕ) → count ≤ i → None ≡ slice_get (records_from place count) i
   record_past place count i past = sym (slice_get_past (records_from place count) i (omega (arith, record_count place count)))
 
--- so many stores are there, each at its place, and no other
+-- there are exactly `count` stores, each at its position
 pub store_count : (bytes : List ℕ) (place count : ℕ) → count ≡ length (stores_from bytes place count)
 store_count bytes = record_count (store_at bytes) STORE_BYTES (stores_from bytes) (λ _. refl) (λ _ _. refl)
 
@@ -51,7 +51,7 @@ store_there bytes = record_there (store_at bytes) STORE_BYTES (stores_from bytes
 pub store_past : (bytes : List ℕ) (place count i : ℕ) → count ≤ i → None ≡ slice_get (stores_from bytes place count) i
 store_past bytes = record_past (store_at bytes) STORE_BYTES (stores_from bytes) (λ _. refl) (λ _ _. refl)
 
--- the same of groups
+-- the same for groups
 pub group_count : (bytes : List ℕ) (place count : ℕ) → count ≡ length (groups_from bytes place count)
 group_count bytes = record_count (group_at bytes) GROUP_BYTES (groups_from bytes) (λ _. refl) (λ _ _. refl)
 
@@ -61,7 +61,7 @@ group_there bytes = record_there (group_at bytes) GROUP_BYTES (groups_from bytes
 pub group_past : (bytes : List ℕ) (place count i : ℕ) → count ≤ i → None ≡ slice_get (groups_from bytes place count) i
 group_past bytes = record_past (group_at bytes) GROUP_BYTES (groups_from bytes) (λ _. refl) (λ _ _. refl)
 
--- the same of the key records of a group
+-- the same for the key records of a group
 pub rule_count : (bytes : List ℕ) (using_keys : Bool) (place count : ℕ) → count ≡ length (rules_from bytes using_keys place count)
 rule_count bytes using_keys = record_count (rule_at bytes using_keys) RULE_BYTES (rules_from bytes using_keys) (λ _. refl) (λ _ _. refl)
 

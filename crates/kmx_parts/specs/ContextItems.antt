@@ -1,4 +1,4 @@
--- The items of a context in the numbers of a file, and the patterns that they are.
+-- The items of a context with the numbers of a file, and the patterns that they represent.
 use Rattle.std.specs.Prelude.{Option, option_map}
 use Rattle.kmn_base.specs.declared.units.UnitItem.{UnitItem}
 use Rattle.rule_model.specs.declared.tables.Pat.{Pat}
@@ -7,7 +7,7 @@ use Rattle.kmx_format.specs.TablesOf.{pattern_of_unit_item}
 use Rattle.kmx_parts.specs.declared.context_item.ContextItem.{ContextItem}
 use Rattle.kmx_parts.specs.declared.context_item.ContextItem.TheVariants as item
 
--- the pattern that an item is
+-- the pattern of an item
 abbrev pub pattern_of : ContextItem → Pat
 pattern_of (item.Char c) = pattern.Char c
 pattern_of (item.Mark m) = pattern.Mark m
@@ -21,7 +21,7 @@ pattern_of (item.SystemEqual id value) = pattern.SystemEqual id value
 pattern_of (item.SystemUnequal id value) = pattern.SystemUnequal id value
 pattern_of item.Nul = pattern.Nul
 
--- the item that a pattern is
+-- the item of a pattern
 abbrev pub item_of : Pat → ContextItem
 item_of (pattern.Char c) = item.Char c
 item_of (pattern.Mark m) = item.Mark m
@@ -35,6 +35,6 @@ item_of (pattern.SystemEqual id value) = item.SystemEqual id value
 item_of (pattern.SystemUnequal id value) = item.SystemUnequal id value
 item_of pattern.Nul = item.Nul
 
--- the item that is spelled so
+-- the context item of a unit item
 abbrev pub item_of_unit_item : UnitItem → Option ContextItem
 item_of_unit_item unit = option_map item_of (pattern_of_unit_item unit)

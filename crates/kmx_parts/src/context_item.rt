@@ -5,8 +5,8 @@ ghost use Rattle.kmx_parts.specs.ContextItems.{pattern_of};
 
 use rule_model::Pat;
 
-/// An item of a compiled context in the numbers of sixteen bits that a file has, so that it takes eight bytes. Stores count
-/// from 0, offsets from 1.
+/// An item of a compiled context with the numbers of 16 bits that a file has, so that it needs eight bytes. Stores count from
+/// 0, offsets from 1.
 #[derive(Clone, Copy, PartialEq, Eq)]
 pub enum ContextItem {
     Char(char),
@@ -26,7 +26,7 @@ pub enum ContextItem {
 }
 
 impl ContextItem {
-    /// The pattern that the item is.
+    /// Returns the pattern of the item.
     pub fn pattern(self) -> Pat
         ensures { result ≡ pattern_of self }
     {
@@ -51,7 +51,7 @@ impl ContextItem {
         }
     }
 
-    /// Whether the item looks at an item of the text, whatever the stores are.
+    /// Returns whether the item matches an item of the text, whatever the stores are.
     #[inline(always)]
     pub fn takes_item(self) -> bool
         ensures { result ≡ takes_item (tab_pattern [] (pattern_of self)) }

@@ -15,7 +15,7 @@ use kmx_format::sizes::{GROUP_BYTES, STORE_BYTES};
 use kmx_view::{half_at, word_at};
 use std::marker::Model;
 
-/// The tables of a file, read where they lie. Contracts see them as the tables that the bytes have.
+/// The tables of a file, read in place. Contracts model it as the tables of the bytes.
 #[derive(Drop)]
 pub struct FileTables<'a> {
     bytes: &'a [u8],
@@ -35,7 +35,7 @@ impl<'a> Model for FileTables<'a> {
 }
 
 impl<'a> FileTables<'a> {
-    /// The tables that bytes have.
+    /// Creates the tables of bytes.
     pub fn of(bytes: &'a [u8]) -> FileTables<'a>
         requires { length bytes.now ≤ FILE_BYTES }
         ensures { result ≡ tables_of bytes.now }
@@ -43,14 +43,14 @@ impl<'a> FileTables<'a> {
         FileTables { bytes }
     }
 
-    /// The same tables once more.
+    /// Returns a copy, which reads the same bytes.
     pub fn copy(&self) -> FileTables<'a>
         ensures { result ≡ self.now }
     {
         FileTables { bytes: self.bytes }
     }
 
-    /// The version of the file's format.
+    /// Returns the version of the file's format.
     #[tactic(auto, unfolding(kmx_format::specs::TablesOf::tables_of))]
     pub fn version(&self) -> u16
         ensures { result ≡ self.now.version }
@@ -58,7 +58,7 @@ impl<'a> FileTables<'a> {
         half_at(self.bytes, VERSION_AT)
     }
 
-    /// The group in which a press begins.
+    /// Returns the number of the group in which a press begins.
     #[tactic(auto, unfolding(kmx_format::specs::TablesOf::tables_of))]
     pub fn start_unicode(&self) -> u32
         ensures { result ≡ self.now.start_unicode }
@@ -66,7 +66,7 @@ impl<'a> FileTables<'a> {
         word_at(self.bytes, START_UNICODE_AT)
     }
 
-    /// The group in which a press begins where a system knows no Unicode, or `NO_GROUP`.
+    /// Returns the number of the group in which a press begins on a system without Unicode, or `NO_GROUP`.
     #[tactic(auto, unfolding(kmx_format::specs::TablesOf::tables_of))]
     pub fn start_ansi(&self) -> u32
         ensures { result ≡ self.now.start_ansi }
@@ -74,7 +74,7 @@ impl<'a> FileTables<'a> {
         word_at(self.bytes, START_ANSI_AT)
     }
 
-    /// How many stores there are.
+    /// Returns the number of stores.
     #[tactic(auto, using(crate::proofs::Reading::store_count), unfolding(kmx_format::specs::TablesOf::tables_of))]
     pub fn store_count(&self) -> u32
         ensures { result ≡ length self.now.stores }
@@ -82,7 +82,7 @@ impl<'a> FileTables<'a> {
         word_at(self.bytes, STORE_COUNT_AT)
     }
 
-    /// How many groups there are.
+    /// Returns the number of groups.
     #[tactic(auto, using(crate::proofs::Reading::group_count), unfolding(kmx_format::specs::TablesOf::tables_of))]
     pub fn group_count(&self) -> u32
         ensures { result ≡ length self.now.groups }
@@ -90,7 +90,7 @@ impl<'a> FileTables<'a> {
         word_at(self.bytes, GROUP_COUNT_AT)
     }
 
-    /// The stores, in their order.
+    /// Iterates over the stores in order.
     #[tactic(auto, unfolding(kmx_format::specs::TablesOf::tables_of))]
     pub fn stores(&self) -> Stores<'a>
         ensures { result ≡ self.now.stores }
@@ -102,7 +102,7 @@ impl<'a> FileTables<'a> {
         )
     }
 
-    /// The groups, in their order.
+    /// Iterates over the groups in order.
     #[tactic(auto, unfolding(kmx_format::specs::TablesOf::tables_of))]
     pub fn groups(&self) -> Groups<'a>
         ensures { result ≡ self.now.groups }
@@ -114,7 +114,7 @@ impl<'a> FileTables<'a> {
         )
     }
 
-    /// The store of a number, from 0.
+    /// Returns the store with a number, from 0.
     #[tactic(auto, using(crate::proofs::Reading::store_there, crate::proofs::Reading::store_past), unfolding(kmx_format::specs::TablesOf::tables_of))]
     pub fn store(&self, i: u32) -> Option<FileStore<'a>>
         ensures { result ≡ slice_get self.now.stores i }
@@ -126,7 +126,7 @@ impl<'a> FileTables<'a> {
         Some(FileStore::at(self.bytes, place))
     }
 
-    /// The group of a number, from 0.
+    /// Returns the group with a number, from 0.
     #[tactic(auto, using(crate::proofs::Reading::group_there, crate::proofs::Reading::group_past), unfolding(kmx_format::specs::TablesOf::tables_of))]
     pub fn group(&self, i: u32) -> Option<FileGroup<'a>>
         ensures { result ≡ slice_get self.now.groups i }

@@ -17,7 +17,7 @@ use kmx_view::word_at;
 use std::alloc::Global;
 use std::marker::Model;
 
-/// A group of a file, read where its record stands.
+/// A group of a file, read in place from its record.
 #[derive(Drop)]
 pub struct FileGroup<'a> {
     bytes: &'a [u8],
@@ -38,7 +38,7 @@ impl<'a> Model for FileGroup<'a> {
 }
 
 impl<'a> FileGroup<'a> {
-    /// The group whose record stands at a place.
+    /// Returns the group whose record is at a position.
     pub(crate) fn at(bytes: &'a [u8], place: usize) -> FileGroup<'a>
         requires fits { length bytes.now ≤ FILE_BYTES }
         requires place { place < 2 ^ 62 }
@@ -47,21 +47,21 @@ impl<'a> FileGroup<'a> {
         FileGroup { bytes, place }
     }
 
-    /// The name, in UTF-8.
+    /// Returns the name, in UTF-8. Errors: `Memory` if an allocation fails.
     pub fn name(&self, alloc: Global) -> Result<Text, Memory>
         ensures { IfOk result (λ name. name ≡ self.now.name) }
     {
         name_at(alloc, self.bytes, word_at(self.bytes, self.place))
     }
 
-    /// Whether its rules have keys.
+    /// Returns whether its rules have keys.
     pub fn using_keys(&self) -> bool
         ensures { result ≡ self.now.using_keys }
     {
         word_at(self.bytes, self.place + GROUP_USING_KEYS_AT) != 0
     }
 
-    /// How many key records it has.
+    /// Returns the number of its key records.
     #[tactic(auto, using(crate::proofs::Reading::rule_count))]
     pub fn rule_count(&self) -> u32
         ensures { result ≡ length self.now.rules }
@@ -69,7 +69,7 @@ impl<'a> FileGroup<'a> {
         word_at(self.bytes, self.place + GROUP_RULE_COUNT_AT)
     }
 
-    /// The key records, in their order.
+    /// Iterates over the key records in order.
     pub fn rules(&self) -> Rules<'a>
         ensures { result ≡ self.now.rules }
     {
@@ -83,7 +83,7 @@ impl<'a> FileGroup<'a> {
         )
     }
 
-    /// The key record of a number, from 0.
+    /// Returns the key record with a number, from 0.
     #[tactic(auto, using(crate::proofs::Reading::rule_there, crate::proofs::Reading::rule_past))]
     pub fn rule(&self, i: u32) -> Option<FileRule<'a>>
         ensures { result ≡ slice_get self.now.rules i }
@@ -97,7 +97,7 @@ impl<'a> FileGroup<'a> {
         Some(FileRule::at(self.bytes, using_keys, place))
     }
 
-    /// What is put behind a rule that matched, empty where there is nothing.
+    /// Iterates over the output after a rule matched, which is empty if there is none.
     pub fn on_match(&self) -> Outputs<'a>
         ensures value { result ≡ self.now.on_match }
         ensures few { length result ≤ FILE_BYTES }
@@ -105,7 +105,7 @@ impl<'a> FileGroup<'a> {
         Outputs::at(self.bytes, word_at(self.bytes, self.place + GROUP_MATCH_AT))
     }
 
-    /// What is put where no rule matched, empty where there is nothing.
+    /// Iterates over the output if no rule matched, which is empty if there is none.
     pub fn on_nomatch(&self) -> Outputs<'a>
         ensures value { result ≡ self.now.on_nomatch }
         ensures few { length result ≤ FILE_BYTES }

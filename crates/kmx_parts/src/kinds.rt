@@ -1,4 +1,4 @@
-//! What an item of a string is as an element of a store, in a context and in an output.
+//! The items of a string as elements of a store, as context items and as output items.
 
 ghost use Rattle.std.specs.Prelude.{◌≡◌, ◌-◌, option_map};
 ghost use Rattle.kmx_format.specs.TablesOf.{comparison_of, system_comparison_of};
@@ -16,19 +16,19 @@ pub trait StringPart: Drop {
 
     ghost of_unit_item: { UnitItem → Option Self };
 
-    /// The part that is spelled so; None where the item may not stand in such a string.
+    /// Returns the part that an item spells, and None if the item is not allowed in such a string.
     fn of_unit_item(item: UnitItem) -> Option<Self>
         ensures { result ≡ of_unit_item item };
 }
 
-/// A number of a store, a group or a system option from 0, which a file counts from 1.
+/// Returns a number of a store, a group or a system option counted from 0. A file counts them from 1.
 fn from_zero(number: u16) -> u16
     ensures { result ≡ number - 1 }
 {
     number.saturating_sub(1)
 }
 
-/// The same number as tables have it.
+/// Returns the same number as in tables.
 fn table_number(number: u16) -> u32
     ensures { result ≡ number - 1 }
 {

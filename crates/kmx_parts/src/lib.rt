@@ -1,11 +1,11 @@
-//! The tables of a compiled file, read where they lie: each part is found by its place in the bytes, and a string is
-//! walked item by item. Nothing is copied, and only a name takes memory.
+//! Reads the tables of a compiled keyboard in place, without copying: only a name allocates.
 //!
-//! It stands on `kmx_view`, which reads numbers and strings by place, on `kmx_format`, whose `tables_of` says which tables bytes
-//! have, and on `item_codec`, which walks the items of a string. The layer above makes `FileTables` of bytes, which
-//! contracts see as their tables, and asks them for stores, groups and key records: each is the one that the tables have
-//! there. What a string spells comes as an iterator, which contracts see as the list of what is left. An item of a context
-//! comes as the `Pat` that tables have, or as a `ContextItem`, which is the same in the numbers of a file.
+//! Depends on `kmn_base` and `rule_model` for the types; `kmx_view`, which reads numbers and strings by position; `kmx_format`,
+//! whose `tables_of` defines the tables of bytes; and `item_codec`, which iterates over the items of a string. The layer above
+//! creates `FileTables` from bytes. Contracts model it as the tables of the bytes, and its stores, groups and key records are
+//! those of these tables. Each part is found by its position in the bytes. A string is read by an iterator, which contracts
+//! model as the list of its remaining parts. An item of a context is a `Pat` as in tables, or a `ContextItem`, which is the
+//! same with the numbers of a file.
 #![tactic(auto)]
 
 mod context_item;

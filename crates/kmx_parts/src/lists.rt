@@ -10,7 +10,8 @@ use crate::stores::FileStore;
 use kmx_format::sizes::{GROUP_BYTES, RULE_BYTES, STORE_BYTES};
 use std::marker::Model;
 
-/// The stores whose records stand from a place on. Contracts see it as the list of what is left.
+/// An iterator over the stores whose records follow one another from a position on. Contracts model it as the list of the
+/// remaining stores.
 #[derive(Drop)]
 pub struct Stores<'a> {
     bytes: &'a [u8],
@@ -33,7 +34,7 @@ impl<'a> Model for Stores<'a> {
 }
 
 impl<'a> Stores<'a> {
-    /// So many stores whose records stand from a place on.
+    /// Iterates over `count` stores whose records follow one another from a position on.
     pub(crate) fn at(bytes: &'a [u8], place: u32, count: u32) -> Stores<'a>
         requires { length bytes.now ≤ FILE_BYTES }
         ensures { result ≡ stores_from bytes.now place count }
@@ -67,7 +68,8 @@ impl<'a> Iterator for Stores<'a> {
     }
 }
 
-/// The groups whose records stand from a place on. Contracts see it as the list of what is left.
+/// An iterator over the groups whose records follow one another from a position on. Contracts model it as the list of the
+/// remaining groups.
 #[derive(Drop)]
 pub struct Groups<'a> {
     bytes: &'a [u8],
@@ -90,7 +92,7 @@ impl<'a> Model for Groups<'a> {
 }
 
 impl<'a> Groups<'a> {
-    /// So many groups whose records stand from a place on.
+    /// Iterates over `count` groups whose records follow one another from a position on.
     pub(crate) fn at(bytes: &'a [u8], place: u32, count: u32) -> Groups<'a>
         requires { length bytes.now ≤ FILE_BYTES }
         ensures { result ≡ groups_from bytes.now place count }
@@ -124,7 +126,7 @@ impl<'a> Iterator for Groups<'a> {
     }
 }
 
-/// The key records that stand from a place on. Contracts see it as the list of what is left.
+/// An iterator over the key records that follow one another from a position on. Contracts model it as the list of the remaining records.
 #[derive(Drop)]
 pub struct Rules<'a> {
     bytes: &'a [u8],
@@ -148,7 +150,7 @@ impl<'a> Model for Rules<'a> {
 }
 
 impl<'a> Rules<'a> {
-    /// So many key records from a place on, of a group that uses keys or doesn't.
+    /// Iterates over `count` key records from a position on, of a group that uses keys or does not.
     pub(crate) fn at(bytes: &'a [u8], using_keys: bool, place: u32, count: u32) -> Rules<'a>
         requires { length bytes.now ≤ FILE_BYTES }
         ensures { result ≡ rules_from bytes.now using_keys place count }

@@ -8,7 +8,7 @@ use kmn_base::{Memory, Seq, Text};
 use kmx_view::string_bytes;
 use std::alloc::Global;
 
-/// The whole units of bytes.
+/// Returns the whole units of bytes. Errors: `Memory` if an allocation fails.
 fn units_of(alloc: Global, bytes: &[u8]) -> Result<Vec<u16>, Memory>
     ensures { IfOk result (λ units. units.items ≡ whole_units bytes.now) }
 {
@@ -21,7 +21,7 @@ fn units_of(alloc: Global, bytes: &[u8]) -> Result<Vec<u16>, Memory>
     Ok(units)
 }
 
-/// The name at an offset, in UTF-8.
+/// Returns the name at an offset, in UTF-8. Errors: `Memory` if an allocation fails.
 #[tactic(auto, using(crate::proofs::Reading::units_again), unfolding(kmx_format::specs::TablesOf::name_at))]
 pub(crate) fn name_at(alloc: Global, bytes: &[u8], offset: u32) -> Result<Text, Memory>
     ensures { IfOk result (λ name. name ≡ name_at bytes.now offset) }

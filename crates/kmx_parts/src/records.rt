@@ -11,7 +11,7 @@ use kmx_format::places::{RULE_CONTEXT_AT, RULE_FLAGS_AT, RULE_LINE_AT, RULE_OUTP
 use kmx_view::{half_at, word_at};
 use std::marker::Model;
 
-/// A key record of a file, read where it stands.
+/// A key record of a file, read in place.
 #[derive(Drop)]
 pub struct FileRule<'a> {
     bytes: &'a [u8],
@@ -45,7 +45,7 @@ fn key_of(using_keys: bool, code: u16, flags: u32) -> RuleKey
 }
 
 impl<'a> FileRule<'a> {
-    /// The key record at a place, of a group that uses keys or doesn't.
+    /// Returns the key record at a position, of a group that uses keys or does not.
     pub(crate) fn at(bytes: &'a [u8], using_keys: bool, place: usize) -> FileRule<'a>
         requires fits { length bytes.now ≤ FILE_BYTES }
         requires place { place < 2 ^ 62 }
@@ -58,7 +58,7 @@ impl<'a> FileRule<'a> {
         }
     }
 
-    /// The key.
+    /// Returns the key.
     pub fn key(&self) -> RuleKey
         ensures { result ≡ self.now.key }
     {
@@ -70,23 +70,23 @@ impl<'a> FileRule<'a> {
         )
     }
 
-    /// The line of the source, 0 where the file has none.
+    /// Returns the line of the source, or 0 if the file has none.
     pub fn line(&self) -> u32
         ensures { result ≡ self.now.line }
     {
         word_at(self.bytes, self.place + RULE_LINE_AT)
     }
 
-    /// The place that tells records of one line apart: 0, since no file keeps it.
+    /// Returns the position that distinguishes records of one line: 0, since a file does not contain it.
     pub fn source_place(&self) -> u32
         ensures { result ≡ self.now.place }
     {
-        // A proof sees which record this is only where a field of it is used.
+        // A proof knows which record this is only if a field of it is used.
         let _ = &self.place;
         0
     }
 
-    /// The context.
+    /// Iterates over the context.
     pub fn context(&self) -> Patterns<'a>
         ensures value { result ≡ self.now.context }
         ensures few { length result ≤ FILE_BYTES }
@@ -97,7 +97,7 @@ impl<'a> FileRule<'a> {
         )
     }
 
-    /// The context in the numbers of the file.
+    /// Iterates over the context with the numbers of the file.
     #[tactic(auto, using(crate::proofs::ContextItems::patterns_of_items))]
     pub fn context_items(&self) -> ContextItems<'a>
         ensures { map pattern_of result ≡ self.now.context }
@@ -108,7 +108,7 @@ impl<'a> FileRule<'a> {
         )
     }
 
-    /// The output.
+    /// Iterates over the output.
     pub fn output(&self) -> Outputs<'a>
         ensures value { result ≡ self.now.output }
         ensures few { length result ≤ FILE_BYTES }

@@ -12,7 +12,7 @@ use kmx_view::word_at;
 use std::alloc::Global;
 use std::marker::Model;
 
-/// A store of a file, read where its record stands.
+/// A store of a file, read in place from its record.
 #[derive(Drop)]
 pub struct FileStore<'a> {
     bytes: &'a [u8],
@@ -33,7 +33,7 @@ impl<'a> Model for FileStore<'a> {
 }
 
 impl<'a> FileStore<'a> {
-    /// The store whose record stands at a place.
+    /// Returns the store whose record is at a position.
     pub(crate) fn at(bytes: &'a [u8], place: usize) -> FileStore<'a>
         requires fits { length bytes.now ≤ FILE_BYTES }
         requires place { place < 2 ^ 62 }
@@ -42,14 +42,14 @@ impl<'a> FileStore<'a> {
         FileStore { bytes, place }
     }
 
-    /// The system id, 0 for an ordinary store.
+    /// Returns the system id, or 0 for an ordinary store.
     pub fn system(&self) -> u32
         ensures { result ≡ self.now.system }
     {
         word_at(self.bytes, self.place)
     }
 
-    /// The name, in UTF-8.
+    /// Returns the name, in UTF-8. Errors: `Memory` if an allocation fails.
     pub fn name(&self, alloc: Global) -> Result<Text, Memory>
         ensures { IfOk result (λ name. name ≡ self.now.name) }
     {
@@ -60,7 +60,7 @@ impl<'a> FileStore<'a> {
         )
     }
 
-    /// The elements.
+    /// Iterates over the elements.
     pub fn elements(&self) -> Elements<'a>
         ensures value { result ≡ self.now.elements }
         ensures few { length result ≤ FILE_BYTES }

@@ -13,8 +13,8 @@ use kmx_view::string_bytes;
 use rule_model::{Out, Pat};
 use std::marker::{Model, PhantomData};
 
-/// The parts that a string spells, read in place up to the first place at which no item stands, without those that may
-/// not stand there. Contracts see it as the list of what is left.
+/// An iterator over the parts that a string spells. It reads them in place up to the first position at which no item is
+/// spelled, and skips items that are not allowed there. Contracts model it as the list of the remaining parts.
 #[derive(Drop)]
 pub struct StringParts<'a, T: StringPart> {
     items: Items<'a>,
@@ -25,7 +25,7 @@ pub struct StringParts<'a, T: StringPart> {
 pub type Elements<'a> = StringParts<'a, Element>;
 /// The items of a context.
 pub type Patterns<'a> = StringParts<'a, Pat>;
-/// The items of a context in the numbers of the file.
+/// The items of a context with the numbers of the file.
 pub type ContextItems<'a> = StringParts<'a, ContextItem>;
 /// The items of an output.
 pub type Outputs<'a> = StringParts<'a, Out>;
@@ -41,7 +41,7 @@ impl<'a, T: StringPart> Model for StringParts<'a, T> {
 }
 
 impl<'a, T: StringPart> StringParts<'a, T> {
-    /// No parts.
+    /// Creates an iterator without parts.
     #[tactic(auto, unfolding(item_codec::specs::Walk::results_of))]
     pub fn none() -> StringParts<'a, T>
         ensures { result ≡ [] }
@@ -52,7 +52,7 @@ impl<'a, T: StringPart> StringParts<'a, T> {
         }
     }
 
-    /// The parts that the string at an offset spells.
+    /// Iterates over the parts that the string at an offset spells.
     #[tactic(auto, using(crate::proofs::Counts::few_parts), unfolding(kmx_format::specs::TablesOf::items_of))]
     pub(crate) fn at(bytes: &'a [u8], offset: u32) -> StringParts<'a, T>
         requires { length bytes.now ≤ FILE_BYTES }

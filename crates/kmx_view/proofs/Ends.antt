@@ -1,4 +1,4 @@
--- A string is ended in the file exactly where its units and two bytes more fit.
+-- A string ends in the file exactly where its units and two more bytes fit.
 use Rattle.std.proofs.Common.{◌≡◌, ◌≢◌, ne_eqb, ℕ, suc, ◌+◌, ◌*◌, ◌-◌, ◌<◌, ◌≤◌, Bool, true, false, List, [], ◌∷◌, length, drop, refl, sym, ◌∙◌, ap, arith, length-drop}
 use Rattle.std.specs.Prelude.{nat_eq, nat_le, ◌||◌, if◌then◌else◌}
 use Rattle.kmn_base.specs.Spelling.{unit_bytes, whole_units}
@@ -6,7 +6,7 @@ use Rattle.kmx_format.specs.TablesOf.{before_zero, string_at}
 use Rattle.kmx_format.proofs.FileSize.{length-unit_bytes}
 use Rattle.kmx_view.specs.View.{has_zero, is_ended}
 
--- one unit more in front
+-- another unit at the front
 unit_more : (b : Bool) (unit : ℕ) (units : List ℕ) (size : ℕ) → has_zero units ≡ nat_le (2 * length (before_zero units) + 2) size
     → (b || has_zero units) ≡ nat_le (2 * length (if b then [] else unit ∷ before_zero units) + 2) (suc (suc size))
 unit_more true unit units size h = grind arith

@@ -1,4 +1,4 @@
--- Passing over a string up to its zero unit, as a loop does.
+-- Reading a string up to its zero unit, as a loop does.
 use Rattle.std.proofs.Common.{◌≡◌, ℕ, ◌+◌, ◌-◌, ◌*◌, ◌<◌, ◌≤◌, false, List, [], ◌∷◌, ◌++◌, length, take, drop, sym, ap, subst, ◌∙◌, append_assoc, arith}
 use Rattle.std.specs.Prelude.{nat_eq, slice_index}
 use Rattle.std.proofs.lemmas.Bool.{cond-false}
@@ -7,13 +7,13 @@ use Rattle.kmn_base.specs.Spelling.{unit_bytes, whole_units}
 use Rattle.kmn_base.proofs.UnitBytes.{unit_bytes_joined}
 use Rattle.kmx_format.specs.TablesOf.{before_zero}
 
--- the bytes before the rest are units of a string that goes on in the rest
+-- the bytes before the rest are units of a string that continues in the rest
 pub record Passed (bytes rest : List ℕ) : Type 0 where
   pub front : List ℕ
   pub parts : bytes ≡ front ++ rest
   pub units : unit_bytes (before_zero (whole_units bytes)) ≡ front ++ unit_bytes (before_zero (whole_units rest))
 
--- one unit more was passed
+-- another unit was read
 pub unit_passed : (bytes : List ℕ) (low high : ℕ) (rest : List ℕ) → low < 256 → nat_eq (low + 256 * high) 0 ≡ false
     → Passed bytes (low ∷ high ∷ rest) → Passed bytes rest
 unit_passed bytes low high rest byte some h =
@@ -27,7 +27,7 @@ unit_passed bytes low high rest byte some h =
           ∙ sym (append_assoc h.front (low ∷ high ∷ []) (unit_bytes (before_zero (whole_units rest))));
     }
 
--- the same, with the unit read at the front of the rest
+-- the same, with the unit read from the beginning of the rest
 pub front_passed : (bytes rest : List ℕ) (unit : ℕ) → slice_index rest 0 < 256 → 2 ≤ length rest
     → unit ≡ slice_index rest 0 + 256 * slice_index rest 1 → nat_eq unit 0 ≡ false
     → Passed bytes rest → Passed bytes (take (length rest - 2) (drop 2 rest))

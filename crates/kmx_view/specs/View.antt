@@ -1,4 +1,4 @@
--- Parts of a file by place; None where the place is outside.
+-- Parts of a file by position; None if the position is outside.
 use Rattle.std.specs.Prelude.{ℕ, ◌+◌, ◌*◌, Bool, false, nat_eq, nat_lt, nat_le, ◌&&◌, ◌||◌, if◌then◌else◌, List, [], ◌∷◌, length, drop, Option, Some, None}
 use Rattle.kmn_base.specs.Spelling.{whole_units}
 use Rattle.kmx_format.specs.declared.places.TheConstants.{GROUPS_AT, GROUP_COUNT_AT, GROUP_MATCH_AT, GROUP_NOMATCH_AT, GROUP_RULES_AT, GROUP_RULE_COUNT_AT, GROUP_USING_KEYS_AT, RULE_CONTEXT_AT, RULE_FLAGS_AT, RULE_LINE_AT, RULE_OUTPUT_AT, STORES_AT, STORE_COUNT_AT, STORE_ELEMENTS_AT, STORE_NAME_AT}
@@ -8,16 +8,16 @@ use Rattle.kmx_view.specs.declared.parts.StoreRef.{StoreRef}
 use Rattle.kmx_view.specs.declared.parts.GroupRef.{GroupRef}
 use Rattle.kmx_view.specs.declared.parts.RuleRef.{RuleRef}
 
--- so many bytes from a place on stand in the file
+-- whether the file contains `size` bytes from a position on
 abbrev pub is_within : List ℕ → ℕ → ℕ → Bool
 is_within bytes place size = nat_le (place + size) (length bytes)
 
--- a zero unit is among the units
+-- whether there is a zero unit among units
 abbrev pub has_zero : List ℕ → Bool
 has_zero [] = false
 has_zero (unit ∷ units) = nat_eq unit 0 || has_zero units
 
--- the string at an offset ends in the file: it is the empty one, or a zero unit comes
+-- whether the string at an offset ends in the file: it is the empty string, or there is a zero unit
 abbrev pub is_ended : List ℕ → ℕ → Bool
 is_ended bytes offset = nat_eq offset 0 || has_zero (whole_units (drop offset bytes))
 
@@ -30,7 +30,7 @@ store_count bytes = word_at bytes STORE_COUNT_AT
 abbrev pub group_count : List ℕ → ℕ
 group_count bytes = word_at bytes GROUP_COUNT_AT
 
--- the places of the records
+-- the positions of the records
 abbrev pub store_place : List ℕ → ℕ → ℕ
 store_place bytes i = word_at bytes STORES_AT + STORE_BYTES * i
 
@@ -67,7 +67,7 @@ abbrev pub group_in : List ℕ → ℕ → Option GroupRef
 group_in bytes i =
     if nat_lt i (group_count bytes) && is_within bytes (group_place bytes i) GROUP_BYTES then Some (group_ref bytes (group_place bytes i)) else None
 
--- the record of a number in a group that stands
+-- the record with a number in a group, if the group exists
 abbrev pub rule_of : List ℕ → ℕ → Option GroupRef → Option RuleRef
 rule_of bytes i None = None
 rule_of bytes i (Some group) =

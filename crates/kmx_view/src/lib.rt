@@ -1,7 +1,7 @@
-//! The parts of a compiled file by place, read where they lie: no call takes memory or trusts the file.
+//! Reads the parts of a compiled keyboard by position, in place: no call allocates or trusts the file.
 //!
-//! It stands on `kmx_format`, whose definitions say how numbers and strings are read of bytes. The layer above makes a
-//! `KmxView` of bytes and asks for a part; None comes exactly where the part isn't wholly in the file.
+//! Depends on `kmn_base` and on `kmx_format`, whose definitions state how numbers and strings are read from bytes. The layer
+//! above creates a `KmxView` of bytes and asks for a part. The result is None exactly when the part is not wholly in the file.
 #![tactic(auto)]
 
 mod numbers;

@@ -1,9 +1,9 @@
-//! Numbers at a place of a file, little-endian, and 0 where they aren't wholly in it.
+//! Numbers at a position of a file, little-endian, and 0 if they are not wholly in it.
 
 ghost use Rattle.std.specs.Prelude.{◌≡◌, ◌<◌, ◌^◌};
 ghost use Rattle.kmx_format.specs.TablesOf.{half_at, word_at};
 
-/// The number in the two bytes at a place.
+/// Returns the number in the two bytes at a position.
 #[tactic(auto, unfolding(kmx_format::specs::TablesOf::half_at))]
 pub fn half_at(bytes: &[u8], place: usize) -> u16
     requires { place < 2 ^ 63 }
@@ -16,7 +16,7 @@ pub fn half_at(bytes: &[u8], place: usize) -> u16
     }
 }
 
-/// The number in the four bytes at a place.
+/// Returns the number in the four bytes at a position.
 #[tactic(auto, unfolding(kmx_format::specs::TablesOf::word_at))]
 pub fn word_at(bytes: &[u8], place: usize) -> u32
     requires { place < 2 ^ 63 }

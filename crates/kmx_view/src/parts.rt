@@ -1,4 +1,4 @@
-//! The records of a file, with their offsets as they stand there.
+//! The records of a file, with their offsets as in the file.
 
 ghost use Rattle.std.specs.Prelude.{◌≡◌, ◌<◌, ◌^◌};
 ghost use Rattle.kmx_view.specs.View.{store_ref, group_ref, rule_ref};
@@ -17,8 +17,8 @@ pub struct StoreRef {
     pub string: u32,
 }
 
-/// The record of a group: the offsets of its name, its match and its nomatch output, the place and the count of its key
-/// records, and 0 for a group without keys.
+/// The record of a group: the offsets of its name, its match output and its nomatch output, the position and the count of its
+/// key records, and 0 for a group without keys.
 #[derive(Clone, Copy, PartialEq, Eq)]
 pub struct GroupRef {
     pub name: u32,
@@ -40,7 +40,7 @@ pub struct RuleRef {
 }
 
 impl StoreRef {
-    /// The record of a store at a place.
+    /// Reads the record of a store at a position.
     pub(crate) fn at(bytes: &[u8], place: usize) -> StoreRef
         requires { place < 2 ^ 62 }
         ensures { result ≡ store_ref bytes.now place }
@@ -54,7 +54,7 @@ impl StoreRef {
 }
 
 impl GroupRef {
-    /// The record of a group at a place.
+    /// Reads the record of a group at a position.
     pub(crate) fn at(bytes: &[u8], place: usize) -> GroupRef
         requires { place < 2 ^ 62 }
         ensures { result ≡ group_ref bytes.now place }
@@ -71,7 +71,7 @@ impl GroupRef {
 }
 
 impl RuleRef {
-    /// The key record at a place.
+    /// Reads the key record at a position.
     pub(crate) fn at(bytes: &[u8], place: usize) -> RuleRef
         requires { place < 2 ^ 62 }
         ensures { result ≡ rule_ref bytes.now place }

@@ -1,4 +1,4 @@
-//! The strings of a file: bytes up to a zero unit.
+//! The strings of a file, each with bytes up to a zero unit.
 
 ghost use Rattle.std.specs.Prelude.{◌≡◌, ◌≤◌, ◌+◌, ◌⊎◌, length, true, false, MatchOption};
 ghost use Rattle.kmn_base.specs.Spelling.{unit_bytes, whole_units};
@@ -7,7 +7,7 @@ ghost use Rattle.kmx_view.specs.View.{is_ended};
 
 use kmn_base::slices::behind;
 
-/// The bytes before the first zero unit.
+/// Returns the bytes before the first zero unit.
 fn bytes_before_zero(bytes: &[u8]) -> &[u8]
     ensures units { result.now ≡ unit_bytes (before_zero (whole_units bytes.now)) }
     ensures within { length result.now ≤ length bytes.now }
@@ -22,8 +22,8 @@ fn bytes_before_zero(bytes: &[u8]) -> &[u8]
     &bytes[..bytes.len() - rest.len()]
 }
 
-/// The bytes of the string at an offset, of which 0 is the empty string, without its zero unit; one that no zero unit ends
-/// goes to the last whole unit.
+/// Returns the bytes of the string at an offset, without its zero unit. Offset 0 is the empty string. A string without a zero
+/// unit ends at the last whole unit.
 #[tactic(auto, unfolding(kmx_format::specs::TablesOf::string_at))]
 pub fn string_bytes(bytes: &[u8], offset: u32) -> &[u8]
     ensures units { result.now ≡ unit_bytes (string_at bytes.now offset) }
@@ -36,8 +36,8 @@ pub fn string_bytes(bytes: &[u8], offset: u32) -> &[u8]
     bytes_before_zero(behind(bytes, offset as usize))
 }
 
-/// The bytes of the string at an offset, of which 0 is the empty string, without its zero unit. None comes exactly where
-/// no zero unit ends it in the file.
+/// Returns the bytes of the string at an offset, without its zero unit. Offset 0 is the empty string. Returns None exactly when
+/// no zero unit ends the string in the file.
 #[tactic(auto, using(crate::proofs::Ends::ended_where_it_fits, crate::proofs::Ends::unended), unfolding(kmx_format::specs::TablesOf::string_at))]
 pub fn ended_string(bytes: &[u8], offset: u32) -> Option<&[u8]>
     ensures { MatchOption result

@@ -17,7 +17,7 @@ pub struct KmxView<'a> {
 }
 
 impl<'a> KmxView<'a> {
-    /// The view of bytes.
+    /// Creates a view of bytes.
     pub fn of(bytes: &'a [u8]) -> KmxView<'a>
         requires { length bytes.now ≤ FILE_BYTES }
         ensures { result.bytes.now ≡ bytes.now }
@@ -25,7 +25,7 @@ impl<'a> KmxView<'a> {
         KmxView { bytes }
     }
 
-    /// The number in the four bytes at a place.
+    /// Returns the number in the four bytes at a position.
     pub fn word(&self, at: u32) -> Option<u32>
         ensures { result ≡ word_in self.now.bytes.now at }
     {
@@ -37,7 +37,7 @@ impl<'a> KmxView<'a> {
         }
     }
 
-    /// The store of a number, from 0.
+    /// Returns the record of the store with a number, from 0.
     pub fn store(&self, i: u32) -> Option<StoreRef>
         ensures { result ≡ store_in self.now.bytes.now i }
     {
@@ -51,7 +51,7 @@ impl<'a> KmxView<'a> {
         Some(StoreRef::at(self.bytes, place))
     }
 
-    /// The group of a number, from 0.
+    /// Returns the record of the group with a number, from 0.
     pub fn group(&self, i: u32) -> Option<GroupRef>
         ensures { result ≡ group_in self.now.bytes.now i }
     {
@@ -65,7 +65,7 @@ impl<'a> KmxView<'a> {
         Some(GroupRef::at(self.bytes, place))
     }
 
-    /// The key record of a number in a group, both from 0.
+    /// Returns the key record with a number in a group, both from 0.
     pub fn rule(&self, group: u32, i: u32) -> Option<RuleRef>
         ensures { result ≡ rule_in self.now.bytes.now group i }
     {
@@ -80,7 +80,7 @@ impl<'a> KmxView<'a> {
         Some(RuleRef::at(self.bytes, place))
     }
 
-    /// The bytes of the string at an offset, without its zero unit. Offset 0 is the empty string.
+    /// Returns the bytes of the string at an offset, without its zero unit. Offset 0 is the empty string.
     pub fn string(&self, offset: u32) -> Option<&'a [u8]>
         ensures { MatchOption result
             (is_ended self.now.bytes.now offset ≡ false)
