@@ -1,4 +1,4 @@
--- What puts, takes and refills make of the list whose last items are at hand.
+-- The effect of puts, takes and refills on the list whose last items are cached.
 use Rattle.std.proofs.Common.{◌≡◌, ℕ, ◌-◌, ◌<◌, ◌≤◌, List, [], ◌∷◌, ◌++◌, length, drop, take, map, refl, sym, ◌∙◌, ap, subst, inl, inr, arith, length-append, length-drop, append_assoc}
 use Rattle.std.proofs.lemmas.Bool.{cases_lt}
 use Rattle.std.proofs.lemmas.List.{take-append-drop, length-take}
@@ -10,7 +10,7 @@ use Rattle.kmn_base.proofs.ReadingAgain.{without_last_at}
 use Rattle.context_cache.specs.Cached.{text_with_context, filled, StandsAtEnd}
 use Rattle.context_cache.specs.CacheLaws.{PutsAreOfTheList, TakesAreOfTheList, FillingKeepsTheList, TheListIsItsTextAndWindow}
 
--- a text whose last characters are those of at most 64 items
+-- a text whose last characters are the characters of at most 64 items
 record IsCached (text : List ℕ) (cache : List Item) : Type 0 where
   few : length cache ≤ 64
   front : List ℕ
@@ -33,11 +33,11 @@ whole_is front cache = ap (λ (cs : List ℕ). map Char cs ++ cache) (without_la
 whole_front : (text : List ℕ) (cache : List Item) (h : IsCached text cache) → text_with_context text cache ≡ map Char h.front ++ cache
 whole_front text cache h = ap (λ (t : List ℕ). text_with_context t cache) h.is ∙ whole_is h.front cache
 
--- a sound list is its own tidy form
+-- a sound list is unchanged if its marks before the window are removed
 tidy : (items : List Item) → IsSound items → map Char (characters (without_last 64 items)) ++ window items ≡ items
 tidy items sound = ap (λ (xs : List Item). xs ++ window items) (map-characters (without_last 64 items) sound) ∙ without_last-append-last 64 items
 
--- an item is put where there is room
+-- an item is put while there are fewer than 64
 put_room : (front : List ℕ) (cache : List Item) (i : Item) → length cache < 64 → put (map Char front ++ cache) i ≡ map Char front ++ (cache ++ i ∷ [])
 put_room front cache i room =
     let more : List Item = cache ++ i ∷ [] in
@@ -45,7 +45,7 @@ put_room front cache i room =
     let sound : IsSound (map Char front ++ more) = IsSound_from_front (map Char front) more (unmarked front) (omega (arith, length-append cache (i ∷ []))) in
     ap (λ (xs : List Item). map Char (characters (without_last 64 xs)) ++ window xs) all ∙ tidy (map Char front ++ more) sound
 
--- an item is put behind 64, of which the first goes to the text before
+-- putting an item after 64 others moves the first of them to the text before the cache
 put_full : (front : List ℕ) (x : Item) (rest : List Item) (i : Item) → length (x ∷ rest) ≡ 64
     → put (map Char front ++ x ∷ rest) i ≡ map Char (front ++ characters (x ∷ [])) ++ (rest ++ i ∷ [])
 put_full front x rest i full =
@@ -62,7 +62,7 @@ put_full front x rest i full =
     ∙ ap (λ (cs : List ℕ). map Char cs ++ window (before ++ more)) text
     ∙ ap (λ (xs : List Item). map Char (front ++ characters (x ∷ [])) ++ xs) (window_at before more count)
 
--- what a put leaves: the characters of the item behind the text, and the window of the cache and the item
+-- after a put, the character of the item follows the text, and the cache is the window of the old cache and the item
 record PutsCached (text : List ℕ) (cache : List Item) (i : Item) : Type 0 where
   cached : IsCached (text ++ characters (i ∷ [])) (window (cache ++ i ∷ []))
   same : put (text_with_context text cache) i ≡ text_with_context (text ++ characters (i ∷ [])) (window (cache ++ i ∷ []))
@@ -116,7 +116,7 @@ puts_from front cache i few = elim (cases_lt (length cache) 64) [
 puts_cached : (text : List ℕ) (cache : List Item) (i : Item) → IsCached text cache → PutsCached text cache i
 puts_cached text cache i h = subst (λ (t : List ℕ). PutsCached t cache i) (sym h.is) (puts_from h.front cache i h.few)
 
--- what taking n of the items at hand leaves: without so many characters of the text as there are among them
+-- taking n of the cached items removes as many characters of the text as there are among them
 record TakesCached (text : List ℕ) (cache : List Item) (n count : ℕ) : Type 0 where
   cached : IsCached (without_last count text) (without_last n cache)
   same : without_last n (text_with_context text cache) ≡ text_with_context (without_last count text) (without_last n cache)
@@ -145,7 +145,7 @@ takes_cached : (text : List ℕ) (cache : List Item) (n : ℕ) → IsCached text
 takes_cached text cache n h within =
     subst (λ (t : List ℕ). TakesCached t cache n (length (characters (drop (length cache - n) cache)))) (sym h.is) (takes_from h.front cache n h.few within)
 
--- refilling changes nothing of the list, and the items at hand are then its window
+-- refilling does not change the list, and the cached items are then its window
 record FillsCached (text : List ℕ) (cache : List Item) : Type 0 where
   cached : IsCached text (filled text cache)
   same : text_with_context text cache ≡ text_with_context text (filled text cache)
@@ -166,7 +166,7 @@ fills_cached text cache h =
       same = sym again ∙ sym (ap (λ (t : List ℕ). text_with_context t (window items)) is ∙ whole_is front (window items));
     }
 
--- a sound list is the whole of its text and its window
+-- a sound list consists of its text and its window
 whole_of_window : (items : List Item) → IsSound items → text_with_context (characters items) (window items) ≡ items
 whole_of_window items sound =
     let front : List ℕ = characters (without_last 64 items) in

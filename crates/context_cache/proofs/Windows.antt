@@ -1,4 +1,4 @@
--- The window of what was put, filled and read again.
+-- The window after a put, a fill and reading again.
 use Rattle.std.proofs.Common.{get_or, zero, suc, append_assoc, min, ◌+◌, ◌≡◌, ℕ, ◌<◌, ◌≤◌, ◌-◌, true, false, List, [], ◌∷◌, ◌++◌, length, drop, take, map, eqb, refl, sym, ◌∙◌, ap, inl, inr, arith, length-append, length-drop}
 use Rattle.std.specs.Prelude.{◌||◌}
 use Rattle.std.specs.List.{remove, ends_with, refill}
@@ -23,7 +23,7 @@ window_full items item h =
     let one : length (items ++ item ∷ []) - 64 ≡ 1 = omega (arith, length-append items (item ∷ [])) in
     sym (ap (λ n. drop n (items ++ item ∷ [])) one ∙ drop-append-le 1 items (item ∷ []) (omega arith))
 
--- the characters that are missing before the items, and the items, are what is filled
+-- the missing characters before the items, followed by the items, are the filled items
 pub filled_in : (text : List ℕ) (old : List Item) (before missing : ℕ) → length old ≤ 64 → before ≡ length text - length (characters old)
     → missing ≡ min before (64 - length old)
     → map Char (take missing (drop (before - missing) text)) ++ old ≡ filled text old
@@ -41,7 +41,7 @@ filled_in text old before missing few at is =
     ∙ drop-append-le place (map Char front) old (omega (arith, many, parted))
     ∙ ap (λ xs. xs ++ old) (drop-map Char place front ∙ ap (map Char) last))
 
--- the characters that are missing, pushed behind the items and brought before them by a rotation
+-- the missing characters are pushed after the items and moved before them by a rotation
 pub rotated_in : (text : List ℕ) (old : List Item) (before missing count : ℕ) → length old ≤ 64 → before ≡ length text - length (characters old)
     → missing ≡ min before (64 - length old) → count ≡ length old
     → drop count (old ++ map Char (take missing (drop (before - missing) text))) ++ take count (old ++ map Char (take missing (drop (before - missing) text)))
@@ -53,17 +53,17 @@ rotated_in text old before missing count few at is all =
     ∙ (ap (λ xs. more ++ xs) (take-append_seam old more)
     ∙ filled_in text old before missing few at is))
 
--- a write of all items leaves what was written
+-- writing all items leaves the written items
 pub all_written : (n : ℕ) (items written : List Item) → n ≡ length written → refill n items written ≡ written
 all_written n items written all =
     ap (λ k. take k (written ++ drop (length written) items)) all ∙ take-append_seam written (drop (length written) items)
 
--- where none are missing, the items are what is filled
+-- if no characters are missing, the items are the filled items
 pub none_missing : (text : List ℕ) (old : List Item) → length old ≤ 64 → min (length text - length (characters old)) (64 - length old) ≡ 0
     → old ≡ filled text old
 none_missing text old few none = filled_in text old (length text - length (characters old)) 0 few refl (sym none)
 
--- the characters from a place on begin with the one there
+-- the characters from a position on begin with the character at it
 pub next_character : (text : List ℕ) (place n : ℕ) → place < length text → 0 < n
     → map Char (take n (drop place text)) ≡ Char (get_or text place 0) ∷ map Char (take (n - 1) (drop (suc place) text))
 next_character [] place n within some = absurd (omega (arith, within))
@@ -108,7 +108,7 @@ read_anew items kept text few h e =
     let len : length (map Char text) ≡ length text = grind (arith, common_steps) in
     e ∙ sym (drop-map Char (length text - 64) text) ∙ ap (λ n. drop (n - 64) (map Char text)) (sym len) ∙ ap window (sym lost)
 
--- a text that is shorter than what should end it doesn't end with it
+-- a text that is shorter than another does not end with it
 pub ends_short : (text needle : List ℕ) → length text < length needle → false ≡ ends_with eqb text needle
 ends_short text needle short = elim (cases_Bool (ends_with eqb text needle)) [
   | inl yes_ends ↦

@@ -1,26 +1,26 @@
--- What the calls of a cache say of the whole list before the caret.
+-- The effect of the calls of a cache on the whole left list.
 use Rattle.std.specs.Prelude.{◌≡◌, ℕ, ◌-◌, ◌≤◌, List, ◌∷◌, [], ◌++◌, length, drop}
 use Rattle.kmn_base.specs.declared.items.Item.{Item}
 use Rattle.kmn_base.specs.Lists.{characters, without_last, window, put, IsSound}
 use Rattle.context_cache.specs.Cached.{text_with_context, filled, StandsAtEnd}
 
--- a put into the cache is a put into the list, and the text has the item's character more
+-- a put into the cache is a put into the list, and adds the item's character to the text
 abbrev pub PutsAreOfTheList : Type 0
 PutsAreOfTheList = (text : List ℕ) (items : List Item) (item : Item) → StandsAtEnd items text
     → (put (text_with_context text items) item ≡ text_with_context (text ++ characters (item ∷ [])) (window (items ++ item ∷ [])))
     × StandsAtEnd (window (items ++ item ∷ [])) (text ++ characters (item ∷ []))
 
--- taking items of the cache takes them of the list, and their characters of the text
+-- taking items from the cache takes them from the list, and their characters from the text
 abbrev pub TakesAreOfTheList : Type 0
 TakesAreOfTheList = (text : List ℕ) (items : List Item) (n : ℕ) → StandsAtEnd items text → n ≤ length items
     → (without_last n (text_with_context text items) ≡ text_with_context (without_last (length (characters (drop (length items - n) items))) text) (without_last n items))
     × StandsAtEnd (without_last n items) (without_last (length (characters (drop (length items - n) items))) text)
 
--- filling the cache changes nothing of the list
+-- filling the cache does not change the list
 abbrev pub FillingKeepsTheList : Type 0
 FillingKeepsTheList = (text : List ℕ) (items : List Item) → StandsAtEnd items text
     → (text_with_context text (filled text items) ≡ text_with_context text items) × StandsAtEnd (filled text items) text
 
--- a list whose marks stand in its window is its text with the window at the end
+-- if the marks of a list are in its window, the list is its text with the window at the end
 abbrev pub TheListIsItsTextAndWindow : Type 0
 TheListIsItsTextAndWindow = (items : List Item) → IsSound items → text_with_context (characters items) (window items) ≡ items

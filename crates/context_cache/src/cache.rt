@@ -11,7 +11,7 @@ use kmn_base::slices::behind;
 use kmn_base::{Item, end_marks, slices};
 use std::marker::Model;
 
-/// The last items before the caret, at most 64. It has their places itself, so no call takes memory.
+/// The last items before the caret, at most 64. It stores them itself, so no call allocates.
 #[derive(Drop)]
 pub struct Cache {
     items: ArrayVec<Item, WINDOW_ITEMS>,
@@ -30,7 +30,7 @@ impl Model for Cache {
 }
 
 impl Cache {
-    /// An empty cache.
+    /// Creates an empty cache.
     pub fn new() -> Cache
         ensures { result ≡ [] }
     {
@@ -39,7 +39,7 @@ impl Cache {
         }
     }
 
-    /// The items, the last before the caret at the end.
+    /// Returns the items; the last before the caret is at the end.
     pub fn items(&self) -> &[Item]
         ensures value { result.now ≡ self.now }
         ensures few { length result.now ≤ WINDOW_ITEMS }
@@ -47,7 +47,7 @@ impl Cache {
         self.items.as_slice()
     }
 
-    /// Puts an item behind the others, of which the last 64 stay.
+    /// Appends an item, and keeps the last 64 items.
     #[tactic(auto, using(crate::proofs::Windows::window_full, crate::proofs::Windows::window_with_room))]
     pub fn put(&mut self, item: Item)
         ensures { self.new ≡ window (self.old ++ item ∷ []) }
@@ -58,7 +58,7 @@ impl Cache {
         self.items.push(item);
     }
 
-    /// Takes the last items.
+    /// Removes the last `n` items.
     pub fn take(&mut self, n: usize)
         requires { n ≤ length self.old }
         ensures { self.new ≡ without_last n self.old }
@@ -66,7 +66,7 @@ impl Cache {
         self.items.truncate(self.items.len() - n);
     }
 
-    /// How many of the last items are characters.
+    /// Returns the number of characters among the last `n` items.
     pub fn last_characters(&self, n: usize) -> usize
         requires { n ≤ length self.now }
         ensures { result ≡ length (characters (drop (length self.now - n) self.now)) }
@@ -75,7 +75,7 @@ impl Cache {
         character_count(behind(items, items.len() - n))
     }
 
-    /// How many marks stand at the end.
+    /// Returns the number of marks at the end.
     pub fn end_marks(&self) -> usize
         ensures value { result ≡ suffix_len is_mark self.now }
         ensures within { result ≤ length self.now }
@@ -83,7 +83,8 @@ impl Cache {
         end_marks(self.items.as_slice())
     }
 
-    /// How many more characters of a text of this length there is room for before the items, whose characters are its last ones.
+    /// Returns the number of further characters, of a text of this length that ends with the items' characters, for which there
+    /// is space before the items.
     fn missing(&self, text_len: usize) -> usize
         requires { length (characters self.now) ≤ text_len }
         ensures { result ≡ min (text_len - length (characters self.now)) (WINDOW_ITEMS - length self.now) }
@@ -95,8 +96,8 @@ impl Cache {
         before.min(WINDOW_ITEMS - self.items.len())
     }
 
-    /// Puts the characters of a text before the items, until there are 64 items or the text is at its start. The text is
-    /// `older` and then `newer`, and ends with the items' characters.
+    /// Inserts characters of a text before the items, until there are 64 items or the text is at its start. The text is `older`
+    /// followed by `newer`, and ends with the items' characters.
     #[tactic(auto, using(crate::proofs::Windows::filled_in, crate::proofs::Windows::none_missing))]
     pub fn fill(&mut self, older: &[char], newer: &[char])
         requires few { length older.now + length newer.now < 2 ^ 33 }
@@ -112,8 +113,8 @@ impl Cache {
         self.items.as_mut_slice().rotate_right(missing);
     }
 
-    /// Reads the text before the caret again: where the items still stand at its end they stay, else the last characters of the
-    /// text take their place.
+    /// Reads the text before the caret again. If the items are still at its end, they are kept. Otherwise the last characters
+    /// of the text replace them.
     #[tactic(auto, using(crate::proofs::Windows::still_the_same, crate::proofs::Windows::read_anew))]
     pub fn sync(&mut self, left: &[char])
         ensures { self.new ≡ window (read_again self.old left.now) }
@@ -127,7 +128,7 @@ impl Cache {
         }
     }
 
-    /// A cache with the same items.
+    /// Returns a cache with the same items.
     pub fn copy(&self) -> Cache
         ensures { result ≡ self.now }
     {

@@ -1,10 +1,10 @@
-//! The last items before the caret, at most 64 of them, which is all of the text that a rule sees.
+//! Caches the last items before the caret, at most 64 of them, which are all that a rule sees of the text.
 //!
-//! It stands on `kmn_base`, whose `specs/Lists` say what the window, a put and reading again are, and on `arrayvec` for its
-//! room: no call takes memory or refuses anything. Contracts see a `Cache` as its items. A put leaves the window of the list with
-//! the item, a take the items without the last ones, until a refill puts those before them there again (`specs/Cached`); the laws
-//! in `laws`: a list before the caret is its text and the items of the cache, and puts, takes and refills of the cache are those
-//! of that list.
+//! Depends on `kmn_base`, whose `specs/Lists` defines the window, a put and reading again, and on `arrayvec` for its space: no
+//! call allocates or fails. Contracts model a `Cache` as its items. A put leaves the window of the list with the item. A take
+//! leaves the items without the last ones, until a refill inserts the items before them (`specs/Cached`). `laws` states that
+//! the left list is its text and the items of the cache, and that puts, takes and refills of the cache are puts, takes and
+//! refills of this list.
 #![tactic(auto)]
 
 mod cache;

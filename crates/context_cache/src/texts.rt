@@ -1,4 +1,4 @@
-//! Items against the characters of a text.
+//! Comparing items with the characters of a text.
 
 ghost use Rattle.std.specs.Prelude.{◌≡◌, ◌≤◌, ◌<◌, ◌+◌, ◌++◌, length, map, take, drop, slice_index, nat_eq};
 ghost use Rattle.std.specs.List.{ends_with};
@@ -10,7 +10,7 @@ use arrayvec::ArrayVec;
 use kmn_base::Item;
 use kmn_base::limits::WINDOW_ITEMS;
 
-/// The character at a place of one text followed by another.
+/// Returns the character at a position of one text followed by another.
 fn char_at(older: &[char], newer: &[char], place: usize) -> char
     requires { place < length older.now + length newer.now }
     ensures { result ≡ slice_index (older.now ++ newer.now) place }
@@ -22,7 +22,7 @@ fn char_at(older: &[char], newer: &[char], place: usize) -> char
     }
 }
 
-/// Appends so many characters of one text followed by another, from a place on.
+/// Appends `count` characters of one text followed by another, from a position on.
 pub fn push_characters(
     items: &mut ArrayVec<Item, WINDOW_ITEMS>,
     older: &[char],
@@ -50,7 +50,7 @@ pub fn push_items(items: &mut ArrayVec<Item, WINDOW_ITEMS>, others: &[Item])
     }
 }
 
-/// How many of the items are characters.
+/// Returns the number of characters among the items.
 pub fn character_count(items: &[Item]) -> usize
     ensures { result ≡ length (characters items.now) }
 {
@@ -63,7 +63,7 @@ pub fn character_count(items: &[Item]) -> usize
     count
 }
 
-/// Whether the characters of items stand at the end of a text.
+/// Returns whether a text ends with the characters of items.
 #[tactic(auto, using(crate::proofs::Windows::ends_short))]
 fn ends_with(text: &[char], items: &[Item]) -> bool
     ensures { result ≡ ends_with nat_eq text.now (characters items.now) }
@@ -84,7 +84,7 @@ fn ends_with(text: &[char], items: &[Item]) -> bool
     true
 }
 
-/// Whether items still stand at the end of a text, and it is known what stands before them.
+/// Returns whether a text still ends with items, and the text before them is known.
 pub fn still_stands(items: &[Item], text: &[char]) -> bool
     ensures { result ≡ still_stands items.now text.now }
 {
