@@ -1,3 +1,6 @@
+//! Laws of compilation, each the contract of a function with an empty body: the tables of a well-named program mean what its
+//! source means.
+
 ghost use Rattle.compile_laws.specs.Law.{MeaningIsKept, TablesAreOnlyOnes, ProgramCompiles, TranscriptIsKept};
 
 /// For all events, the compiled tables of a well-named program take the same steps as its source.

@@ -1,3 +1,6 @@
+//! The cache of the last items before the caret, and how it follows the text when items are put or removed and when the text is
+//! read again.
+
 ghost use Rattle.std.specs.Prelude.{◌≡◌, ◌≤◌, ◌<◌, ◌-◌, ◌+◌, ◌^◌, [], ◌∷◌, ◌++◌, length, drop, min};
 ghost use Rattle.std.specs.List.{suffix_len};
 ghost use Rattle.kmn_base.specs.declared.limits.TheConstants.{WINDOW_ITEMS};

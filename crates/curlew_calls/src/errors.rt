@@ -1,3 +1,5 @@
+//! The error of a call that an open field refuses. The errors of sessions convert to it.
+
 use kmn_base::Memory;
 use play_session::StepError;
 use thiserror::Error;

@@ -1,3 +1,5 @@
+//! An open field: a keyboard with the text that is typed with it, and the calls on both.
+
 ghost use Rattle.std.specs.Prelude.{◌≡◌, ◌<◌, ◌≤◌, length, [], ◌∷◌, get_or, None, Some, true, unwrap_or, slice_get, encode_utf8_all, IfOk, IfErr, MatchResult};
 ghost use Rattle.std.specs.Option.{option_map};
 ghost use Rattle.std.specs.Str.{all_scalars};

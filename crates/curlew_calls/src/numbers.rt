@@ -1,3 +1,6 @@
+//! The numbers by which C sees characters, items, elements and rules. A function that fills a buffer writes as much as fits and
+//! returns the full length.
+
 ghost use Rattle.std.specs.Prelude.{◌≡◌, ◌≤◌, ◌∷◌, [], ◌++◌, length, take, drop, encode_utf8, encode_utf8_all, IfOk};
 ghost use Rattle.play_session.specs.Changes.{options_from};
 ghost use Rattle.curlew_calls.specs.Numbers.{written, item_number, item_numbers, element_number, element_numbers, text_of, rule_number};

@@ -1,3 +1,8 @@
+//! A text with a caret, as a gap buffer: one array with its spare room at the caret.
+//!
+//! An insertion or deletion at the caret moves no other character, and a caret move moves the characters that it passes. A new
+//! array has spare room for at least as many characters as the text has, so insertions take constant time on average.
+
 ghost use Rattle.std.specs.Prelude.{◌≡◌, ◌≢◌, ◌+◌, ◌-◌, ◌^◌, ◌≤◌, ◌<◌, [], ◌∷◌, ◌++◌, length, take, drop, Err, OnOk, IfOk, IfErr};
 ghost use Rattle.kmn_base.specs.Lists.{without_last};
 ghost use Rattle.rule_model.specs.Event.{edit_refusal, edited_text, moved_caret};

@@ -1,3 +1,5 @@
+//! Why a caret move or an edit is refused.
+
 use kmn_base::Memory;
 use thiserror::Error;
 

@@ -1,3 +1,5 @@
+//! The cache of the last items on the heap, so that an event moves a pointer instead of 64 items.
+
 ghost use Rattle.std.specs.Prelude.{◌≡◌, ◌≤◌, [], IfOk, length};
 ghost use Rattle.kmn_base.specs.declared.limits.TheConstants.{WINDOW_ITEMS};
 ghost use Rattle.kmn_base.specs.Lists.{window, read_again};

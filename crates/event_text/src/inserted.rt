@@ -1,3 +1,5 @@
+//! The characters that an event inserted, and their buffer, which passes from one event to the next.
+
 ghost use Rattle.std.specs.Prelude.{◌≡◌, ◌≤◌, [], IfOk, drop, take, length};
 ghost use Rattle.kmn_base.specs.declared.limits.TheConstants.{EVENT_PUTS};
 

@@ -1,3 +1,5 @@
+//! The left list while an event acts on it: its characters (`Standing`), and its last items with their marks in the cache.
+
 ghost use Rattle.std.specs.Prelude.{◌≡◌, ◌≤◌, ◌<◌, ◌-◌, ◌+◌, ◌^◌, [], ◌∷◌, ◌++◌, length, drop, take, nat_lt};
 ghost use Rattle.kmn_base.specs.declared.limits.TheConstants.{EVENT_PUTS, WINDOW_ITEMS};
 ghost use Rattle.kmn_base.specs.Lists.{characters, without_last, window, put, read_again};

@@ -1,3 +1,5 @@
+//! Tables with the indexes that events use: the option number of each store, and the names of custom keys.
+
 ghost use Rattle.std.specs.Prelude.{◌≡◌, ◌+◌, ◌-◌, Some, IfOk, if◌then◌else◌, nat_eq, length, option_copied, option_map, slice_get, position};
 ghost use Rattle.virtual_keys.specs.Dictionary.{name_in};
 ghost use Rattle.rule_model.specs.Keyboard.{Numbered};

@@ -1,3 +1,5 @@
+//! Finds an item among elements one by one, for callers that may not allocate a `StoreSets`.
+
 ghost use Rattle.std.specs.Prelude.{◌≡◌, is_some};
 ghost use Rattle.rule_model.specs.Match.{place_of};
 

@@ -1,3 +1,5 @@
+//! The number of an item, by which a `StoreSets` stores it.
+
 ghost use Rattle.std.specs.Prelude.{◌≡◌};
 ghost use Rattle.indexed_tables.specs.Numbers.{number_of};
 

@@ -1,3 +1,5 @@
+//! The items of each store as a hash set, so that a lookup does not compare with each element.
+
 ghost use Rattle.std.specs.Prelude.{◌≡◌, List, is_some, map, nat_eq, IfOk, OnOk};
 ghost use Rattle.std.specs.List.{list_any};
 ghost use Rattle.rule_model.specs.declared.tables.Store.{Store};

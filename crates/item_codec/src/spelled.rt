@@ -1,3 +1,5 @@
+//! Spells items and characters as units, and counts their units. Each item has exactly one spelling.
+
 ghost use Rattle.std.specs.Prelude.{◌≡◌, ◌≤◌, ◌++◌, length, MatchResult};
 ghost use Rattle.item_codec.specs.declared.units.TheConstants.{MOST_UNITS};
 ghost use Rattle.kmn_base.specs.Spelling.{char_units, spelling, IsSpellable, unit_bytes};

@@ -1,3 +1,5 @@
+//! Iterates over the items that bytes spell, in place.
+
 ghost use Rattle.std.specs.Prelude.{◌≡◌, ◌≤◌, length};
 ghost use Rattle.kmn_base.specs.declared.limits.TheConstants.{FILE_BYTES};
 ghost use Rattle.item_codec.specs.Walk.{results_of};

@@ -1,3 +1,5 @@
+//! What a run does before it writes: it reads its inputs by name and compiles sources. A `Stop` states why it goes no further.
+
 ghost use Rattle.std.specs.Prelude.{◌≡◌, Some, IfOk};
 ghost use Rattle.rule_model.specs.Src.{src};
 ghost use Rattle.rule_model.specs.Tab.{tab};

@@ -1,3 +1,5 @@
+//! Runs the command that the arguments name. The work of the longer commands is in separate modules.
+
 ghost use Rattle.std.specs.Prelude.{◌≡◌, IsTrue};
 ghost use Rattle.kmx_format.specs.TablesOf.{tables_of};
 ghost use Rattle.rule_model.specs.Tab.{tab};

@@ -1,3 +1,5 @@
+//! The commands of the program, and how the command-line arguments become one.
+
 ghost use Rattle.std.specs.Prelude.{◌≡◌, [], ◌∷◌, option_map};
 ghost use Rattle.keyman_words.specs.Command.{load_number, play_request, request_of, requested};
 ghost use Rattle.keyman_words.specs.Command.Request.{Load};

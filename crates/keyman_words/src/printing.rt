@@ -1,3 +1,5 @@
+//! Prints lines to a sink, and returns the status with which the run then ends.
+
 ghost use Rattle.std.specs.Prelude.{◌≡◌, ◌⊎◌};
 ghost use Rattle.keyman_words.specs.Tells.{Tells, TellsMade, write_status};
 

@@ -1,3 +1,5 @@
+//! Reads the command-line arguments. It is a separate module because no contract describes what the system returns.
+
 use kmn_base::{Memory, Seq, Text};
 use std::alloc::Global;
 use std::env::FillError;

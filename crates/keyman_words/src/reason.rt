@@ -1,3 +1,5 @@
+//! The reasons for which a run refuses an input.
+
 use kmn_base::{Code, Refusal};
 use kmx_decompiler::NoSpelling;
 use kmx_verifier::Fault;

@@ -1,3 +1,5 @@
+//! The results of a run, and the exit status of each.
+
 ghost use Rattle.std.specs.Prelude.{◌≡◌};
 ghost use Rattle.std.specs.Process.{exit_status};
 ghost use Rattle.keyman_words.specs.Status.{status_number};

@@ -1,3 +1,5 @@
+//! The error codes, which name the rules that an input can break.
+
 ghost use Rattle.std.specs.Prelude.{◌≡◌};
 ghost use Rattle.kmn_base.specs.CodeTexts.{code_text};
 

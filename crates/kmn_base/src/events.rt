@@ -1,3 +1,5 @@
+//! The events of a session, and what an event did.
+
 use crate::{KeyPress, Seq, Text};
 
 /// One event: the atomic step of a session. Positions count characters from the start of the whole text.

@@ -1,3 +1,5 @@
+//! The items of the text before the caret, and the elements of stores.
+
 ghost use Rattle.std.specs.Prelude.{◌≡◌, ◌≤◌, length};
 ghost use Rattle.std.specs.List.{suffix_len};
 ghost use Rattle.kmn_base.specs.Lists.{is_mark};

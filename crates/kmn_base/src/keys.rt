@@ -1,3 +1,5 @@
+//! Key presses, the keys of compiled rules, and the bits of shift flags.
+
 /// The shift flags that a compiled key may have: control and alt of either side, shift, caps lock, no caps lock, and the flag
 /// of a virtual key.
 pub const SHIFT_FLAGS: u16 = 0x437F;

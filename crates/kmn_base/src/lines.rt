@@ -1,3 +1,5 @@
+//! Sets of source lines, which list each line once and sorted.
+
 ghost use Rattle.std.specs.Prelude.{◌≡◌, [], slice_get, OnOk, IfOk};
 ghost use Rattle.std.specs.List.{fold};
 ghost use Rattle.std.specs.Ordering.{nat_cmp};

@@ -1,3 +1,5 @@
+//! The error of a failed allocation, which all crates share.
+
 use std::alloc::{AllocError, AllocFailed};
 
 /// The program ran out of memory. This is not merged with any fault, and no contract states when it happens.

@@ -1,3 +1,5 @@
+//! A refusal, which is an error code with its line, and the error of a compilation.
+
 use crate::{Code, Memory};
 use thiserror::Error;
 

@@ -1,3 +1,5 @@
+//! A growing list. Contracts see only its items, so no contract depends on its capacity.
+
 ghost use Rattle.std.specs.Prelude.{◌≡◌, ◌<◌, ◌==◌, List, [], ◌∷◌, ◌++◌, length, MatchResult, MatchOption, IfOk, slice_set};
 
 use crate::Memory;

@@ -1,3 +1,5 @@
+//! The items of compiled strings as they are spelled, and the faults of a spelling.
+
 /// The unit before the code of each item that is not a character.
 pub const SENTINEL: u16 = 0xFFFF;
 

@@ -1,3 +1,5 @@
+//! Compiles a source in two steps, `front` and `back`, between which the caller reads the bitmap that the program names.
+
 ghost use Rattle.std.specs.Prelude.{◌≡◌, ◌+◌, None, Ok, IfErr, IfOk};
 ghost use Rattle.kmn_base.specs.Answers.{Answers};
 ghost use Rattle.compile_laws.specs.Compiles.{Compiles};

@@ -1,3 +1,5 @@
+//! Reads virtual keys: modifiers and the name of a key in brackets.
+
 ghost use Rattle.std.specs.Prelude.{◌≡◌, ◌+◌, ◌≤◌, ◌<◌, ◌^◌, ◌∷◌, [], IfOk, length, take, drop};
 ghost use Rattle.kmn_items.specs.TokenTexts.{texts, with_text, text_at};
 ghost use Rattle.kmn_items.specs.Slots.{broken};

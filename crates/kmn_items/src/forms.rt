@@ -1,3 +1,5 @@
+//! The forms of the items that begin with a word, and the item that tokens in such a form denote.
+
 ghost use Rattle.std.specs.Prelude.{◌≡◌, ◌<◌, ◌≤◌, IfOk, length, drop};
 ghost use Rattle.kmn_items.specs.TokenTexts.{texts, text_at, quoted};
 ghost use Rattle.kmn_items.specs.Numbers.{offset_value};

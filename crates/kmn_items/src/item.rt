@@ -1,3 +1,5 @@
+//! Reads one item at the beginning of tokens.
+
 ghost use Rattle.std.specs.Prelude.{◌≡◌, ◌+◌, ◌≤◌, ◌<◌, ◌^◌, ◌∷◌, [], IfOk, length, map};
 ghost use Rattle.kmn_items.specs.TokenTexts.{texts, fault, quoted, Reads};
 ghost use Rattle.kmn_items.specs.Brackets.{modifier_count};

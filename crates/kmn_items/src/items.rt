@@ -1,3 +1,5 @@
+//! Reads the items of a section, and the item of a key.
+
 ghost use Rattle.std.specs.Prelude.{◌≡◌, ◌+◌, ◌<◌, ◌^◌, ◌++◌, IfOk, length};
 ghost use Rattle.kmn_items.specs.TokenTexts.{texts, Reads};
 ghost use Rattle.kmn_items.specs.Item.{unseen, is_item_word, read_items, read_key};

@@ -1,3 +1,5 @@
+//! The kind of an item, by its first token and whether a parenthesis follows it.
+
 ghost use Rattle.std.specs.Prelude.{◌≡◌};
 ghost use Rattle.kmn_items.specs.TokenTexts.{texts, with_text};
 ghost use Rattle.kmn_items.specs.Leads.{followed, word_lead, token_lead, lead_of};

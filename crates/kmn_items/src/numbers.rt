@@ -1,3 +1,5 @@
+//! Words that are read as numbers: the code of a character in octal, decimal or hexadecimal digits, and offsets.
+
 ghost use Rattle.std.specs.Prelude.{◌≡◌, ◌≤◌, IfSome};
 ghost use Rattle.kmn_items.specs.Numbers.{begins_digit, is_prefixed, number_base, is_number_word, number_digits, character_lead, digits_lead, is_offset, offset_value};
 

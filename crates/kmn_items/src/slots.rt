@@ -1,3 +1,5 @@
+//! Compares tokens with a form, index by index, and finds the first token that breaks it.
+
 ghost use Rattle.std.specs.Prelude.{◌≡◌, ◌+◌, ◌<◌, ◌^◌, length};
 ghost use Rattle.kmn_items.specs.TokenTexts.{texts, with_text};
 ghost use Rattle.kmn_items.specs.Slots.{unless, offset_fault, slot_fault, cut_code, broken};

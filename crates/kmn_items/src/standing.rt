@@ -1,3 +1,5 @@
+//! Which items a section allows, by its kind and by the items before them.
+
 ghost use Rattle.std.specs.Prelude.{◌≡◌};
 ghost use Rattle.kmn_items.specs.Standing.{stands_in, word_stands, lead_stands, misplaced_code, is_condition, is_nul, order_code, crowded_code, standing_code, seen_word, seen_count, is_crowded};
 

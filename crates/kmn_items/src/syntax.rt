@@ -1,3 +1,5 @@
+//! The types of the grammar of items: sections, item words, kinds of items, the parts of forms, and refusals of tokens.
+
 ghost use Rattle.std.specs.Prelude.{◌≡◌};
 
 use kmn_base::{Code, Memory, Seq};

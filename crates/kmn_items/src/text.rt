@@ -1,3 +1,5 @@
+//! Tokens together with the source that contains their texts.
+
 ghost use Rattle.std.specs.Prelude.{◌≡◌, IfOk};
 ghost use Rattle.kmn_items.specs.TokenTexts.{text_of, text_at, texts, is_wordy, begins_open, inside, quoted};
 

@@ -1,3 +1,5 @@
+//! The kinds of words: item words, names, names of system stores and of keys, and modifiers.
+
 ghost use Rattle.std.specs.Prelude.{◌≡◌};
 ghost use Rattle.kmn_base.specs.Names.{named_in};
 ghost use Rattle.kmn_items.specs.Words.{item_words, item_word, begins_with, is_system_name, bare_name, is_name, is_touch_name, is_own_key, is_key_name, is_modifier};

@@ -1,3 +1,5 @@
+//! Where logical lines and their parts are in a source.
+
 /// A logical line: one physical line, or several that backslashes join. `from` and `to` are byte offsets in the source.
 #[derive(Clone, Copy)]
 pub struct Logical {

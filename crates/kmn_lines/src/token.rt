@@ -1,3 +1,5 @@
+//! The tokens of a line. They are defined here because `kmn_tokens` returns them and `kmn_items` reads them.
+
 /// The kind of a token.
 #[derive(Clone, Copy, Debug, PartialEq, Eq)]
 pub enum TokenKind {

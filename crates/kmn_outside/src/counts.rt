@@ -1,3 +1,5 @@
+//! Which calls of a fake fail, by their numbers.
+
 ghost use Rattle.std.specs.Prelude.{◌≡◌};
 ghost use Rattle.kmn_outside.specs.Memory.{is_due};
 

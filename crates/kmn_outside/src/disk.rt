@@ -1,3 +1,5 @@
+//! The folder of real files.
+
 ghost use Rattle.std.specs.Prelude.{◌≡◌, ◌≢◌, Err};
 ghost use Rattle.std.specs.Str.{IsUtf8};
 ghost use Rattle.kmn_outside.specs.Outside.{ReadCounts, WriteCounts, IsLimited};

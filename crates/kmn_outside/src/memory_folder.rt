@@ -1,3 +1,5 @@
+//! A fake folder that keeps its files in memory, lists its calls, and fails at given calls.
+
 ghost use Rattle.std.specs.Prelude.{◌≡◌, ◌≢◌, ◌<◌, Ok, Err, Some, [], ◌∷◌, ◌++◌, true, length, All, vec_len, vec_capacity, IsTrue, MatchResult, option_map, if◌then◌else◌};
 ghost use Rattle.std.specs.List.{position};
 ghost use Rattle.std.specs.Str.{bytes_eq};

@@ -1,3 +1,5 @@
+//! A fake sink that keeps the written bytes in memory, and fails at given calls.
+
 ghost use Rattle.std.specs.Prelude.{◌≡◌, ◌≢◌, ◌<◌, ◌≤◌, Ok, Err, [], length, IfOk, if◌then◌else◌};
 ghost use Rattle.kmn_outside.specs.Outside.{WriteCounts, Puts};
 ghost use Rattle.kmn_outside.specs.Memory.{is_due, after_put};

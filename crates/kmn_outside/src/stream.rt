@@ -1,3 +1,5 @@
+//! A sink over a real writer, such as standard output.
+
 ghost use Rattle.std.specs.Prelude.{◌≡◌, ◌≢◌, ◌<◌, ◌≤◌, Ok, Err, [], length, IfOk};
 ghost use Rattle.kmn_outside.specs.Outside.{WriteCounts};
 

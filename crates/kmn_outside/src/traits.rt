@@ -1,3 +1,6 @@
+//! The traits of a folder of files and of a sink, and their errors. Other crates know an implementation only by the clauses of
+//! its trait.
+
 ghost use Rattle.std.specs.Prelude.{◌≡◌, ℕ, ◌<◌, ◌≤◌, Bool, List, Option, length, IfOk, IsTrue};
 ghost use Rattle.kmn_outside.specs.Outside.{ReadCounts, IsLimited, WriteCounts, Reads, Writes, Puts};
 

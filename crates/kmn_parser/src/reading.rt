@@ -1,3 +1,5 @@
+//! Parses a source in one pass over its lines. Faults of bytes precede faults of tokens, which precede faults of statements.
+
 ghost use Rattle.std.specs.Prelude.{◌≡◌, ◌≤◌, ◌<◌, ◌^◌, length, OnOk};
 ghost use Rattle.kmn_base.specs.Answers.{Answers};
 ghost use Rattle.kmn_lines.specs.Tokens.{line_tokens};

@@ -1,3 +1,5 @@
+//! The statement of a line, and the line while its statement is read.
+
 use kmn_items::LineTokens;
 use rule_model::{BeginDef, GroupDef, RuleDef, StoreDef};
 

@@ -1,3 +1,5 @@
+//! The error of a line that has no tokens, before the line's number is known.
+
 use kmn_base::{Code, CompileError, Memory, Refusal};
 
 /// Why a line has no tokens: the fault of one of them, or the program ran out of memory.

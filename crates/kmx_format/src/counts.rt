@@ -1,3 +1,5 @@
+//! The number of key records of tables, which the writer and the printed counts of a file use.
+
 ghost use Rattle.std.specs.Prelude.{◌≡◌, ◌<◌, ◌^◌, length};
 ghost use Rattle.std.specs.List.{flat_map};
 ghost use Rattle.kmx_format.specs.File.{rules_of};

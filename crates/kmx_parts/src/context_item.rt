@@ -1,3 +1,5 @@
+//! A context item of eight bytes, for indexes that keep the contexts of all records.
+
 ghost use Rattle.std.specs.Prelude.{◌≡◌, []};
 ghost use Rattle.rule_model.specs.Match.{takes_item};
 ghost use Rattle.rule_model.specs.Tab.{tab_pattern};

@@ -1,3 +1,5 @@
+//! A valid compiled keyboard. Only `verify` creates one, so each value is a file without a fault.
+
 ghost use Rattle.std.specs.Prelude.{◌≡◌, ◌≤◌, length, IfOk, MatchResult, None, Some};
 ghost use Rattle.kmn_base.specs.declared.limits.TheConstants.{FILE_BYTES};
 ghost use Rattle.kmx_verifier.specs.FaultOf.{fault_of, IsRefusal};

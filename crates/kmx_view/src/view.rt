@@ -1,3 +1,6 @@
+//! A view of a file's bytes that finds records by number and strings by offset. Each call checks the bounds, so the file can be
+//! any bytes.
+
 ghost use Rattle.std.specs.Prelude.{◌≡◌, ◌≤◌, length, MatchOption, true, false};
 ghost use Rattle.kmn_base.specs.Spelling.{unit_bytes};
 ghost use Rattle.kmn_base.specs.declared.limits.TheConstants.{FILE_BYTES};

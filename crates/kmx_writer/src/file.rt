@@ -1,3 +1,5 @@
+//! Writes a whole file: the header, the parts in their order, and the bitmap.
+
 ghost use Rattle.std.specs.Prelude.{◌≡◌, ◌+◌, ◌≤◌, ◌<◌, ◌++◌, length, IfOk, IfErr, OnOk};
 ghost use Rattle.kmx_format.specs.File.{header, file_of, picture_place};
 ghost use Rattle.kmx_format.specs.Writable.{IsWritable, IsFile};

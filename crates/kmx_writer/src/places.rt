@@ -1,3 +1,5 @@
+//! The byte offsets of a file's parts, computed before a byte is written, since the header and the arrays contain offsets.
+
 ghost use Rattle.kmx_writer.specs.Places.{ArePlaces};
 ghost use Rattle.kmx_writer.specs.Spellings.{AreSpellable};
 

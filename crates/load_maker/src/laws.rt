@@ -1,3 +1,6 @@
+//! Laws of a load, each the contract of a function with an empty body: its source compiles, and its script plays without a
+//! refusal.
+
 ghost use Rattle.load_maker.specs.Files.{FilesHaveSizes, FilesPlay, SourcesAreChecked};
 ghost use Rattle.load_maker.specs.Plays.{LoadsPlay};
 ghost use Rattle.load_maker.specs.Programs.{ProgramsMean};

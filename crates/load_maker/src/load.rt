@@ -1,3 +1,5 @@
+//! Builds the source and the script of a load.
+
 ghost use Rattle.std.specs.Prelude.{◌≡◌, ◌++◌, ◌+◌, ◌≤◌, ◌↔◌, false, IfOk, string_bytes};
 ghost use Rattle.kmn_base.specs.declared.limits.TheConstants.{LOAD_RULES};
 ghost use Rattle.load_maker.specs.Loads.{is_in_range, hexadecimal, rule_line, load_source, load_script};

@@ -1,3 +1,6 @@
+//! The values of a keyboard's stores. A value is the number of a store or a text of the host, so `set`, `save` and `reset` copy
+//! no elements.
+
 ghost use Rattle.std.specs.Prelude.{◌≡◌, ◌<◌, [], length, IfOk, MatchResult};
 ghost use Rattle.option_store.specs.Cells.{first_cells, cell_at, changed, set_cell, save_cell, reset_cell, host_cell};
 

@@ -1,3 +1,5 @@
+//! The default of a group with keys: what a press does if no record holds.
+
 ghost use Rattle.std.specs.Prelude.{◌≡◌, ◌<◌, OnOk, length, map, nat_lt};
 ghost use Rattle.kmn_base.specs.Lists.{characters};
 ghost use Rattle.virtual_keys.specs.Dictionary.{name_chars};

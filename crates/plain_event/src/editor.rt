@@ -1,3 +1,5 @@
+//! What the editor does with a key that is passed on to it.
+
 ghost use Rattle.std.specs.Prelude.{◌≡◌, ◌++◌, IfOk};
 ghost use Rattle.rule_model.specs.Event.{editor_left, editor_right};
 

@@ -1,3 +1,5 @@
+//! Performs an event on a plain state: a key press, an option change, a caret move or an edit.
+
 ghost use Rattle.std.specs.Prelude.{◌≡◌, ◌+◌, ◌-◌, ◌^◌, ◌<◌, ◌≤◌, ◌++◌, [], IfOk, OnOk, length, map};
 ghost use Rattle.kmn_base.specs.Lists.{characters, read_again};
 ghost use Rattle.rule_model.specs.KeyEvent.{begin_event, outcome_of};

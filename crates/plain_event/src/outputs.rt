@@ -1,3 +1,5 @@
+//! Performs the items of an output that change the left list or an option.
+
 ghost use Rattle.std.specs.Prelude.{◌≡◌, OnOk, Some, slice_get, map};
 ghost use Rattle.rule_model.specs.Keyboard.{Numbered};
 ghost use Rattle.rule_model.specs.Content.{option_number, elements_at};

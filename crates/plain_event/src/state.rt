@@ -1,3 +1,5 @@
+//! The state between two events.
+
 use kmn_base::{Element, Item, Outcome, Seq};
 
 /// A state on which a keyboard's tables act, and the outcome of the last event. Values are indexed by store number, with the

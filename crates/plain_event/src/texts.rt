@@ -1,3 +1,5 @@
+//! Converts between items and characters, and reads the text before the caret again.
+
 ghost use Rattle.std.specs.Prelude.{◌≡◌, IfOk, map};
 ghost use Rattle.kmn_base.specs.Lists.{characters, without_last, window, still_stands, read_again};
 

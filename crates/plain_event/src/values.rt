@@ -1,3 +1,5 @@
+//! Lists of option values: a plain state indexes them by store number, and an event by option number.
+
 ghost use Rattle.std.specs.Prelude.{◌≡◌, IfOk, slice_set};
 ghost use Rattle.rule_model.specs.Plain.{option_numbers};
 ghost use Rattle.plain_event.specs.PlainStates.{picked, spread, option_value};

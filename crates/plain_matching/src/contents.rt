@@ -1,3 +1,5 @@
+//! What stores and system options contain in a state.
+
 ghost use Rattle.std.specs.Prelude.{◌≡◌, [], slice_get, unwrap_or};
 ghost use Rattle.rule_model.specs.Keyboard.{Numbered};
 ghost use Rattle.rule_model.specs.Match.{element_at};

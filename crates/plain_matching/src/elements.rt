@@ -1,3 +1,5 @@
+//! Compares values, and looks up what was caught at an offset.
+
 ghost use Rattle.std.specs.Prelude.{◌≡◌};
 ghost use Rattle.rule_model.specs.Match.{same_value, catch_at, item_caught, place_caught};
 

@@ -1,3 +1,5 @@
+//! Selects a record by testing the records of a group in their order, as the definition does.
+
 ghost use Rattle.std.specs.Prelude.{◌≡◌, ◌≤◌, [], Some, None, IsTrue, IfOk, length, map, option_map, if◌then◌else◌};
 ghost use Rattle.std.specs.List.{list_all, list_any};
 ghost use Rattle.rule_model.specs.Match.{takes_item, matches, place_for, catches_from};

@@ -1,3 +1,5 @@
+//! The error of a script that can't be read.
+
 use kmn_base::{Memory, Refusal};
 use thiserror::Error;
 

@@ -1,3 +1,5 @@
+//! Iterates over the words of a text.
+
 ghost use Rattle.std.specs.Prelude.{◌≡◌};
 ghost use Rattle.std.specs.Iterator.{YieldsFirstBy, item_count};
 ghost use Rattle.play_script.specs.Words.{words};

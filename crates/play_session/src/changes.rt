@@ -1,3 +1,5 @@
+//! Finds the option values that a step changed, by comparing them with the values before it.
+
 ghost use Rattle.std.specs.Prelude.{◌≡◌, ◌+◌, ◌*◌, ◌<◌, ◌≤◌, [], ◌++◌, length, Some, option_map, vec_len, vec_capacity};
 ghost use Rattle.option_store.specs.Cells.{current_value, saved_value};
 ghost use Rattle.rule_model.specs.Content.{option_number};

@@ -1,3 +1,5 @@
+//! The stores that are options, and copies of their values before a step.
+
 ghost use Rattle.std.specs.Prelude.{◌≡◌, ◌<◌, ◌^◌, length, vec_len, IfOk};
 ghost use Rattle.option_store.specs.Cells.{cell_at};
 ghost use Rattle.play_session.specs.Changes.{option_stores, values_in, values_now};

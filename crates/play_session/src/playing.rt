@@ -1,3 +1,5 @@
+//! Performs each kind of event on the engine and the editor together, so that both have the same text before the caret.
+
 ghost use Rattle.std.specs.Prelude.{◌≡◌, ◌≢◌, ◌+◌, ◌≤◌, None, IfOk, IfErr};
 ghost use Rattle.kmn_base.specs.declared.events.Event.TheVariants as event;
 ghost use Rattle.kmn_base.specs.declared.limits.TheConstants.{EVENT_PUTS, TEXT_CHARS, TEXT_CHARS_AT_KEY};

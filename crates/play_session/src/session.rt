@@ -1,3 +1,5 @@
+//! A session: a keyboard with the text that is typed with it, and its steps.
+
 ghost use Rattle.std.specs.Prelude.{◌≡◌, ◌≢◌, ◌≤◌, false, length, IfOk, IfErr, Ok};
 ghost use Rattle.kmn_base.specs.declared.events.Event.TheVariants as event;
 ghost use Rattle.kmn_base.specs.declared.limits.TheConstants.{EVENT_ENTRIES, TEXT_CHARS};

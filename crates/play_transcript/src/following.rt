@@ -1,3 +1,5 @@
+//! Plays a script and prints which lines of the source fire, instead of what the events do.
+
 ghost use Rattle.std.specs.Prelude.{◌≡◌, ◌-◌, ◌<◌, ◌^◌, All, IsTrue, IfOk};
 ghost use Rattle.kmn_outside.specs.Outside.{WriteCounts};
 ghost use Rattle.rule_model.specs.Tab.{tab};

@@ -1,3 +1,5 @@
+//! Plays a script for several fields on a host, and prints its transcript.
+
 ghost use Rattle.std.specs.Prelude.{◌≡◌, ◌-◌, ◌<◌, ◌^◌, [], None, IsTrue, IsSomeAnd, IfOk, IfErr};
 ghost use Rattle.kmn_outside.specs.Outside.{WriteCounts};
 ghost use Rattle.kmn_base.specs.declared.events.Event.TheVariants as event;

@@ -1,3 +1,5 @@
+//! Prints a whole line to a sink that may accept only a part of it at a time.
+
 ghost use Rattle.std.specs.Prelude.{◌≡◌, IsTrue};
 ghost use Rattle.kmn_outside.specs.Outside.{WriteCounts};
 ghost use Rattle.play_transcript.specs.Printing.{Prints};

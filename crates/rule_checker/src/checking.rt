@@ -1,3 +1,6 @@
+//! Checks a program in phases, each of which is searched only if the phases before it found no refusal: its start, its names,
+//! its items, its limits.
+
 ghost use Rattle.std.specs.Prelude.{◌≡◌, None, IfOk};
 ghost use Rattle.std.specs.List.{list_any};
 ghost use Rattle.std.specs.Option.{option_or};

@@ -1,3 +1,5 @@
+//! A set of codes of the key table, as an array with a flag for each code.
+
 ghost use Rattle.std.specs.Prelude.{◌≡◌, ◌||◌};
 ghost use Rattle.rule_checker.specs.KeyCodes.{has_code, is_table_code, joined, no_codes, with_code};
 

@@ -1,3 +1,5 @@
+//! Laws of accepted programs, each the contract of a function with an empty body.
+
 ghost use Rattle.rule_checker.specs.Laws.{AcceptedIsWellNamed, AcceptedCanBeWritten, KeysHaveCodes, StoresAreCounted, RecordsAreCounted};
 
 /// Every name that an accepted program uses is stated, and its keys can be distinguished. So its tables keep its meaning.

@@ -1,3 +1,5 @@
+//! Counts the characters of a UTF-8 text in 32 bits. The first byte of each character determines how many bytes follow it.
+
 ghost use Rattle.std.specs.Prelude.{◌≡◌, length};
 ghost use Rattle.std.specs.Str.{chars, continuation_len};
 ghost use Rattle.rule_checker.specs.Counting.{capped, character_ends, to_come};

@@ -1,3 +1,5 @@
+//! A table of option values that finds a value by hash.
+
 ghost use Rattle.std.specs.Prelude.{◌≡◌, false, [], ◌∷◌, ◌++◌, length, OnOk};
 ghost use Rattle.rule_checker.specs.Walking.{is_value};
 

@@ -1,3 +1,5 @@
+//! The default of a group with keys: what a press does if no record holds.
+
 ghost use Rattle.std.specs.Prelude.{◌≡◌, map};
 ghost use Rattle.virtual_keys.specs.Dictionary.{name_chars};
 ghost use Rattle.virtual_keys.specs.Fits.{char_of_press};

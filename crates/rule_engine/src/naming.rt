@@ -1,3 +1,5 @@
+//! The names of stores and options. An engine keeps no copies of them, so each call reads them from the file.
+
 ghost use Rattle.std.specs.Prelude.{◌≡◌, ◌<◌, ◌≤◌, ◌&&◌, IfOk, MatchOption, is_some, length, option_and_then, position};
 ghost use Rattle.rule_model.specs.Content.{option_number};
 ghost use Rattle.rule_model.specs.Event.{has_name};

@@ -1,3 +1,5 @@
+//! Performs the items of an output that insert items into the text.
+
 ghost use Rattle.std.specs.Prelude.{◌≡◌, length, nat_eq};
 ghost use Rattle.rule_model.specs.Keyboard.{Numbered};
 ghost use Rattle.rule_model.specs.Match.{element_at};

@@ -1,3 +1,6 @@
+//! What an event works on, with all the space that it needs. The engine passes it to an event and gets it back, so no event
+//! allocates.
+
 ghost use Rattle.std.specs.Prelude.{◌≡◌, ◌≤◌, ◌<◌, ◌+◌, [], length, vec_capacity, IfOk, MatchResult, is_some, true};
 ghost use Rattle.kmn_base.specs.declared.limits.TheConstants.{EVENT_ENTRIES, EVENT_PUTS, STORES, WINDOW_ITEMS};
 ghost use Rattle.option_store.specs.Cells.{changed, first_cells, host_cell, save_cell, set_cell};

@@ -1,3 +1,5 @@
+//! Classes, the numbers by which rows are sorted.
+
 ghost use Rattle.std.specs.Prelude.{◌≡◌, ◌<◌, ◌^◌};
 
 use std::marker::Model;

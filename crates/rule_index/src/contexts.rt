@@ -1,3 +1,5 @@
+//! Copies of the contexts of a group's records, so that matching does not decode the file.
+
 ghost use Rattle.std.specs.Prelude.{◌≡◌, IfOk, map};
 ghost use Rattle.kmx_parts.specs.ContextItems.{pattern_of};
 ghost use Rattle.rule_index.specs.Groups.{context_count, listed, record_contexts};

@@ -1,3 +1,5 @@
+//! The numbers of elements and items, by which the rows of stores are sorted.
+
 ghost use Rattle.std.specs.Prelude.{◌≡◌, ◌<◌, All, map, IfOk};
 ghost use Rattle.rule_index.specs.Elements.{element_number, item_number};
 

@@ -1,3 +1,5 @@
+//! A compiled keyboard with all that is looked up in it. Engines on the same file share one.
+
 ghost use Rattle.std.specs.Prelude.{◌≡◌, ◌≤◌, ◌+◌, ◌-◌, None, Some, All, IfOk, IfSome, length, map, option_copied, option_map, slice_get};
 ghost use Rattle.kmn_base.specs.declared.items.Element.TheVariants.{Char};
 ghost use Rattle.kmn_base.specs.declared.limits.TheConstants.{RECORDS, STORES};

@@ -1,3 +1,5 @@
+//! A row of an index: a record or an element by its class and its number.
+
 ghost use Rattle.std.specs.Prelude.{◌<◌};
 ghost use Rattle.rule_index.specs.declared.row.TheConstants.{NO_ROW};
 

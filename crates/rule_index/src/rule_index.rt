@@ -1,3 +1,5 @@
+//! The index of one group's records.
+
 ghost use Rattle.std.specs.Prelude.{◌≡◌, ◌≤◌, [], length, map, slice_index_or, IfOk};
 ghost use Rattle.kmn_base.specs.declared.limits.TheConstants.{RECORDS};
 ghost use Rattle.kmx_parts.specs.ContextItems.{pattern_of};

@@ -1,3 +1,5 @@
+//! A hash table of the texts that stores are stated with, so that a text of the host can become the number of a store.
+
 ghost use Rattle.std.specs.Prelude.{◌≡◌, ◌≤◌, ◌+◌, List, IfOk, OnOk, length};
 ghost use Rattle.kmn_base.specs.declared.items.Element.{Element};
 ghost use Rattle.kmn_base.specs.declared.limits.TheConstants.{STORES};

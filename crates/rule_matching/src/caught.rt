@@ -1,3 +1,5 @@
+//! What a record caught, which its output uses.
+
 ghost use Rattle.std.specs.Prelude.{◌≡◌, ◌≤◌, ◌<◌, [], ◌∷◌, ◌++◌, None, length};
 ghost use Rattle.kmn_base.specs.declared.limits.TheConstants.{CONTEXT_ITEMS};
 ghost use Rattle.rule_model.specs.Act.{items_caught, place_for_index};

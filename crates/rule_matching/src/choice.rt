@@ -1,3 +1,5 @@
+//! What the tests of all candidates of one choice share.
+
 use crate::moment::Moment;
 use kmn_base::Item;
 use virtual_keys::Pressed;

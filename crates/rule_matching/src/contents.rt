@@ -1,3 +1,5 @@
+//! What a store contains in a state, and its saved value.
+
 ghost use Rattle.std.specs.Prelude.{◌≡◌, ◌<◌, None, Some, length, option_map};
 ghost use Rattle.option_store.specs.Cells.{held_value, cell_at};
 ghost use Rattle.option_store.specs.Meaning.{option_values, option_saves};

@@ -1,3 +1,5 @@
+//! Compares elements, and looks up what was caught at an offset.
+
 ghost use Rattle.std.specs.Prelude.{◌≡◌};
 ghost use Rattle.rule_model.specs.Match.{same_element, catch_at, item_caught, place_caught};
 

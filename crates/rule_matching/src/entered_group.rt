@@ -1,3 +1,5 @@
+//! A group that a key press enters.
+
 use kmn_base::KeyPress;
 use kmx_parts::FileGroup;
 use rule_index::RuleIndex;

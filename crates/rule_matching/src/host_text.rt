@@ -1,3 +1,5 @@
+//! A text of the host as the content of a store.
+
 ghost use Rattle.std.specs.Prelude.{◌≡◌, map, position, slice_get};
 ghost use Rattle.rule_model.specs.Match.{is_item};
 

@@ -1,3 +1,5 @@
+//! Tests by marks whether a store is defined with an item. The marks of an item are set at its first test in a choice.
+
 ghost use Rattle.std.specs.Prelude.{◌≡◌, ◌<◌, true, length, is_some};
 ghost use Rattle.kmn_base.specs.declared.limits.TheConstants.{WINDOW_ITEMS};
 ghost use Rattle.rule_matching.specs.Choices.{RemembersFor};

@@ -1,3 +1,5 @@
+//! A keyboard in one state, as the tests of records read it.
+
 ghost use Rattle.std.specs.Prelude.{◌≡◌, None, Some, IfSome, length, slice_get};
 ghost use Rattle.option_store.specs.Meaning.{option_values};
 ghost use Rattle.rule_model.specs.Content.{elements_at, option_number};

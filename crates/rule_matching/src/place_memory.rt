@@ -1,3 +1,5 @@
+//! What a choice remembers about the items before the caret: looked-up positions and marks of stores.
+
 ghost use Rattle.std.specs.Prelude.{◌≡◌, ◌+◌, ◌≤◌, IfOk};
 ghost use Rattle.kmn_base.specs.declared.limits.TheConstants.{STORES};
 ghost use Rattle.rule_matching.specs.PlaceMemory.{rooms, KnowsNothing};

@@ -1,3 +1,6 @@
+//! The positions of the items before the caret in the content of stores. A position that was looked up is remembered for the
+//! rest of the choice.
+
 ghost use Rattle.std.specs.Prelude.{◌≡◌, ◌≤◌, ◌<◌, Some, is_some, length, map};
 ghost use Rattle.kmn_base.specs.declared.limits.TheConstants.{CONTEXT_ITEMS};
 ghost use Rattle.rule_model.specs.Match.{place_caught};

@@ -1,3 +1,5 @@
+//! The content of a store, read in place from the keyboard or from a text of the host.
+
 ghost use Rattle.std.specs.Prelude.{◌≡◌, IfOk};
 ghost use Rattle.rule_model.specs.Match.{same_value};
 ghost use Rattle.rule_matching.specs.StoreValues.{elements_in};

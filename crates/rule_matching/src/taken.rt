@@ -1,3 +1,6 @@
+//! What the items of a context take, as distances from the caret. Positions in stores are looked up only if an `index` of the
+//! context needs them, and for the record that is selected.
+
 ghost use Rattle.std.specs.Prelude.{◌≡◌, option_and_then};
 ghost use Rattle.rule_matching.specs.Matching.{item_before, taken_at};
 

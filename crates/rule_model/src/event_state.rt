@@ -1,3 +1,5 @@
+//! What a rule catches, and the state of one key event.
+
 use kmn_base::{Element, Item, Seq};
 
 /// What an item of a context caught: an item of the text if it is a pattern, and for an `any` also the first position of the

@@ -1,3 +1,5 @@
+//! Compares items with the elements of stores.
+
 ghost use Rattle.std.specs.Prelude.{◌≡◌, Some};
 ghost use Rattle.rule_model.specs.Match.{is_item, is_element, is_same, item_of, place_of, same_item};
 

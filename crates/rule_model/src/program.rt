@@ -1,3 +1,5 @@
+//! A keyboard as a source states it, with names.
+
 use kmn_base::{Seq, Text};
 
 /// A virtual key of a source: shift flags as in a file, with the bit `0x4000`, and a code or, if the code is 0, a name of the

@@ -1,3 +1,5 @@
+//! The entries of a script.
+
 use kmn_base::{Event, Seq};
 
 /// One line of a script, or one key press of a line, with the number of its line from 1.

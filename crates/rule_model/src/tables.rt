@@ -1,3 +1,5 @@
+//! A keyboard as a compiled keyboard contains it, with numbers instead of names.
+
 ghost use Rattle.std.specs.Prelude.{◌≡◌};
 ghost use Rattle.rule_model.specs.Patterns.{is_condition, is_matched, is_nul};
 ghost use Rattle.rule_model.specs.Tab.{elements_of};

@@ -1,3 +1,5 @@
+//! Compares the names of options and the characters of texts, and finds the caret after an edit.
+
 ghost use Rattle.std.specs.Prelude.{◌≡◌, ◌+◌, ◌-◌, ◌<◌, ◌^◌};
 ghost use Rattle.rule_model.specs.Event.{has_name, moved_caret};
 ghost use Rattle.rule_model.specs.KeyEvent.{common_prefix};

@@ -1,3 +1,5 @@
+//! Decides whether a record covers another, by their contexts and conditions. `key_cover` compares their keys.
+
 ghost use Rattle.std.specs.Prelude.{◌≡◌, length, filter_map};
 ghost use Rattle.std.specs.List.{list_all, list_any};
 ghost use Rattle.rule_model.specs.Match.{item_of, same_value};

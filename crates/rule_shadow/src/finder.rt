@@ -1,3 +1,5 @@
+//! The calls of the crate: they find certificates and check them.
+
 ghost use Rattle.std.specs.Prelude.{◌≡◌, true, IfOk, IfSome};
 ghost use Rattle.kmx_format.specs.Writable.{IsWritable};
 ghost use Rattle.rule_shadow.specs.Covers.{covers};

@@ -1,3 +1,5 @@
+//! The record that is examined, with all that its search reads.
+
 ghost use Rattle.std.specs.Prelude.{◌≡◌, ◌<◌, ◌^◌, length, take};
 
 use crate::flagged::FlaggedTables;

@@ -1,3 +1,5 @@
+//! Counts how often each line of a keyboard is selected.
+
 ghost use Rattle.std.specs.Prelude.{◌≡◌, ◌<◌, nat_lt, [], ◌∷◌, ◌++◌, All, IfOk, OnOk, length, map, slice_index_or};
 ghost use Rattle.std.specs.List.{Contains};
 ghost use Rattle.std.specs.List.Sorted.{IsStrictlyIncreasing};

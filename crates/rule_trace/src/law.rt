@@ -1,3 +1,5 @@
+//! Laws of traced events, each the contract of a function with an empty body.
+
 ghost use Rattle.rule_trace.specs.Laws.{ChoiceIsKept, ChosenLinesAreLines};
 
 /// In each state and for each event, the compiled tables of a well-named program select the source lines that the program

@@ -1,3 +1,5 @@
+//! Performs an event and returns the lines that it selects, for tests of the meaning.
+
 ghost use Rattle.std.specs.Prelude.{◌≡◌, IfOk};
 ghost use Rattle.rule_model.specs.Event.{whole_text};
 ghost use Rattle.rule_model.specs.Tab.{tab};

@@ -1,3 +1,5 @@
+//! A table of names that finds a name by hash, without ASCII case.
+
 ghost use Rattle.std.specs.Prelude.{◌≡◌, ◌≤◌, ◌<◌, None, [], ◌∷◌, ◌++◌, length, MatchResult, IfOk, OnOk, IfSome, IsSome};
 ghost use Rattle.std.specs.Str.{str_to_ascii_lowercase, bytes_eq};
 ghost use Rattle.std.specs.Map.{lookup};

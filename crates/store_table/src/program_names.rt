@@ -1,3 +1,5 @@
+//! The names of a program, with their numbers in its file.
+
 ghost use Rattle.std.specs.Prelude.{◌≡◌, []};
 ghost use Rattle.kmn_base.specs.Answers.{Answers};
 ghost use Rattle.store_table.specs.Numbering.{mark_in, named_store, number_in, numbered};

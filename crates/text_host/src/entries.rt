@@ -1,3 +1,5 @@
+//! The entries of a script for several fields.
+
 use kmn_base::{Event, KeyPress, Seq};
 
 /// A line of a script for several fields, or one key press of such a line. Lines are numbered from 1.

@@ -1,3 +1,5 @@
+//! The faults of a layout, each with its place.
+
 ghost use Rattle.std.specs.Prelude.{◌≡◌};
 ghost use Rattle.touch_layout.specs.Faults.{whole_layout};
 

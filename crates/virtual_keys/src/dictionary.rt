@@ -1,3 +1,5 @@
+//! The key dictionary: the names of a keyboard's custom keys, with a code for each.
+
 ghost use Rattle.std.specs.Prelude.{◌≡◌, ◌+◌, ◌<◌, ◌≤◌, [], ◌∷◌, ◌++◌, Some, None, length, nat_le, option_copied, MatchResult, IfSome, IfOk};
 ghost use Rattle.virtual_keys.specs.Dictionary.{AreDistinct, place_in, code_in, name_in, with_name};
 ghost use Rattle.virtual_keys.specs.Entries.{written, AreEntries};

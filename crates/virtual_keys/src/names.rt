@@ -1,3 +1,5 @@
+//! Looks up the codes of keys and shift words by name, and the names of keys by code.
+
 ghost use Rattle.std.specs.Prelude.{◌≡◌, map, option_map};
 ghost use Rattle.virtual_keys.specs.Keys.{name_numbered, key_code, key_name, shift_flag, shift_flags};
 

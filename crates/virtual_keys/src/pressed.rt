@@ -1,3 +1,5 @@
+//! Tests whether a press fits the key of a rule.
+
 ghost use Rattle.std.specs.Prelude.{◌≡◌};
 ghost use Rattle.virtual_keys.specs.Fits.{key_fits};
 

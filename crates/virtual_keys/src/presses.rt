@@ -1,3 +1,5 @@
+//! The character that a press produces on the US layout, and the shift flags that it fits.
+
 ghost use Rattle.std.specs.Prelude.{◌≡◌, IsTrue};
 ghost use Rattle.virtual_keys.specs.Fits.{has, has_either, letter, is_letter, character_in, us_character, caps_fit, sides_fit, flags_fit, is_plain, char_of_press};
 ghost use Rattle.virtual_keys.specs.Keys.{us_characters};

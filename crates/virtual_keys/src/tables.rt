@@ -1,3 +1,5 @@
+//! The tables of the keys that every keyboard has: names and codes, shift words, and the characters of the US layout.
+
 use crate::codes::{K_BKSP, K_DEL, K_END, K_ENTER, K_HOME, K_LEFT, K_RIGHT, K_TAB};
 use kmn_base::keys::{
     CAPS, EITHER_ALT, EITHER_CONTROL, LEFT_ALT, LEFT_CONTROL, NO_CAPS, RIGHT_ALT, RIGHT_CONTROL,

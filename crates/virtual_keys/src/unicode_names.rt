@@ -1,3 +1,5 @@
+//! The characters that a name of a custom key denotes, such as `U_0061`.
+
 ghost use Rattle.std.specs.Prelude.{◌≡◌, SomeIff, IsTrue, OnSome, ◌+◌, ◌≤◌, ◌∷◌, if◌then◌else◌, Some, None, length, option_copied, option_map};
 ghost use Rattle.std.specs.List.{list_all, position};
 ghost use Rattle.virtual_keys.specs.Dictionary.{is_hex_digit, hex_value, is_nameable, is_group, is_parting, groups, group_chars, name_chars};
