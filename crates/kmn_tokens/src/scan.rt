@@ -1,4 +1,9 @@
 //! Scans a logical line: one step, a part, all parts, the line.
+//!
+//! The first bytes of a token determine its kind, and its kind determines where it ends (`token_size`), so the scan moves from
+//! left to right and keeps no state between tokens. Blanks separate tokens. Tokens do not cross physical lines, so each part is
+//! scanned separately. Each token is checked when it is read, and a fault ends the scan, so the result is the first fault of
+//! the line. Each byte is read a constant number of times.
 
 ghost use Rattle.std.specs.Prelude.{◌≡◌, ◌+◌, ◌^◌, ◌<◌, ◌≤◌, length, drop};
 ghost use Rattle.kmn_base.specs.Answers.{Answers};

@@ -1,4 +1,11 @@
-//! Checks a whole file.
+//! Checks a whole file, and finds its first fault in one pass.
+//!
+//! `fault_of` in `specs/FaultOf` lists the faults of a file in a fixed order: length, header, arrays, stores, and groups with
+//! their records. For each part of this list, one function returns the first fault of the part, given the counts of the parts
+//! before it and, in a record, what the offsets of its context can point at. The functions are called in the order of the list
+//! and the first error is returned, so it is the first fault of the file. No part is read before it is known to be inside the
+//! file. Each string is read for each record that names it, and the limits bound their numbers and their items, so the time is
+//! bounded even if strings overlap. Only the targets of one context are allocated.
 
 ghost use Rattle.std.specs.Prelude.{◌≡◌, ◌≤◌, length, None, Some};
 ghost use Rattle.kmn_base.specs.declared.limits.TheConstants.{FILE_BYTES};

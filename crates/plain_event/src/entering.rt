@@ -1,3 +1,10 @@
+//! Enters groups for a key press: selects a record in each, and performs outputs, which can enter further groups.
+//!
+//! The functions call one another as the definitions in `specs/Enter` of `rule_model` do, so each meets the definition of its
+//! name. The recursion terminates, since each nested entry has a smaller `depth`. An event stops after `EVENT_ENTRIES` entered
+//! groups, so `depth`, which starts at this number, is never used up. Each entered group costs a test of its records up to the
+//! one that holds, and at most two outputs. The lines of the selected records are appended in the order of entry.
+
 ghost use Rattle.std.specs.Prelude.{◌≡◌, ◌<◌, [], ◌∷◌, ◌++◌, IfOk, OnOk, map, length, true, None, Some, option_map, option_copied, if◌then◌else◌};
 ghost use Rattle.kmn_base.specs.declared.limits.TheConstants.{EVENT_ENTRIES};
 ghost use Rattle.kmn_base.specs.Lists.{without_last};

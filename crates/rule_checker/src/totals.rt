@@ -1,4 +1,10 @@
 //! The counts over statements that the limits compare.
+//!
+//! The counts are updated statement by statement, in the order of lines, and never fall. So the first statement after which a
+//! count exceeds its limit is the one that is refused (`walking`). A deadkey, key name or option value is counted at its first
+//! occurrence, which a hash table finds. The numbers of elements and records come from `counting`, which does not build them.
+//! Counts saturate at the maximum of their type, which is above each limit, so a saturated count is refused as the exact count
+//! would be. The cost is one lookup for each item that has a name or a value.
 
 ghost use Rattle.std.specs.Prelude.{◌≡◌, ◌||◌, OnOk, option_to_list};
 ghost use Rattle.rule_model.specs.Naming.{rule_items};

@@ -1,3 +1,11 @@
+//! Enters groups for a key press: selects a record in each, and performs outputs, which can enter further groups.
+//!
+//! The functions call one another as the definitions in `specs/Enter` of `rule_model` do, so each meets the definition of its
+//! name. Two counts bound a press. An event enters at most `EVENT_ENTRIES` groups and then stops, and a stopped event skips all
+//! remaining items. `depth` is the number of nested entries that are still allowed: it falls with each nested entry, so the
+//! recursion terminates. It starts at `EVENT_ENTRIES`, so the first count always stops the event before `depth` is 0. Each
+//! entered group costs one choice and at most two outputs. What is caught is stored on the stack, so nothing allocates.
+
 ghost use Rattle.std.specs.Prelude.{◌≡◌, ◌<◌, [], ◌∷◌, ◌++◌, None, Some, map, length, option_map, slice_get, if◌then◌else◌};
 ghost use Rattle.kmn_base.specs.declared.limits.TheConstants.{EVENT_ENTRIES};
 ghost use Rattle.kmn_base.specs.Lists.{without_last};

@@ -1,7 +1,10 @@
 //! Counts the bytes that the records of rules occupy in a file, without building the records.
 //!
-//! What the records of a rule have in common is counted once for each rule. Each record then needs one step, and one for each piece
-//! of its output that depends on the key.
+//! The spelling of a list is its items' spellings one after the other, so sizes add up: a record has its fixed size, the string
+//! of its context and the string of its output. The context and the pieces of the output that do not depend on the key are
+//! counted once for each rule. Each record then needs one step, and one for each piece that depends on its key. So a source
+//! whose records would need far more memory than the largest file is refused before they are built. Sums that overflow are
+//! reported as `Memory`.
 
 ghost use Rattle.std.specs.Prelude.{◌≡◌, ◌+◌, ◌++◌, ◌∷◌, [], true, length, flat_map, IfOk, OnOk};
 ghost use Rattle.std.specs.List.{list_all};

@@ -1,3 +1,14 @@
+//! Merges six sorted runs: the rows of a group's index that have one of the six classes of a key press, in file order.
+//!
+//! The rows are sorted by class and then by record number, so the rows of one class are a run with rising numbers. Each of the
+//! six classes has a cursor (`Head`). The next candidate is the lowest number at a cursor, so candidates come in file order,
+//! and a cursor never skips a row that can still be returned. After each result all cursors skip the numbers up to it, so a
+//! record is returned once even if two of the six classes are equal. While one class has the next numbers, only its cursor is
+//! read (`ClassLead`).
+//!
+//! Creating the iterator costs six binary searches. Since no cursor moves back, a walk then costs a constant number of steps
+//! for each candidate on average.
+
 ghost use Rattle.std.specs.Prelude.{◌≡◌, ◌<◌, ◌≤◌, ℕ, List, IfSome, length, map};
 ghost use Rattle.kmn_base.specs.declared.limits.TheConstants.{RECORDS};
 ghost use Rattle.rule_index.specs.declared.row.TheConstants.{NO_ROW};

@@ -1,3 +1,11 @@
+//! Computes the class of each record, and the six classes that a key press can match.
+//!
+//! A class is a pair: the key that a record requires, and the character or mark that its last pattern requires, each 0 if the
+//! record does not require a particular one. A press can match three keys: any key, its character, and its code. The last item
+//! before the caret can match two: any item, and itself. So each record that holds has one of six classes (`laws`), and an
+//! index by class finds these records without testing the others. If a press has no character or the list is empty, some of the
+//! six are equal.
+
 ghost use Rattle.std.specs.Prelude.{◌≡◌, ◌<◌, [], map, None, IfOk};
 ghost use Rattle.virtual_keys.specs.Fits.{char_of_press};
 ghost use Rattle.rule_model.specs.Tab.{tab_pattern, tab_rule};

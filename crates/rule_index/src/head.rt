@@ -1,3 +1,5 @@
+//! A cursor into the run of one class, for the merge in `candidates`. It only moves forward.
+
 ghost use Rattle.std.specs.Prelude.{◌≡◌, ◌<◌, ◌≤◌, ℕ, List, length, slice_get, unwrap_or};
 ghost use Rattle.rule_index.specs.declared.row.TheConstants.{NO_ROW};
 ghost use Rattle.rule_index.specs.Rows.{ranked, number_if, IsIndexOf, StartsAt};

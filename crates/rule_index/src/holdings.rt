@@ -1,3 +1,10 @@
+//! An inverted index of the stores: for each item the stores that contain it, each with the first position of the item.
+//!
+//! The elements of each store are sorted by item and then by position, and the first row of each item is kept. All these rows
+//! are then sorted by item and then by store. So the rows of an item are an interval in the order of the stores, with at most
+//! one row for each store, and a binary search finds an interval or a row. For n elements in all stores, building costs
+//! O(n log n) time and eight bytes for each distinct item of a store, and a search costs O(log n).
+
 ghost use Rattle.std.specs.Prelude.{◌≡◌, ◌<◌, ◌≤◌, ◌+◌, ◌*◌, All, List, IfOk, OnOk, length, map, nat_lt, slice_get};
 ghost use Rattle.std.specs.List.{slice_range};
 ghost use Rattle.std.specs.List.Sorted.{IsNonDecreasingBy};

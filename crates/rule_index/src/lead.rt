@@ -1,3 +1,6 @@
+//! The run that the merge in `candidates` is reading. Below its limit, no other run has a record, so the other cursors are not
+//! compared.
+
 ghost use Rattle.std.specs.Prelude.{◌≤◌};
 ghost use Rattle.rule_index.specs.declared.row.TheConstants.{NO_ROW};
 

@@ -1,3 +1,9 @@
+//! Rows sorted by class and then by number, and the searches in them.
+//!
+//! A class and a number are compared as one number, the rank. So the rows of a class are an interval, and a search for a rank
+//! finds its start. Sorting n rows costs O(n log n) and does not allocate. `place_from` is a binary search. `place_behind`
+//! moves row by row from a known index, since a cursor usually skips few rows.
+
 ghost use Rattle.std.specs.Prelude.{◌≡◌, ◌≤◌, ◌+◌, ◌*◌, ℕ, List, IfOk, length, nat_lt};
 ghost use Rattle.std.specs.List.Sorted.{IsNonDecreasingBy};
 ghost use Rattle.kmn_base.specs.declared.limits.TheConstants.{RECORDS};

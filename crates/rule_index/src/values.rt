@@ -1,3 +1,10 @@
+//! Numbers for the contents of stores: two stores have the same number if and only if they have the same elements.
+//!
+//! Each content is encoded as a list of numbers. The remainder of a number by 3 is the kind of an element and determines
+//! whether a second number follows, so different contents have different codes. A map then assigns each code the index of the
+//! first content with this code. Index 0 is the empty content, which a missing store has. For n stores with m elements,
+//! building costs O((n + m) log n). Each condition then compares two numbers instead of two contents.
+
 ghost use Rattle.std.specs.Prelude.{◌≡◌, ◌++◌, ◌<◌, [], ◌∷◌, IfOk, OnOk, length, map};
 ghost use Rattle.rule_index.specs.Values.{element_code, number_for, value_code, AreNumbersOf, known_in, IsNumbered};
 

@@ -1,3 +1,9 @@
+//! Remembers, for one choice, the positions of items in stores.
+//!
+//! Forgetting takes constant time: the cells of a store have the number of the choice at which they were written, and cells of
+//! another choice count as unknown. They are cleared when the store is next written. All cells are cleared only when the choice
+//! numbers are used up.
+
 ghost use Rattle.std.specs.Prelude.{◌≡◌, ◌+◌, ◌≢◌, ◌⊎◌, ◌≤◌, ◌<◌, ℕ, Option, IfOk};
 ghost use Rattle.kmn_base.specs.declared.limits.TheConstants.{STORES, WINDOW_ITEMS};
 ghost use Rattle.rule_matching.specs.KnownPlaces.{known_place, room, memorable, said, known_of, IsBlank};

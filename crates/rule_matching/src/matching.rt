@@ -1,3 +1,14 @@
+//! Selects a record: tests the candidates of the index in file order, and returns the first one that holds.
+//!
+//! The candidates contain each record that holds (`rule_index::laws`), so the result is the first such record of the group. The
+//! test of a record compares its context with the last items before the caret, item by item, and ends at the first one that
+//! does not match. For each item it notes only the distance from the caret and the store of an `any` (`TakenItem`). That
+//! determines what the record catches, since neither the text nor the stores change during a choice. Positions in stores are
+//! looked up for an `index`, and for the record that holds.
+//!
+//! Whether a store of the file contains an item is one bit, and each looked-up position is remembered, so a choice takes about
+//! one step for each context item that it compares: at most 60 for each candidate.
+
 ghost use Rattle.std.specs.Prelude.{◌≡◌, ◌≤◌, ◌<◌, ◌-◌, [], IfSome, Some, None, drop, false, find, length, map, nat_eq, option_and_then, option_map, slice_get, true, if◌then◌else◌};
 ghost use Rattle.std.specs.List.{Contains};
 ghost use Rattle.kmn_base.specs.declared.limits.TheConstants.{CONTEXT_ITEMS};

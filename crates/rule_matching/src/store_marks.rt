@@ -1,3 +1,8 @@
+//! Remembers, for one choice, which stores contain each of the last items: one word for each store, with one bit for each item.
+//!
+//! The stores of an item are marked once, from their rows in the index. Each later test is one bit. As in `known_places`, the
+//! words have the number of their choice, so that forgetting takes constant time.
+
 ghost use Rattle.std.specs.Prelude.{◌≡◌, ◌+◌, ◌≢◌, ◌⊎◌, ◌≤◌, ◌<◌, ◌||◌, ℕ, true, false, length, IfOk, nat_lt};
 ghost use Rattle.kmn_base.specs.declared.limits.TheConstants.{STORES, WINDOW_ITEMS};
 ghost use Rattle.rule_matching.specs.StoreMarks.{has_distance, has_holder, is_known, is_marked, is_marked_among, is_marked_by, marked_room, AreMarkedUntil};

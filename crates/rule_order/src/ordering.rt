@@ -1,5 +1,9 @@
 //! The order of records: the longer context first, then the earlier line, then the smaller position, which is the key's
 //! position in a key store and the order of the two records of a cased key.
+//!
+//! The first record that holds is selected, so this is the order of precedence. The three numbers are one sort key. If the
+//! rules of a program have distinct lines, no two records have the same key, so an unstable sort has only one possible result
+//! (`program_has_its_tables` of `compile_laws`). Sorting the n records of a group costs O(n log n) and does not allocate.
 
 ghost use Rattle.std.specs.List.Sorted.{IsPermutation, IsSortedBy};
 ghost use Rattle.compile_laws.specs.Compiles.{stands_before, IsOrderedGroup, AreOrderedGroups};

@@ -1,3 +1,11 @@
+//! Checks certificates. A valid certificate proves that its record is never selected.
+//!
+//! The check is a recursion over the certificate. A leaf is valid if an earlier record covers the subject, which then holds
+//! whenever the subject does. A split distinguishes the items of the store of an `any`: whenever the subject holds, one of them
+//! is at that position, so the split is valid if each item has a valid part with the position narrowed to the item. A narrowed
+//! position can't be split again, so the recursion is not deeper than the context is long. Each leaf costs one comparison of
+//! two records. The check does not rely on the search that found the certificate, and does not allocate.
+
 ghost use Rattle.std.specs.Prelude.{◌≡◌, ◌≤◌, length, slice_get, filter_map, option_map};
 ghost use Rattle.std.specs.Option.{option_flatten};
 ghost use Rattle.kmn_base.specs.declared.limits.TheConstants.{CONTEXT_ITEMS};

@@ -1,5 +1,11 @@
 //! Finds what covers a record: the first earlier record that covers it, or the first position at which earlier records cover it
 //! item by item.
+//!
+//! First, each earlier record is compared with the record. If none covers it, the earlier records are filtered once: those that
+//! miss two positions can't cover it with one position narrowed (`near`). Then each position of an `any` is tried, with the
+//! remaining records for each item of its store. So each result is the lowest possible one. Certificates with nested splits are
+//! valid, but are not searched. For n earlier records, of which k remain, and m items in the tried stores, the cost is
+//! O(n + mk) comparisons.
 
 ghost use Rattle.std.specs.Prelude.{◌≡◌, ◌≤◌, ◌<◌, ◌^◌, ◌+◌, ◌&&◌, [], length, take, slice_get, IfOk, filter_map, map};
 ghost use Rattle.std.specs.List.{list_any, position_from};

@@ -1,4 +1,6 @@
-//! Earlier records that cover a record at all positions but one. Only these can cover it once that position is narrowed.
+//! Earlier records that miss at most one position of a record, apart from the positions of `context` items. Only these can
+//! cover the record once one position is narrowed, since that does not change the items of other positions, except those of
+//! `context` items that refer to it. Filtering n records costs n comparisons.
 
 ghost use Rattle.std.specs.Prelude.{◌≡◌, ◌+◌, ◌<◌, ◌^◌, ◌++◌, length, option_to_list, IfOk};
 ghost use Rattle.rule_shadow.specs.Keys.{fitting_presses};

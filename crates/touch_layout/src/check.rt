@@ -1,4 +1,10 @@
 //! The rules of a layout, in the order in which they are checked.
+//!
+//! `serde_json` parses the text to a tree. `layers` flattens the tree to a list of layers and a list of keys, in the order of
+//! their places, and reports the first part that has another shape. The remaining rules are then tests of one list element
+//! against tables: the ids of layers, and the names of the keys that records have. So the first element that breaks a rule is
+//! the first place of a fault. The lists borrow the texts of the tree. Tables are looked up by hash, so the expected time is
+//! linear in the sizes of the text and of the keyboard's tables.
 
 ghost use Rattle.std.specs.Prelude.{◌≡◌, IfOk, IfErr, Some, None, Ok, option_map, map};
 ghost use Rattle.serde_json.specs.View.{view};
