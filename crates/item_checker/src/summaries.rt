@@ -25,6 +25,7 @@ pub struct Summary {
     pub has_key: bool,
     pub has_far: bool,
     pub has_other: bool,
+    /// At most `FRONT_CHARACTERS` characters.
     pub front: Seq<char>,
 }
 
@@ -32,6 +33,7 @@ pub struct Summary {
 #[derive(Drop)]
 pub struct Summaries {
     pub names: NameTable,
+    /// One for each name, in the order of the names.
     pub summaries: Seq<Summary>,
 }
 

@@ -1,7 +1,7 @@
 //! Key presses, the keys of compiled rules, and the bits of shift flags.
 
-/// The shift flags that a compiled key may have: control and alt of either side, shift, caps lock, no caps lock, and the flag
-/// of a virtual key.
+/// The shift flags that a compiled key may have: control and alt of the left, the right or either side, shift, caps lock, no
+/// caps lock, and the flag of a virtual key.
 pub const SHIFT_FLAGS: u16 = 0x437F;
 
 // The shift flags one by one. A press has the sides, shift and caps lock at the same bits.
@@ -39,6 +39,7 @@ pub enum RuleKey {
 /// A key press. `mods` has left control 1, right control 2, left alt 4, right alt 8, shift 16 and caps lock 256; other bits are ignored.
 #[derive(Clone, Copy, Debug, PartialEq, Eq)]
 pub struct KeyPress {
+    /// The code of a key of the key table, or of a custom key from 256 on.
     pub code: u16,
     pub mods: u16,
 }

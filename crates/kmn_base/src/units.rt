@@ -50,7 +50,8 @@ pub enum BadKind {
     U6,
 }
 
-/// The first position, in bytes, at which no item is spelled. `code` is the unlisted code of `U2`, else 0.
+/// The first position at which no item is spelled, in bytes from the start of the string. `code` is the unlisted code of `U2`,
+/// else 0.
 #[derive(Clone, Copy)]
 pub struct BadUnits {
     pub kind: BadKind,

@@ -1,6 +1,6 @@
 //! A physical line, and its state while its bytes are read.
 
-/// The state of a physical line after its bytes so far.
+/// The state of a physical line after its bytes so far. Positions are byte offsets in the source.
 #[derive(Clone, Copy)]
 pub struct LineState {
     /// The quote that is open, if any.

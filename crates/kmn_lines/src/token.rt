@@ -19,7 +19,7 @@ pub enum TokenKind {
     Comma,
 }
 
-/// A token: its kind, the number of its physical line, and the byte offsets of its text in the source.
+/// A token: its kind, the number of its physical line, from 1, and the byte offsets of its text in the source.
 #[derive(Clone, Copy, Debug, PartialEq, Eq)]
 pub struct Token {
     pub kind: TokenKind,

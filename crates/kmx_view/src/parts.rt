@@ -9,19 +9,21 @@ use kmx_format::places::{
     RULE_CONTEXT_AT, RULE_FLAGS_AT, RULE_LINE_AT, RULE_OUTPUT_AT, STORE_ELEMENTS_AT, STORE_NAME_AT,
 };
 
-/// The record of a store: its system id, and the offsets of its name and its elements.
+/// The record of a store: its system id, and the offsets of its name and its elements, in bytes from the start of the file.
 #[derive(Clone, Copy, PartialEq, Eq)]
 pub struct StoreRef {
+    /// 0 for an ordinary store.
     pub system: u32,
     pub name: u32,
     pub string: u32,
 }
 
-/// The record of a group: the offsets of its name, its match output and its nomatch output, the position and the count of its
-/// key records, and 0 for a group without keys.
+/// The record of a group: the byte offsets of its name, its match output and its nomatch output, the byte offset and the count
+/// of its key records, and 0 for a group without keys. At offset 0 is the empty string: the group then has no such output.
 #[derive(Clone, Copy, PartialEq, Eq)]
 pub struct GroupRef {
     pub name: u32,
+    /// The byte offset of the first key record. Ignored if `count` is 0.
     pub keys: u32,
     pub on_match: u32,
     pub on_nomatch: u32,
@@ -29,9 +31,10 @@ pub struct GroupRef {
     pub using_keys: u32,
 }
 
-/// A key record: its key, its line, its shift flags, and the offsets of its output and its context.
+/// A key record: its key, its source line, its shift flags, and the byte offsets of its output and its context.
 #[derive(Clone, Copy, PartialEq, Eq)]
 pub struct RuleRef {
+    /// A UTF-16 unit if `flags` is 0, otherwise the code of a virtual key. Ignored in a group without keys.
     pub key: u16,
     pub line: u32,
     pub flags: u32,

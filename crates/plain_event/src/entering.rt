@@ -293,6 +293,7 @@ fn enter(
 #[derive(Drop)]
 pub struct Pressed {
     pub state: EventState,
+    /// In the order in which their groups were entered.
     pub lines: Seq<u32>,
 }
 

@@ -15,7 +15,9 @@ use rule_engine::{Engine, StoreValue};
 /// An option value that a step changed: the current or the saved value of a store.
 #[derive(Clone, Copy, Debug, PartialEq, Eq)]
 pub struct Change {
+    /// From 0. The layer and the platform have the two numbers after the stores of the file.
     pub store: u32,
+    /// True for the saved value, false for the current value.
     pub saved: bool,
 }
 

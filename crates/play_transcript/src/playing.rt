@@ -26,7 +26,7 @@ use std::alloc::Global;
 /// The counts of a play: the number of its last step, of events that were done, and of expected texts that differed.
 #[derive(Clone, Copy)]
 pub struct Counts {
-    /// Saturates at the maximum of its type.
+    /// From 1, or 0 before the first step. Saturates at the maximum of its type.
     pub number: u32,
     pub events: usize,
     pub failed: usize,

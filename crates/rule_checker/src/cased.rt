@@ -17,6 +17,7 @@ use store_table::NameTable;
 #[derive(Drop)]
 pub struct StoreCodes {
     pub names: NameTable,
+    /// One set for each name, in the order of the names.
     pub codes: Seq<KeyCodes>,
 }
 

@@ -21,7 +21,9 @@ use store_table::NameTable;
 pub struct StoreCounts {
     pub cased: KeyCodes,
     pub names: NameTable,
+    /// The number of elements of each store, in the order of the names.
     pub counts: Seq<u32>,
+    /// The number of records for each store as a key, in the order of the names.
     pub records: Seq<u32>,
 }
 

@@ -26,8 +26,10 @@ use std::alloc::Global;
 pub struct Workspace {
     pub cache: CacheBox,
     pub options: Options,
+    /// By store number, with the layer and the platform after the stores of the file.
     pub truths: Vec<bool>,
     pub inserted: Inserted,
+    /// In the order in which their groups were entered.
     pub chosen: Vec<u32>,
     pub places: PlaceMemory,
 }

@@ -17,6 +17,7 @@ use std::alloc::Global;
 /// What the records of a rule have in common.
 #[derive(Drop)]
 pub struct Template {
+    /// From 1.
     pub line: u32,
     pub context: Seq<Pat>,
     pub pieces: Seq<Piece>,

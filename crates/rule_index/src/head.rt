@@ -13,6 +13,7 @@ use crate::rows::{place_behind, place_from, rank_of};
 #[derive(Clone, Copy, Drop)]
 pub struct Head {
     pub class: Class,
+    /// An index in the rows of the group.
     pub place: usize,
 }
 

@@ -4,6 +4,8 @@
 #[derive(Clone, Copy, Drop)]
 pub struct Holding {
     pub item: u32,
+    /// From 0. The layer and the platform have the two numbers after the stores of the file.
     pub store: u16,
+    /// From 0.
     pub place: u16,
 }

@@ -14,7 +14,9 @@ use std::marker::Model;
 /// that item in its store.
 #[derive(Clone, Copy, Default, Drop)]
 pub struct MatchedItem {
+    /// `None` for a condition or `nul`.
     pub item: Option<Item>,
+    /// From 0. `None` for all items except `any`.
     pub place: Option<usize>,
 }
 

@@ -12,6 +12,7 @@ use kmn_base::Item;
 /// is no item.
 #[derive(Clone, Copy, Default, Drop)]
 pub struct TakenItem {
+    /// 0 for the item directly before the caret.
     pub distance: usize,
     pub store: Option<u32>,
 }

@@ -6,7 +6,9 @@ use kmn_base::{Element, Item, Seq};
 /// item in its store.
 #[derive(Clone, Copy)]
 pub struct Catch {
+    /// `None` for a condition or `nul`.
     pub item: Option<Item>,
+    /// From 0. `None` for all items except `any`.
     pub place: Option<usize>,
 }
 
@@ -15,6 +17,7 @@ pub struct Catch {
 #[derive(Drop)]
 pub struct Caught {
     pub catches: Seq<Catch>,
+    /// From 0. `None` if the key is not a store.
     pub key_place: Option<usize>,
 }
 
@@ -22,14 +25,20 @@ pub struct Caught {
 /// stores. Counters saturate at the maximum of their type.
 #[derive(Drop)]
 pub struct EventState {
+    /// The items before the caret. The last one is directly before it.
     pub left: Seq<Item>,
     pub current: Seq<Seq<Element>>,
+    /// `None` if no value is saved.
     pub saved: Seq<Option<Seq<Element>>>,
+    /// Whether the key is passed on to the application.
     pub pass: bool,
     /// The event's remaining effects are skipped.
     pub stopped: bool,
     pub beeps: u32,
+    /// The number of groups that were entered.
     pub entered: u32,
+    /// The number of items that were put.
     pub put: u32,
+    /// The number of `save` items that acted.
     pub saves: u32,
 }

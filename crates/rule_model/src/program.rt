@@ -47,6 +47,7 @@ pub enum SrcItem {
 /// supported and `0xFFFF` for one that is read and dropped. `name` is empty except for an ordinary store.
 #[derive(Drop)]
 pub struct StoreDef {
+    /// The number of its first physical line, from 1.
     pub line: u32,
     pub system: u32,
     pub name: Text,
@@ -67,6 +68,7 @@ pub struct RuleDef {
     pub line: u32,
     pub kind: RuleKind,
     pub context: Seq<SrcItem>,
+    /// `None` in a match or nomatch statement, and in a group without keys.
     pub key: Option<SrcItem>,
     pub output: Seq<SrcItem>,
 }
@@ -74,6 +76,7 @@ pub struct RuleDef {
 /// A group statement with the rules that follow it.
 #[derive(Drop)]
 pub struct GroupDef {
+    /// The number of its first physical line, from 1.
     pub line: u32,
     pub name: Text,
     pub using_keys: bool,
@@ -83,8 +86,10 @@ pub struct GroupDef {
 /// A begin statement, of the kind `Unicode` or `ANSI`.
 #[derive(Drop)]
 pub struct BeginDef {
+    /// The number of its first physical line, from 1.
     pub line: u32,
     pub unicode: bool,
+    /// The name of the start group.
     pub group: Text,
 }
 

@@ -73,9 +73,10 @@ pub enum Out {
 }
 
 /// A key record. `line` is the source's line. `place` is twice the position in the key store of the source, else 0, and is 1
-/// larger for the second record of a cased key. A file does not contain it.
+/// larger for the second record of a cased key. A file does not contain `place`, so it is 0 in the tables of a file.
 #[derive(Drop)]
 pub struct Rule {
+    /// From 1 in the tables of a source; any number in a file.
     pub line: u32,
     pub place: u32,
     pub key: RuleKey,
@@ -87,6 +88,7 @@ pub struct Rule {
 #[derive(Drop)]
 pub struct Store {
     pub system: u32,
+    /// Empty if the store has no name.
     pub name: Text,
     pub elements: Seq<Element>,
 }
@@ -94,6 +96,7 @@ pub struct Store {
 /// A group of a file. An empty `on_match` or `on_nomatch` is absent.
 #[derive(Drop)]
 pub struct Group {
+    /// Empty if the group has no name.
     pub name: Text,
     pub using_keys: bool,
     pub rules: Seq<Rule>,
@@ -104,8 +107,11 @@ pub struct Group {
 /// All that a compiled keyboard contains. A start group of `0xFFFF_FFFF` means no start group.
 #[derive(Drop)]
 pub struct Tables {
+    /// As in a file: `0x0A00` is version 10.0.
     pub version: u16,
+    /// The number of the group, from 0.
     pub start_ansi: u32,
+    /// The number of the group, from 0.
     pub start_unicode: u32,
     pub stores: Seq<Store>,
     pub groups: Seq<Group>,

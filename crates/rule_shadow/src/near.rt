@@ -28,6 +28,7 @@ pub enum Miss {
 /// The number of a record, and the position that it misses, if any.
 #[derive(Clone, Copy, Drop)]
 pub struct Near {
+    /// From 0, in its group.
     pub rule: u32,
     pub miss: Miss,
 }

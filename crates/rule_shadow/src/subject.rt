@@ -11,6 +11,7 @@ use rule_model::{Group, Rule};
 pub struct Subject<'a> {
     pub tables: &'a FlaggedTables<'a>,
     pub group: &'a Group,
+    /// From 0.
     pub number: u32,
     pub rule: &'a Rule,
 }

@@ -15,6 +15,7 @@ use std::marker::Model;
 #[derive(Clone, Copy)]
 pub struct Hit {
     pub line: u32,
+    /// Saturates at the maximum of its type.
     pub count: u32,
 }
 
