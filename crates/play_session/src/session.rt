@@ -85,10 +85,9 @@ pub struct Session<'a> {
     engine: Engine<'a>,
     editor: Editor,
     number: u32,
-    /// Whether the last step was a press, so that the engine's inserted text and chosen lines are those of the step. Also true before
-    /// the first step.
+    /// False if the last step was not a key press. The engine's inserted text and selected lines are then those of an earlier step.
     typed: bool,
-    /// The stores that are options, in order. An event can change only these, so its cost depends only on their number.
+    /// The numbers of the stores that are options, in rising order. No event changes another store.
     options: Vec<u32>,
     changes: Vec<Change>,
 }
@@ -153,14 +152,15 @@ impl<'a> Session<'a> {
         })
     }
 
-    /// Creates a session on the same file, as `start` does. Does not scan the file again: both sessions share the lookup data of the file.
+    /// Creates a session on the same file, in the state that `start` returns. The two sessions share the index of the file, so the file
+    /// is not scanned again.
     pub fn fresh(&self, alloc: Global) -> Result<Session<'a>, Memory>
         ensures { IfOk result (λ session. session ≡ first_session self.now.tables) }
     {
         Session::with_engine(alloc, self.engine.fresh(alloc)?)
     }
 
-    /// Creates a session on the same file and in the same state. Later events in one of the two do not change the other.
+    /// Creates a session on the same file, in the state of this session. An event in one of the two does not change the other.
     pub fn copy(&self, alloc: Global) -> Result<Session<'a>, Memory>
         ensures { IfOk result (λ session. session ≡ self.now) }
     {
@@ -320,7 +320,8 @@ impl<'a> Session<'a> {
         &self.engine
     }
 
-    /// Returns the characters that the last step inserted, before the editor's default. Returns none if the step was not a press.
+    /// Returns the characters that the keyboard inserted in the last step, or an empty slice if the step was not a key press. A
+    /// character that the editor inserts by default is not among them.
     pub fn inserted(&self) -> &[char]
         ensures { result.now ≡ self.now.inserted }
     {

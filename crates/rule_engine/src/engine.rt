@@ -30,7 +30,7 @@ use std::mem;
 use std::sync::Arc;
 use virtual_keys::KeyDictionary;
 
-/// A keyboard at work: a compiled keyboard with its index, which all engines on the file share, and what an event works on.
+/// The engine of one text. Engines on the same file share its index, and each has its own workspace.
 pub struct Engine<'a> {
     indexed: Arc<IndexedKeyboard<'a>>,
     workspace: Workspace,
@@ -285,7 +285,7 @@ impl<'a> Engine<'a> {
     }
 }
 
-/// What a press leaves of the text before the caret and of the options.
+/// Performs a key press on this text with the values of a workspace, and returns the outcome and the workspace after the press.
 fn pressed(
     indexed: &IndexedKeyboard,
     left: &[char],

@@ -148,7 +148,8 @@ impl KnownPlaces {
     }
 
     /// Remembers until the next choice the position in a store of the item at a distance from the caret, or that the store does
-    /// not contain it. Has no effect if there is no space for it.
+    /// not contain it. Has no effect if there is no space for it. A position of `STORE_ELEMENTS` or more, which only a text of the
+    /// host can have, becomes unknown.
     pub fn remember(&mut self, store: u32, distance: usize, place: Option<usize>)
         ensures only { (s d : ℕ) (p : Option ℕ) → known_place self.new s d ≡ Some p
             → (known_place self.old s d ≡ Some p) ⊎ ((s ≡ store) × (d ≡ distance) × (p ≡ place)) }

@@ -242,7 +242,7 @@ fn held_record<'g>(
 
 /// Returns the first record of an entered group that holds, or `None`. Tests only the records that the index returns for the
 /// key press and the last item: no other record can hold. Writes what the record catches to `caught`, which is unchanged if no
-/// record holds. Each position of an item in a store is looked up once. What was known about positions before is forgotten
+/// record holds. A position that was looked up is remembered during the choice. What was known about positions before is forgotten
 /// first, so the content of `places` does not matter to the caller. Its capacity is unchanged.
 pub fn first_held<'g>(
     moment: &Moment<'_>,

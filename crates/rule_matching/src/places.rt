@@ -59,7 +59,7 @@ fn look_for(
 }
 
 /// Returns the first position of the item at a distance in the content of a store, or `None` if there is no such item. Looks it
-/// up once.
+/// up unless it is remembered.
 #[tactic(auto, using(crate::proofs::KnownPlaces::place_beyond))]
 fn place_before(
     choice: &Choice<'_>,
