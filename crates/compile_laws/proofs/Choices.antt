@@ -30,7 +30,7 @@ use Rattle.rule_model.specs.Naming.{SourceNames, names_of}
 use Rattle.rule_model.specs.Tab.{tab, tab_rule}
 use Rattle.rule_model.specs.Src.{src, src_pattern, src_key, src_rule, cased_keys}
 use Rattle.compile_laws.specs.Numbers.{Numbers, numbers_of}
-use Rattle.compile_laws.specs.Compiles.{file_pattern, rule_records, stands_before}
+use Rattle.compile_laws.specs.Compiles.{file_pattern, rule_records, precedes}
 use Rattle.rule_model.specs.OwnLines.{have_own_lines}
 use Rattle.compile_laws.proofs.Linked.{Linked}
 use Rattle.compile_laws.proofs.Known.{KnownRule}
@@ -108,7 +108,7 @@ best_rule-within names P caught [] h = λ x e. absurd (none-some x e)
 best_rule-within names P caught (r ∷ rs) h = with_within names P caught r (caught r) (best_rule names caught rs) h.0 refl (best_rule-within names P caught rs h.1)
 
 -- the order of records is a strict weak order, and for rules with different lines it is the order of the rules
-pub records_order : IsStrictWeakOrder stands_before
+pub records_order : IsStrictWeakOrder precedes
 records_order =
     ranks_by (then_total (then_total (back_total (on_total (λ (x : Rule). length x.context) nat_cmp_total)) (on_total (λ (x : Rule). x.line) nat_cmp_total)) (on_total (λ (x : Rule). x.place) nat_cmp_total)) (λ x. x)
 
@@ -122,7 +122,7 @@ lines_part : (la lb line_a line_b place_a place_b : ℕ) → nat_eq line_a line_
 lines_part la lb line_a line_b place_a place_b apart after = grind (arith, nat_tests)
 
 order-kept : (numbers : Numbers) (press : KeyPress) (names : SourceNames) (a b : ChosenRule) → nat_eq a.0.line b.0.line ≡ false →
-    stands_before (chosen_record numbers press a) (chosen_record numbers press b) ≡ goes_before (src_rule names a.0) (src_rule names b.0)
+    precedes (chosen_record numbers press a) (chosen_record numbers press b) ≡ goes_before (src_rule names a.0) (src_rule names b.0)
 order-kept numbers press names a b apart =
     lines_decide (length (map (file_pattern numbers) a.0.context)) (length (map (file_pattern numbers) b.0.context)) a.0.line b.0.line (chosen_record numbers press a).place (chosen_record numbers press b).place apart
     ∙ (λ i. nat_lt (lengths b i) (lengths a i) || (nat_eq (lengths a i) (lengths b i) && nat_lt a.0.line b.0.line))
@@ -138,7 +138,7 @@ either_record numbers press false x y = refl
 -- the earlier of two records is the record of the better rule
 prefer-kept : (numbers : Numbers) (press : KeyPress) (names : SourceNames) (r : RuleDef) (c : Option Caught) (others : Option ChosenRule) →
     ((x : ChosenRule) → others ≡ Some x → nat_eq x.0.line r.line ≡ false) →
-    prefer stands_before (option_map (caught_record numbers press r) c) (option_map (chosen_record numbers press) others) ≡ option_map (chosen_record numbers press) (best_rule_with names r c others)
+    prefer precedes (option_map (caught_record numbers press r) c) (option_map (chosen_record numbers press) others) ≡ option_map (chosen_record numbers press) (best_rule_with names r c others)
 prefer-kept numbers press names r None others apart = refl
 prefer-kept numbers press names r (Some c) None apart = refl
 prefer-kept numbers press names r (Some c) (Some other) apart =
@@ -148,15 +148,15 @@ prefer-kept numbers press names r (Some c) (Some other) apart =
 records-apart : (numbers : Numbers) (press : KeyPress) (r : RuleDef) (c : Option Caught) (others : Option ChosenRule) →
     ((x : ChosenRule) → others ≡ Some x → nat_eq x.0.line r.line ≡ false) →
     (x y : Rule) → option_map (caught_record numbers press r) c ≡ Some x → option_map (chosen_record numbers press) others ≡ Some y →
-    stands_before y x ≡ false → stands_before x y ≡ true
+    precedes y x ≡ false → precedes x y ≡ true
 records-apart numbers press r None others apart x y e f after = absurd (none-some x e)
 records-apart numbers press r (Some c) None apart x y e f after = absurd (none-some y f)
 records-apart numbers press r (Some c) (Some other) apart x y e f after =
     let at_x = same_Some (caught_record numbers press r c) x e in
     let at_y = same_Some (chosen_record numbers press other) y f in
-    (λ i. stands_before (sym at_x i) (sym at_y i))
+    (λ i. precedes (sym at_x i) (sym at_y i))
     ∙ lines_part (length (map (file_pattern numbers) other.0.context)) (length (map (file_pattern numbers) r.context)) other.0.line r.line (chosen_record numbers press other).place (caught_record numbers press r c).place
-    (apart other refl) ((λ i. stands_before (at_y i) (at_x i)) ∙ after)
+    (apart other refl) ((λ i. precedes (at_y i) (at_x i)) ∙ after)
 
 -- if a rule has its own line, no other rule is in this line
 other_lines : (r : RuleDef) (rs : List RuleDef) → list_any (λ (other : RuleDef). nat_eq other.line r.line) rs ≡ false → AllByRecursion (λ (other : RuleDef). nat_eq other.line r.line ≡ false) rs
@@ -197,7 +197,7 @@ module _ (p : Program) (t : Tables) (l : Linked p t) (values : List (List Elemen
   best_now rs = best_rule (names_of p) (rule_caught p t l values left press using_keys) rs
 
   best_first : (rs : List RuleDef) → AllByRecursion (KnownRule p using_keys) rs → have_own_lines rs ≡ true →
-      FirstIfAny stands_before (passes p t l values left press using_keys) (flat_map (rule_records (numbers_of p)) rs) (option_map (chosen_record (numbers_of p) press) (best_now rs))
+      FirstIfAny precedes (passes p t l values left press using_keys) (flat_map (rule_records (numbers_of p)) rs) (option_map (chosen_record (numbers_of p) press) (best_now rs))
   unfolding Within
   best_first [] known lines = All-nil (λ y. passes p t l values left press using_keys y ≡ false)
   best_first (r ∷ rs) known lines =
@@ -205,9 +205,9 @@ module _ (p : Program) (t : Tables) (l : Linked p t) (values : List (List Elemen
       let caught = rule_caught p t l values left press using_keys in
       let apart : (x : ChosenRule) → best_now rs ≡ Some x → nat_eq x.0.line r.line ≡ false =
       λ x e. (best_rule-within (names_of p) (λ (other : RuleDef). nat_eq other.line r.line ≡ false) caught rs (other_lines r rs (not-true _ each.0)) x e).0 in
-      subst (FirstIfAny stands_before (passes p t l values left press using_keys) (flat_map (rule_records (numbers_of p)) (r ∷ rs)))
+      subst (FirstIfAny precedes (passes p t l values left press using_keys) (flat_map (rule_records (numbers_of p)) (r ∷ rs)))
       (prefer-kept (numbers_of p) press (names_of p) r (caught r) (best_now rs) apart)
-      (FirstIfAny-append stands_before (passes p t l values left press using_keys) (less_trans stands_before records_order)
+      (FirstIfAny-append precedes (passes p t l values left press using_keys) (less_trans precedes records_order)
       (rule_records (numbers_of p) r) (flat_map (rule_records (numbers_of p)) rs)
       (option_map (caught_record (numbers_of p) press r) (caught r)) (option_map (chosen_record (numbers_of p) press) (best_now rs))
       (rule_first p t l values left press using_keys r known.0) (best_first rs known.1 each.1)
@@ -252,7 +252,7 @@ module _ (p : Program) (t : Tables) (l : Linked p t) (values : List (List Elemen
   tab_chosen x = (tab_rule t.stores using_keys (chosen_record (numbers_of p) press x), lost x.1)
 
   found_chosen : (o : Option ChosenRule) (xs : List Rule) → ((x : ChosenRule) → o ≡ Some x → BestKnown x) →
-      FirstIfAny stands_before (passes p t l values left press using_keys) xs (option_map (chosen_record (numbers_of p) press) o) →
+      FirstIfAny precedes (passes p t l values left press using_keys) xs (option_map (chosen_record (numbers_of p) press) o) →
       option_and_then (λ x. option_map (λ c. (tab_rule t.stores using_keys x, c)) (record_caught p t l values left press using_keys x)) (option_map (chosen_record (numbers_of p) press) o)
       ≡ option_map tab_chosen o
   found_chosen None xs known h = refl
@@ -261,12 +261,12 @@ module _ (p : Program) (t : Tables) (l : Linked p t) (values : List (List Elemen
 
   -- the first record of a sorted table that holds is the record of the best rule
   pub choice-kept : (rs : List RuleDef) → AllByRecursion (KnownRule p using_keys) rs → have_own_lines rs ≡ true →
-      (table : List Rule) → IsPermutation (flat_map (rule_records (numbers_of p)) rs) table → IsSortedBy stands_before table →
+      (table : List Rule) → IsPermutation (flat_map (rule_records (numbers_of p)) rs) table → IsSortedBy precedes table →
       first (holds (content (tab t).stores values) left press) (map (tab_rule t.stores using_keys) table) ≡ option_map tab_chosen (best_now rs)
   choice-kept rs known lines table same sorted =
-      let h = FirstIfAny-permutation stands_before (passes p t l values left press using_keys) (flat_map (rule_records (numbers_of p)) rs) table same
+      let h = FirstIfAny-permutation precedes (passes p t l values left press using_keys) (flat_map (rule_records (numbers_of p)) rs) table same
       (option_map (chosen_record (numbers_of p) press) (best_now rs)) (best_first rs known lines) in
       first-found (tab_rule t.stores using_keys) (holds (content (tab t).stores values) left press) table
       ∙ (ap (option_and_then (λ x. option_map (λ c. (tab_rule t.stores using_keys x, c)) (record_caught p t l values left press using_keys x)))
-      (found_first stands_before (passes p t l values left press using_keys) table (rising stands_before records_order table sorted) (option_map (chosen_record (numbers_of p) press) (best_now rs)) h)
+      (found_first precedes (passes p t l values left press using_keys) table (rising precedes records_order table sorted) (option_map (chosen_record (numbers_of p) press) (best_now rs)) h)
       ∙ found_chosen (best_now rs) table (best_known rs known) h)

@@ -19,7 +19,7 @@ use Rattle.rule_model.specs.declared.tables.Rule.{Rule}
 use Rattle.rule_model.specs.Naming.{names_of, stores_of}
 use Rattle.rule_model.specs.Src.{cased_keys}
 use Rattle.compile_laws.specs.Numbers.{values_of, numbers_of, compiled_stores}
-use Rattle.compile_laws.specs.Compiles.{file_group, stands_before}
+use Rattle.compile_laws.specs.Compiles.{file_group, precedes}
 
 abbrev pub letters : List ℕ → List SrcItem
 letters text = map source.Char text
@@ -86,7 +86,7 @@ unfolding names_of stores_of values_of same_name code_in cased_keys
 records_numbered = refl
 
 -- the longer context is first, and the elements of a key store are in their order
-order_numbered : IsSortedBy stands_before (of_z ∷ of_a ∷ of_b ∷ [])
+order_numbered : IsSortedBy precedes (of_z ∷ of_a ∷ of_b ∷ [])
 order_numbered zero d low less = refl
 order_numbered (suc zero) d low less = refl
 order_numbered (suc (suc k)) d low less = absurd (omega arith)

@@ -36,7 +36,7 @@ use Rattle.rule_model.specs.Enter.{by_default}
 use Rattle.rule_model.specs.Event.{happening}
 use Rattle.rule_model.specs.Trace.{Step, trace}
 use Rattle.compile_laws.specs.Numbers.{values_of, numbers_of}
-use Rattle.compile_laws.specs.Compiles.{Compiles, IsOrderedGroup, AreOrderedGroups, stands_before, file_group}
+use Rattle.compile_laws.specs.Compiles.{Compiles, IsOrderedGroup, AreOrderedGroups, precedes, file_group}
 use Rattle.compile_laws.specs.WellNamed.{IsWellNamed}
 use Rattle.compile_laws.proofs.Whole.{meaning_kept}
 use Rattle.compile_laws.specs.Ordered.{compiled_tables}
@@ -290,7 +290,7 @@ toggle_expanded : map (file_group (numbers_of toggle)) toggle.groups ≡ toggle_
 unfolding played
 toggle_expanded = refl
 
-toggle_sorted : IsSortedBy stands_before (toggle_last ∷ toggle_first)
+toggle_sorted : IsSortedBy precedes (toggle_last ∷ toggle_first)
 toggle_sorted zero d low less = refl
 toggle_sorted (suc zero) d low less = refl
 toggle_sorted (suc (suc k)) d low less = absurd (omega arith)

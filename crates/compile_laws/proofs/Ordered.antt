@@ -27,7 +27,7 @@ use Rattle.rule_model.specs.Hold.{key_of_element}
 use Rattle.rule_model.specs.Naming.{elements_named}
 use Rattle.compile_laws.specs.Numbers.{Numbers, numbers_of}
 use Rattle.rule_model.specs.Src.{is_plain}
-use Rattle.compile_laws.specs.Compiles.{has_halves, half_key, key_records, IsOrderedGroup, file_record, own_key, records_from, keyed_records, rule_records, file_group, stands_before}
+use Rattle.compile_laws.specs.Compiles.{has_halves, half_key, key_records, IsOrderedGroup, file_record, own_key, records_from, keyed_records, rule_records, file_group, precedes}
 use Rattle.compile_laws.specs.Ordered.{placed, in_order, ordered_group, compiled_tables}
 use Rattle.rule_model.specs.OwnLines.{have_own_lines}
 use Rattle.compile_laws.specs.Law.{TablesAreOnlyOnes, ProgramCompiles}
@@ -243,49 +243,49 @@ records_apart numbers (r ∷ rs) own a b in_a in_b line place =
 -- the first record of a list, if any, does not precede this one
 abbrev HeadBehind : Rule → List Rule → Type 0
 HeadBehind y [] = Unit {0}
-HeadBehind y (x ∷ xs) = stands_before x y ≡ false
+HeadBehind y (x ∷ xs) = precedes x y ≡ false
 
-sorted_tail : (x : Rule) (xs : List Rule) → IsSortedBy stands_before (x ∷ xs) → IsSortedBy stands_before xs
+sorted_tail : (x : Rule) (xs : List Rule) → IsSortedBy precedes (x ∷ xs) → IsSortedBy precedes xs
 sorted_tail x xs up = λ k d low less.
     let e : suc k + 1 ≡ suc (k + 1) = omega arith in
-    ap (λ m. stands_before (get_or (x ∷ xs) m d) (get_or xs k d)) (sym e) ∙ up (suc k) d (omega arith) (omega (arith, less))
+    ap (λ m. precedes (get_or (x ∷ xs) m d) (get_or xs k d)) (sym e) ∙ up (suc k) d (omega arith) (omega (arith, less))
 
-sorted_head : (x : Rule) (xs : List Rule) → IsSortedBy stands_before (x ∷ xs) → HeadBehind x xs
+sorted_head : (x : Rule) (xs : List Rule) → IsSortedBy precedes (x ∷ xs) → HeadBehind x xs
 sorted_head x [] up = tt
 sorted_head x (y ∷ ys) up = up 0 x (omega arith) (omega arith)
 
-sorted_cons : (x : Rule) (xs : List Rule) → HeadBehind x xs → IsSortedBy stands_before xs → IsSortedBy stands_before (x ∷ xs)
+sorted_cons : (x : Rule) (xs : List Rule) → HeadBehind x xs → IsSortedBy precedes xs → IsSortedBy precedes (x ∷ xs)
 sorted_cons x [] head up = λ k d low less. absurd (omega (arith, less))
 sorted_cons x (y ∷ ys) head up = go
   where
-    go : IsSortedBy stands_before (x ∷ y ∷ ys)
+    go : IsSortedBy precedes (x ∷ y ∷ ys)
     go zero d low less = head
     go (suc k) d low less =
         let e : suc k + 1 ≡ suc (k + 1) = omega arith in
-        ap (λ m. stands_before (get_or (x ∷ y ∷ ys) m d) (get_or (y ∷ ys) k d)) e ∙ up k d (omega arith) (omega (arith, less))
+        ap (λ m. precedes (get_or (x ∷ y ∷ ys) m d) (get_or (y ∷ ys) k d)) e ∙ up k d (omega arith) (omega (arith, less))
 
-placed_head : (y r : Rule) (xs : List Rule) → stands_before r y ≡ false → HeadBehind y xs → HeadBehind y (placed r xs)
+placed_head : (y r : Rule) (xs : List Rule) → precedes r y ≡ false → HeadBehind y xs → HeadBehind y (placed r xs)
 placed_head y r [] behind head = behind
-placed_head y r (x ∷ xs) behind head = by_case (stands_before x r) refl
+placed_head y r (x ∷ xs) behind head = by_case (precedes x r) refl
   where
-    by_case : (b : Bool) → stands_before x r ≡ b → HeadBehind y (placed r (x ∷ xs))
+    by_case : (b : Bool) → precedes x r ≡ b → HeadBehind y (placed r (x ∷ xs))
     by_case true e = rw e head
     by_case false e = rw e behind
 
-placed_sorted : (r : Rule) (xs : List Rule) → IsSortedBy stands_before xs → IsSortedBy stands_before (placed r xs)
+placed_sorted : (r : Rule) (xs : List Rule) → IsSortedBy precedes xs → IsSortedBy precedes (placed r xs)
 placed_sorted r [] up = sorted_cons r [] tt up
-placed_sorted r (x ∷ xs) up = by_case (placed_sorted r xs (sorted_tail x xs up)) (stands_before x r) refl
+placed_sorted r (x ∷ xs) up = by_case (placed_sorted r xs (sorted_tail x xs up)) (precedes x r) refl
   where
-    by_case : IsSortedBy stands_before (placed r xs) → (b : Bool) → stands_before x r ≡ b → IsSortedBy stands_before (placed r (x ∷ xs))
+    by_case : IsSortedBy precedes (placed r xs) → (b : Bool) → precedes x r ≡ b → IsSortedBy precedes (placed r (x ∷ xs))
     by_case behind true e =
         rw e (sorted_cons x (placed r xs) (placed_head x r xs (records_order.one_way x r e) (sorted_head x xs up)) behind)
     by_case behind false e = rw e (sorted_cons r (x ∷ xs) e up)
 
 placed_permutes : (r : Rule) (xs : List Rule) → IsPermutation (r ∷ xs) (placed r xs)
 placed_permutes r [] = IsPermutation-refl (r ∷ [])
-placed_permutes r (x ∷ xs) = by_case (placed_permutes r xs) (stands_before x r) refl
+placed_permutes r (x ∷ xs) = by_case (placed_permutes r xs) (precedes x r) refl
   where
-    by_case : IsPermutation (r ∷ xs) (placed r xs) → (b : Bool) → stands_before x r ≡ b → IsPermutation (r ∷ x ∷ xs) (placed r (x ∷ xs))
+    by_case : IsPermutation (r ∷ xs) (placed r xs) → (b : Bool) → precedes x r ≡ b → IsPermutation (r ∷ x ∷ xs) (placed r (x ∷ xs))
     by_case behind true e =
         rw e (IsPermutation-trans (r ∷ x ∷ xs) (x ∷ r ∷ xs) (x ∷ placed r xs)
         (IsPermutation-sym (x ∷ r ∷ xs) (r ∷ x ∷ xs) (IsPermutation-middle (x ∷ []) r xs))
@@ -297,7 +297,7 @@ in_order_permutes [] = IsPermutation-refl []
 in_order_permutes (r ∷ rs) =
     IsPermutation-trans (r ∷ rs) (r ∷ in_order rs) (placed r (in_order rs)) (IsPermutation-cons r rs (in_order rs) (in_order_permutes rs)) (placed_permutes r (in_order rs))
 
-pub in_order_sorted : (rs : List Rule) → IsSortedBy stands_before (in_order rs)
+pub in_order_sorted : (rs : List Rule) → IsSortedBy precedes (in_order rs)
 in_order_sorted [] = λ k d low less. absurd (omega (arith, less))
 in_order_sorted (r ∷ rs) = placed_sorted r (in_order rs) (in_order_sorted rs)
 
@@ -309,19 +309,19 @@ keys_same : (la lb line_a line_b place_a place_b : ℕ) →
 keys_same la lb line_a line_b place_a place_b one other = (grind (arith, nat_tests), grind (arith, nat_tests))
 
 sorted_same : (numbers : Numbers) (rs : List RuleDef) → have_own_lines rs ≡ true → (table : List Rule) →
-    IsPermutation (flat_map (rule_records numbers) rs) table → IsSortedBy stands_before table → table ≡ in_order (flat_map (rule_records numbers) rs)
+    IsPermutation (flat_map (rule_records numbers) rs) table → IsSortedBy precedes table → table ≡ in_order (flat_map (rule_records numbers) rs)
 sorted_same numbers rs own table same sorted =
     let records : List Rule = flat_map (rule_records numbers) rs in
     let among : Rule → Type 0 = Contains records in
-    same_rising stands_before records_order among
+    same_rising precedes records_order among
     (λ a b in_a in_b one other.
     let keys = keys_same (length a.context) (length b.context) a.line b.line a.place b.place one other in
     records_apart numbers rs own a b in_a in_b keys.0 keys.1)
     (in_order records) table
     (All-permutation among records (in_order records) (in_order_permutes records) (All-contains_itself records))
     (All-permutation among records table same (All-contains_itself records))
-    (rising stands_before records_order (in_order records) (in_order_sorted records))
-    (rising stands_before records_order table sorted)
+    (rising precedes records_order (in_order records) (in_order_sorted records))
+    (rising precedes records_order table sorted)
     (λ f. sum_by-IsPermutation f records table same ∙ sym (sum_by-IsPermutation f records (in_order records) (in_order_permutes records)))
 
 -- a group that a group compiles to is the group with its records in order

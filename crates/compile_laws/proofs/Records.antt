@@ -27,7 +27,7 @@ use Rattle.rule_model.specs.Naming.{names_of, stores_of, elements_named}
 use Rattle.rule_model.specs.Tab.{tab, tab_pattern, tab_rule}
 use Rattle.rule_model.specs.Src.{src, src_pattern, src_key, src_rule, cased_keys}
 use Rattle.compile_laws.specs.Numbers.{Numbers, numbers_of}
-use Rattle.compile_laws.specs.Compiles.{file_pattern, has_halves, half_key, file_record, key_records, records_from, own_key, keyed_records, rule_records, stands_before}
+use Rattle.compile_laws.specs.Compiles.{file_pattern, has_halves, half_key, file_record, key_records, records_from, own_key, keyed_records, rule_records, precedes}
 use Rattle.compile_laws.specs.WellNamed.{is_known_pattern, is_known_key, is_fixed, are_keys}
 use Rattle.compile_laws.proofs.Linked.{Linked}
 use Rattle.compile_laws.proofs.Known.{KnownRule, has_values}
@@ -107,15 +107,15 @@ in_place length_of line n m less = grind (arith, nat_tests)
 
 -- two records of a rule are in the order of their positions
 placed : (numbers : Numbers) (r : RuleDef) (a b : Option ℕ) (h g : ℕ) (k l : RuleKey) → 2 * unwrap_or a 0 + h < 2 * unwrap_or b 0 + g →
-    stands_before (file_record numbers r a h k) (file_record numbers r b g l) ≡ true
+    precedes (file_record numbers r a h k) (file_record numbers r b g l) ≡ true
 placed numbers r a b h g k l less = in_place (length (map (file_pattern numbers) r.context)) r.line (2 * unwrap_or a 0 + h) (2 * unwrap_or b 0 + g) less
 
 -- the records of a key store are in order
 behind_place : (numbers : Numbers) (r : RuleDef) (n h : ℕ) (k : RuleKey) (m : ℕ) (es : List Element) → 2 * n + h < 2 * m →
-    All (λ y. stands_before (file_record numbers r (Some n) h k) y ≡ true) (records_from numbers r m es)
-behind_place numbers r n h k m [] less = All-nil (λ y. stands_before (file_record numbers r (Some n) h k) y ≡ true)
+    All (λ y. precedes (file_record numbers r (Some n) h k) y ≡ true) (records_from numbers r m es)
+behind_place numbers r n h k m [] less = All-nil (λ y. precedes (file_record numbers r (Some n) h k) y ≡ true)
 behind_place numbers r n h k m (e ∷ es) less =
-    let P : Rule → Type 0 = λ y. stands_before (file_record numbers r (Some n) h k) y ≡ true in
+    let P : Rule → Type 0 = λ y. precedes (file_record numbers r (Some n) h k) y ≡ true in
     let l : RuleKey = unwrap_or (key_of_element e) key.Any in
     let more : List Rule = records_from numbers r (m + 1) es in
     let rest : All P more = behind_place numbers r n h k (m + 1) es (omega arith) in
@@ -126,35 +126,35 @@ behind_place numbers r n h k m (e ∷ es) less =
     (λ _. All-cons P x (y ∷ more) (placed numbers r (Some n) (Some m) h 0 k (half_key 0 l) (omega arith)) (All-cons P y more (placed numbers r (Some n) (Some m) h 1 k (half_key 1 l) (omega arith)) rest))
     (λ _. All-cons P z more (placed numbers r (Some n) (Some m) h 0 k l (omega arith)) rest)
 
-store_ascends : (numbers : Numbers) (r : RuleDef) (n : ℕ) (es : List Element) → Ascending stands_before (records_from numbers r n es)
+store_ascends : (numbers : Numbers) (r : RuleDef) (n : ℕ) (es : List Element) → Ascending precedes (records_from numbers r n es)
 store_ascends numbers r n [] = tt
 store_ascends numbers r n (e ∷ es) =
     let k : RuleKey = unwrap_or (key_of_element e) key.Any in
     let more : List Rule = records_from numbers r (n + 1) es in
-    let rest : Ascending stands_before more = store_ascends numbers r (n + 1) es in
+    let rest : Ascending precedes more = store_ascends numbers r (n + 1) es in
     let x : Rule = file_record numbers r (Some n) 0 (half_key 0 k) in
     let y : Rule = file_record numbers r (Some n) 1 (half_key 1 k) in
     let z : Rule = file_record numbers r (Some n) 0 k in
-    cond_both (has_halves numbers.cased k) (x ∷ y ∷ []) (z ∷ []) (λ xs. Ascending stands_before (xs ++ more))
+    cond_both (has_halves numbers.cased k) (x ∷ y ∷ []) (z ∷ []) (λ xs. Ascending precedes (xs ++ more))
     (λ _. (
-      All-cons (λ w. stands_before x w ≡ true) y more (placed numbers r (Some n) (Some n) 0 1 (half_key 0 k) (half_key 1 k) (omega arith)) (behind_place numbers r n 0 (half_key 0 k) (n + 1) es (omega arith)),
+      All-cons (λ w. precedes x w ≡ true) y more (placed numbers r (Some n) (Some n) 0 1 (half_key 0 k) (half_key 1 k) (omega arith)) (behind_place numbers r n 0 (half_key 0 k) (n + 1) es (omega arith)),
       (behind_place numbers r n 1 (half_key 1 k) (n + 1) es (omega arith), rest),
     ))
     (λ _. (behind_place numbers r n 0 k (n + 1) es (omega arith), rest))
 
-one_ascends : (x : Rule) → Ascending stands_before (x ∷ [])
-one_ascends x = (All-nil (λ y. stands_before x y ≡ true), tt)
+one_ascends : (x : Rule) → Ascending precedes (x ∷ [])
+one_ascends x = (All-nil (λ y. precedes x y ≡ true), tt)
 
-key_ascends : (numbers : Numbers) (r : RuleDef) (k : RuleKey) → Ascending stands_before (key_records numbers r None k)
+key_ascends : (numbers : Numbers) (r : RuleDef) (k : RuleKey) → Ascending precedes (key_records numbers r None k)
 key_ascends numbers r k =
     let x : Rule = file_record numbers r None 0 (half_key 0 k) in
     let y : Rule = file_record numbers r None 1 (half_key 1 k) in
     let z : Rule = file_record numbers r None 0 k in
-    cond_both (has_halves numbers.cased k) (x ∷ y ∷ []) (z ∷ []) (Ascending stands_before)
-    (λ _. (All-cons (λ w. stands_before x w ≡ true) y [] (placed numbers r None None 0 1 (half_key 0 k) (half_key 1 k) (omega arith)) (All-nil (λ w. stands_before x w ≡ true)), one_ascends y))
+    cond_both (has_halves numbers.cased k) (x ∷ y ∷ []) (z ∷ []) (Ascending precedes)
+    (λ _. (All-cons (λ w. precedes x w ≡ true) y [] (placed numbers r None None 0 1 (half_key 0 k) (half_key 1 k) (omega arith)) (All-nil (λ w. precedes x w ≡ true)), one_ascends y))
     (λ _. one_ascends z)
 
-rule_ascends : (numbers : Numbers) (r : RuleDef) (item : Option SrcItem) → Ascending stands_before (keyed_records numbers r item)
+rule_ascends : (numbers : Numbers) (r : RuleDef) (item : Option SrcItem) → Ascending precedes (keyed_records numbers r item)
 rule_ascends numbers r (Some (source.Any store)) = store_ascends numbers r 0 (elements_named numbers.stores store)
 rule_ascends numbers r item = key_ascends numbers r (own_key numbers item)
 
@@ -332,8 +332,8 @@ module _ (p : Program) (t : Tables) (l : Linked p t) (values : List (List Elemen
 
   -- the first record of a rule
   pub rule_first : (r : RuleDef) → KnownRule p using_keys r →
-      FirstIfAny stands_before passes (rule_records (numbers_of p) r) (option_map (caught_record (numbers_of p) press r) (rule_caught r))
+      FirstIfAny precedes passes (rule_records (numbers_of p) r) (option_map (caught_record (numbers_of p) press r) (rule_caught r))
   rule_first r known =
-      subst (FirstIfAny stands_before passes (rule_records (numbers_of p) r))
+      subst (FirstIfAny precedes passes (rule_records (numbers_of p) r))
       (key_found r known r.key known.key ∙ ap (option_map (caught_record (numbers_of p) press r)) (sym (rule-parts r)))
-      (first_found stands_before passes (rule_records (numbers_of p) r) (rule_ascends (numbers_of p) r r.key))
+      (first_found precedes passes (rule_records (numbers_of p) r) (rule_ascends (numbers_of p) r r.key))

@@ -148,8 +148,8 @@ file_group numbers group =
 
 -- a record precedes another: its context is longer; or the contexts are equally long and its line is earlier; or the lines are equal and
 -- its position is earlier, which is the key's position in the key store and the order of a cased key's two records
-abbrev pub stands_before : Rule → Rule → Bool
-stands_before a b =
+abbrev pub precedes : Rule → Rule → Bool
+precedes a b =
     is_lt (ordering_then (ordering_then (nat_cmp (length b.context) (length a.context)) (nat_cmp a.line b.line)) (nat_cmp a.place b.place))
 
 -- a group has each record of another group once and in order, and is the same in all other fields
@@ -157,7 +157,7 @@ pub record IsOrderedGroup (expanded ordered : Group) : Type 0 where
   pub name : ordered.name ≡ expanded.name
   pub using_keys : ordered.using_keys ≡ expanded.using_keys
   pub records : IsPermutation expanded.rules ordered.rules
-  pub in_order : IsSortedBy stands_before ordered.rules
+  pub in_order : IsSortedBy precedes ordered.rules
   pub on_match : ordered.on_match ≡ expanded.on_match
   pub on_nomatch : ordered.on_nomatch ≡ expanded.on_nomatch
 

@@ -6,12 +6,12 @@ use Rattle.rule_model.specs.declared.tables.Group.{Group}
 use Rattle.rule_model.specs.declared.tables.Tables.{Tables}
 use Rattle.rule_model.specs.Src.{is_unicode}
 use Rattle.compile_laws.specs.Numbers.{numbers_of, number_of_start, version_of, compiled_stores}
-use Rattle.compile_laws.specs.Compiles.{file_group, stands_before, is_ansi}
+use Rattle.compile_laws.specs.Compiles.{file_group, precedes, is_ansi}
 
 -- inserts a record into sorted records, after all records that precede it
 abbrev pub placed : Rule → List Rule → List Rule
 placed record_now [] = record_now ∷ []
-placed record_now (other ∷ others) = if stands_before other record_now then other ∷ placed record_now others else record_now ∷ other ∷ others
+placed record_now (other ∷ others) = if precedes other record_now then other ∷ placed record_now others else record_now ∷ other ∷ others
 
 -- records in order
 abbrev pub in_order : List Rule → List Rule

@@ -7,7 +7,7 @@ use Rattle.kmn_base.specs.declared.items.Item.TheVariants.{Char}
 use Rattle.kmn_base.specs.Lists.{characters, without_last, window, IsSound, put}
 use Rattle.kmn_base.proofs.Lists.{characters-append, characters-map, unmarked, map-characters, without_last-append-last, window_short, window_at, length-window, IsSound_from_front}
 use Rattle.kmn_base.proofs.ReadingAgain.{without_last_at}
-use Rattle.context_cache.specs.Cached.{text_with_context, filled, StandsAtEnd}
+use Rattle.context_cache.specs.Cached.{text_with_context, filled, EndsText}
 use Rattle.context_cache.specs.CacheLaws.{PutsAreOfTheList, TakesAreOfTheList, FillingKeepsTheList, TheListIsItsTextAndWindow}
 
 -- a text whose last characters are the characters of at most 64 items
@@ -16,10 +16,10 @@ record IsCached (text : List ℕ) (cache : List Item) : Type 0 where
   front : List ℕ
   is : text ≡ front ++ characters cache
 
-cached_from : (text : List ℕ) (cache : List Item) → StandsAtEnd cache text → IsCached text cache
+cached_from : (text : List ℕ) (cache : List Item) → EndsText cache text → IsCached text cache
 cached_from text cache h = record { few = h.few; front = without_last (length (characters cache)) text; is = sym h.is }
 
-cached_stands : (text : List ℕ) (cache : List Item) → IsCached text cache → StandsAtEnd cache text
+cached_stands : (text : List ℕ) (cache : List Item) → IsCached text cache → EndsText cache text
 cached_stands text cache h = record {
   few = h.few;
   is = ap (λ (t : List ℕ). without_last (length (characters cache)) t ++ characters cache) h.is

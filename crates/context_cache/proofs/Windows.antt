@@ -10,7 +10,7 @@ use Rattle.std.proofs.lemmas.Slice.Eq.{bytes_eq-Decides}
 use Rattle.std.proofs.lemmas.Bool.{cases_Bool, eqb-true, and_parts}
 use Rattle.kmn_base.specs.declared.items.Item.{Item}
 use Rattle.kmn_base.specs.declared.items.Item.TheVariants.{Char}
-use Rattle.kmn_base.specs.Lists.{characters, without_last, window, still_stands, read_again}
+use Rattle.kmn_base.specs.Lists.{characters, without_last, window, is_still_suffix, read_again}
 use Rattle.kmn_base.proofs.Lists.{window_short, window_at}
 use Rattle.kmn_base.proofs.ReadingAgain.{read_again-stands, read_again-lost}
 use Rattle.context_cache.specs.Cached.{filled}
@@ -82,10 +82,10 @@ characters_pushed items text place end c within some is =
     ∙ (ap (λ m. items ++ Char (get_or text place 0) ∷ map Char (take (end - place - 1) (drop m text))) next
     ∙ ap (λ xs. items ++ xs) (sym (next_character text place (end - place) within (omega arith))))))
 
-pub still_the_same : (items : List Item) (text : List ℕ) → length items ≤ 64 → still_stands items text ≡ true → items ≡ window (read_again items text)
+pub still_the_same : (items : List Item) (text : List ℕ) → length items ≤ 64 → is_still_suffix items text ≡ true → items ≡ window (read_again items text)
 still_the_same items text few h =
     let w : window items ≡ items = window_short items few in
-    let stands : still_stands (window items) text ≡ true = ap (λ kept. still_stands kept text) w ∙ h in
+    let stands : is_still_suffix (window items) text ≡ true = ap (λ kept. is_still_suffix kept text) w ∙ h in
     let front : List Item = map Char (without_last (length (characters (window items))) text) in
     let e : read_again items text ≡ front ++ window items = read_again-stands items text stands in
     let known : (eqb (length items) 64 || eqb (length text) (length (characters items))) ≡ true = (and_parts (ends_with eqb text (characters items)) _ h).1 in
@@ -101,10 +101,10 @@ still_the_same items text few h =
           sym (ap window whole_is ∙ w)
     ]
 
-pub read_anew : (items kept : List Item) (text : List ℕ) → length items ≤ 64 → still_stands items text ≡ false → kept ≡ map Char (drop (length text - 64) text) → kept ≡ window (read_again items text)
+pub read_anew : (items kept : List Item) (text : List ℕ) → length items ≤ 64 → is_still_suffix items text ≡ false → kept ≡ map Char (drop (length text - 64) text) → kept ≡ window (read_again items text)
 read_anew items kept text few h e =
     let w : window items ≡ items = window_short items few in
-    let lost : read_again items text ≡ map Char text = read_again-lost items text (ap (λ k. still_stands k text) w ∙ h) in
+    let lost : read_again items text ≡ map Char text = read_again-lost items text (ap (λ k. is_still_suffix k text) w ∙ h) in
     let len : length (map Char text) ≡ length text = grind (arith, common_steps) in
     e ∙ sym (drop-map Char (length text - 64) text) ∙ ap (λ n. drop (n - 64) (map Char text)) (sym len) ∙ ap window (sym lost)
 

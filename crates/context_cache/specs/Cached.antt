@@ -14,6 +14,6 @@ abbrev pub filled : List ℕ → List Item → List Item
 filled text items = window (text_with_context text items)
 
 -- at most 64 items, whose characters are the end of a text
-pub record StandsAtEnd (items : List Item) (text : List ℕ) : Type 0 where
+pub record EndsText (items : List Item) (text : List ℕ) : Type 0 where
   pub few : length items ≤ WINDOW_ITEMS
   pub is : without_last (length (characters items)) text ++ characters items ≡ text

@@ -5,9 +5,9 @@ ghost use Rattle.std.specs.Prelude.{◌≡◌, ◌≤◌, ◌<◌, ◌-◌, ◌+
 ghost use Rattle.std.specs.List.{suffix_len};
 ghost use Rattle.kmn_base.specs.declared.limits.TheConstants.{WINDOW_ITEMS};
 ghost use Rattle.kmn_base.specs.Lists.{characters, is_mark, without_last, window, read_again};
-ghost use Rattle.context_cache.specs.Cached.{filled, StandsAtEnd};
+ghost use Rattle.context_cache.specs.Cached.{filled, EndsText};
 
-use crate::texts::{character_count, push_characters, push_items, still_stands};
+use crate::texts::{character_count, is_still_suffix, push_characters, push_items};
 use arrayvec::ArrayVec;
 use kmn_base::limits::WINDOW_ITEMS;
 use kmn_base::slices::behind;
@@ -104,7 +104,7 @@ impl Cache {
     #[tactic(auto, using(crate::proofs::Windows::filled_in, crate::proofs::Windows::none_missing))]
     pub fn fill(&mut self, older: &[char], newer: &[char])
         requires few { length older.now + length newer.now < 2 ^ 33 }
-        requires stands { StandsAtEnd self.old (older.now ++ newer.now) }
+        requires stands { EndsText self.old (older.now ++ newer.now) }
         ensures { self.new ≡ filled (older.now ++ newer.now) self.old }
     {
         let missing = self.missing(older.len() + newer.len());
@@ -122,7 +122,7 @@ impl Cache {
     pub fn sync(&mut self, left: &[char])
         ensures { self.new ≡ window (read_again self.old left.now) }
     {
-        if still_stands(self.items.as_slice(), left) {
+        if is_still_suffix(self.items.as_slice(), left) {
             return;
         }
         self.items.clear();

@@ -4,7 +4,7 @@ ghost use Rattle.std.specs.Prelude.{◌≡◌, ◌≤◌, ◌<◌, ◌+◌, ◌+
 ghost use Rattle.std.specs.List.{ends_with};
 ghost use Rattle.kmn_base.specs.declared.items.Item.TheVariants as item;
 ghost use Rattle.kmn_base.specs.declared.limits.TheConstants.{WINDOW_ITEMS};
-ghost use Rattle.kmn_base.specs.Lists.{characters, still_stands};
+ghost use Rattle.kmn_base.specs.Lists.{characters, is_still_suffix};
 
 use arrayvec::ArrayVec;
 use kmn_base::Item;
@@ -85,8 +85,8 @@ fn ends_with(text: &[char], items: &[Item]) -> bool
 }
 
 /// Returns whether a text still ends with items, and the text before them is known.
-pub fn still_stands(items: &[Item], text: &[char]) -> bool
-    ensures { result ≡ still_stands items.now text.now }
+pub fn is_still_suffix(items: &[Item], text: &[char]) -> bool
+    ensures { result ≡ is_still_suffix items.now text.now }
 {
     ends_with(text, items) && (items.len() == WINDOW_ITEMS || text.len() == character_count(items))
 }

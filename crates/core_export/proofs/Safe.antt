@@ -38,7 +38,7 @@ exports_safe bytes (Err error.Nameless) tables fits words = absurd words
 exports_safe bytes (Err (error.Unreadable line)) tables fits words = absurd words
 exports_safe bytes (Err error.Overfull) tables fits words = absurd words
 exports_safe bytes (Err error.NoZeroUnit) tables fits words = (record { tables = tables; fits = fits }, words)
-exports_safe bytes (Err error.Entangled) tables fits words = (record { tables = tables; fits = fits }, words)
+exports_safe bytes (Err error.Overlapping) tables fits words = (record { tables = tables; fits = fits }, words)
 exports_safe bytes (Err error.Memory) tables fits words = words
 
 -- if the tables of a file crash the engine, the file isn't exported for this reason
@@ -48,7 +48,7 @@ unsafe_exported bytes error.Nameless unsafe = unsafe
 unsafe_exported bytes (error.Unreadable line) unsafe = unsafe
 unsafe_exported bytes error.Overfull unsafe = absurd unsafe
 unsafe_exported bytes error.NoZeroUnit unsafe = absurd unsafe
-unsafe_exported bytes error.Entangled unsafe = absurd unsafe
+unsafe_exported bytes error.Overlapping unsafe = absurd unsafe
 unsafe_exported bytes error.Memory unsafe = unsafe
 
 pub exports_are_safe : ExportsAreSafe

@@ -45,8 +45,8 @@ units_at_most _ = 0
 -- ---- the constructs of a record in its group
 
 -- the output has an item after a `use`. That engine runs the item or omits it, by a flag that was never set
-abbrev pub goes_on_behind_use : List Out → Bool
-goes_on_behind_use outputs = list_any is_use (take (length outputs - 1) outputs)
+abbrev pub continues_after_use : List Out → Bool
+continues_after_use outputs = list_any is_use (take (length outputs - 1) outputs)
 
 -- the output has a `use`, and the group has a match output. That engine runs the match output or omits it, by the same flag
 abbrev pub is_matched_behind_use : List Out → List Out → Bool
@@ -58,8 +58,8 @@ has_late_nul [] = false
 has_late_nul (item ∷ items) = (is_condition item && list_any is_nul items) || has_late_nul items
 
 -- the context has `nul`, and the context or the output names an item by its offset. That engine counts the offset differently
-abbrev pub has_offset_behind_nul : List Pat → List Out → Bool
-has_offset_behind_nul context outputs = list_any is_nul context && (list_any has_offset context || list_any puts_by_offset outputs)
+abbrev pub has_offset_after_nul : List Pat → List Out → Bool
+has_offset_after_nul context outputs = list_any is_nul context && (list_any has_offset context || list_any puts_by_offset outputs)
 
 -- the context is empty, in a group without keys. That engine may not use the rule
 abbrev pub is_always : Bool → List Pat → Bool
@@ -81,10 +81,10 @@ abbrev pub is_long : List Pat → Bool
 is_long context = nat_lt 63 (sum (map units_at_most context))
 
 abbrev pub has_construct : Construct → Group → Rule → Bool
-has_construct construct.Use group rule = goes_on_behind_use rule.output
+has_construct construct.Use group rule = continues_after_use rule.output
 has_construct construct.Match group rule = is_matched_behind_use group.on_match rule.output
 has_construct construct.Nul group rule = has_late_nul rule.context
-has_construct construct.Offset group rule = has_offset_behind_nul rule.context rule.output
+has_construct construct.Offset group rule = has_offset_after_nul rule.context rule.output
 has_construct construct.Empty group rule = is_always group.using_keys rule.context
 has_construct construct.Sides group rule = has_both_sides rule.key
 has_construct construct.Right group rule = is_alt_graph rule.key

@@ -12,7 +12,7 @@ use Rattle.core_export.specs.Checksum.{checksum}
 use Rattle.core_export.specs.Readable.{are_contents_pointed, are_groups_pointed, has_misread, has_nameless, is_overfull, misread_line, AreSafe, IsReadable}
 use Rattle.core_export.specs.Words.{with_word}
 use Rattle.core_export.specs.declared.errors.ExportError.{ExportError}
-use Rattle.core_export.specs.declared.errors.ExportError.TheVariants.{SavesTwice, Nameless, Unreadable, Overfull, NoZeroUnit, Entangled, Memory}
+use Rattle.core_export.specs.declared.errors.ExportError.TheVariants.{SavesTwice, Nameless, Unreadable, Overfull, NoZeroUnit, Overlapping, Memory}
 
 -- ---- a zero unit of the file
 
@@ -159,7 +159,7 @@ pub record IsExport (bytes out : List ℕ) : Type 0 where
 -- say the same; `Memory` has no condition
 abbrev pub IsWordsError : List ℕ → ExportError → Type 0
 IsWordsError bytes NoZeroUnit = zero_unit bytes ≡ None
-IsWordsError bytes Entangled = (unit : ℕ) × (zero_unit bytes ≡ Some unit) × (SaysTheSame bytes (exported bytes unit) → ⊥)
+IsWordsError bytes Overlapping = (unit : ℕ) × (zero_unit bytes ≡ Some unit) × (SaysTheSame bytes (exported bytes unit) → ⊥)
 IsWordsError bytes Memory = Unit {0}
 IsWordsError bytes _ = ⊥
 
@@ -190,7 +190,7 @@ IsExportError bytes Nameless = AreUnsafe (tables_of bytes) Nameless
 IsExportError bytes (Unreadable line) = AreUnsafe (tables_of bytes) (Unreadable line)
 IsExportError bytes Overfull = AreSafe (tables_of bytes) × (is_overfull (tables_of bytes) (length bytes) ≡ true)
 IsExportError bytes NoZeroUnit = IsSafe bytes × IsWordsError bytes NoZeroUnit
-IsExportError bytes Entangled = IsSafe bytes × IsWordsError bytes Entangled
+IsExportError bytes Overlapping = IsSafe bytes × IsWordsError bytes Overlapping
 IsExportError bytes Memory = Unit {0}
 
 -- the result of the exporter
@@ -198,8 +198,8 @@ abbrev pub Exports : List ℕ → Result (List ℕ) ExportError → Type 0
 Exports bytes (Ok out) = IsSafe bytes × Replaces bytes (Ok out) × IsReadable out
 Exports bytes (Err error) = IsExportError bytes error
 
--- what an error of a check reports: `Entangled` if the property does not hold; `Memory` has no condition
+-- what an error of a check reports: `Overlapping` if the property does not hold; `Memory` has no condition
 abbrev pub Judges : Type 0 → ExportError → Type 0
-Judges holds Entangled = holds → ⊥
+Judges holds Overlapping = holds → ⊥
 Judges holds Memory = Unit {0}
 Judges holds _ = ⊥

@@ -3,7 +3,7 @@
 ghost use Rattle.std.specs.Prelude.{◌≡◌};
 ghost use Rattle.std.specs.List.{list_any};
 ghost use Rattle.rule_model.specs.Patterns.{is_nul};
-ghost use Rattle.core_export.specs.Constructs.{is_use, has_offset, puts_by_offset, units_at_most, goes_on_behind_use, has_late_nul, has_offset_behind_nul, has_both_sides, is_alt_graph, is_long, has_construct};
+ghost use Rattle.core_export.specs.Constructs.{is_use, has_offset, puts_by_offset, units_at_most, continues_after_use, has_late_nul, has_offset_after_nul, has_both_sides, is_alt_graph, is_long, has_construct};
 
 use crate::construct::Construct;
 use kmn_base::RuleKey;
@@ -98,8 +98,8 @@ fn some_put_by_offset(outputs: &[Out]) -> bool
 }
 
 /// Returns whether an output has an item after a `use`.
-fn goes_on_behind_use(outputs: &[Out]) -> bool
-    ensures { result ≡ goes_on_behind_use outputs.now }
+fn continues_after_use(outputs: &[Out]) -> bool
+    ensures { result ≡ continues_after_use outputs.now }
 {
     some_use(before(outputs, outputs.len().saturating_sub(1)))
 }
@@ -117,8 +117,8 @@ fn has_late_nul(context: &[Pat]) -> bool
 }
 
 /// Returns whether a context has `nul`, and the context or the output names an item by its offset.
-fn has_offset_behind_nul(context: &[Pat], outputs: &[Out]) -> bool
-    ensures { result ≡ has_offset_behind_nul context.now outputs.now }
+fn has_offset_after_nul(context: &[Pat], outputs: &[Out]) -> bool
+    ensures { result ≡ has_offset_after_nul context.now outputs.now }
 {
     some_nul(context) && (some_offset(context) || some_put_by_offset(outputs))
 }
@@ -169,10 +169,10 @@ pub(crate) fn has_construct(construct: Construct, group: &Group, rule: &Rule) ->
     let context = rule.context.as_slice();
     let output = rule.output.as_slice();
     match construct {
-        Construct::Use => goes_on_behind_use(output),
+        Construct::Use => continues_after_use(output),
         Construct::Match => !group.on_match.is_empty() && some_use(output),
         Construct::Nul => has_late_nul(context),
-        Construct::Offset => has_offset_behind_nul(context, output),
+        Construct::Offset => has_offset_after_nul(context, output),
         Construct::Empty => !group.using_keys && context.is_empty(),
         Construct::Sides => has_both_sides(rule.key),
         Construct::Right => is_alt_graph(rule.key),

@@ -3,7 +3,7 @@
 ghost use Rattle.core_export.specs.ExportLaws.{WrittenFilesAreExported, NamedFilesHaveZeroUnits, CompiledFilesAreExported, ExportingKeepsMeaning, ExportedFilesStay, ExportsAreSafe};
 ghost use Rattle.core_export.specs.Laws.{NoEventSavesTwice};
 
-/// If a file is written from tables, it says the same with its words replaced. So `export` never returns `Entangled` for it.
+/// If a file is written from tables, it says the same with its words replaced. So `export` never returns `Overlapping` for it.
 pub fn written_files_are_exported()
     ensures { WrittenFilesAreExported }
 {}
@@ -13,7 +13,7 @@ pub fn named_files_have_zero_units()
     ensures { NamedFilesHaveZeroUnits }
 {}
 
-/// If a source compiles to a file, with any bitmap, then `export` returns neither `Entangled` nor `NoZeroUnit` for it.
+/// If a source compiles to a file, with any bitmap, then `export` returns neither `Overlapping` nor `NoZeroUnit` for it.
 pub fn compiled_files_are_exported()
     ensures { CompiledFilesAreExported }
 {}

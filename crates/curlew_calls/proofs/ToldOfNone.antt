@@ -7,12 +7,12 @@ use Rattle.std.proofs.lemmas.Bool.Decides.{nat_tests}
 use Rattle.std.proofs.lemmas.List.{take-append-drop}
 use Rattle.kmn_base.specs.declared.items.Item.{Item}
 use Rattle.kmn_base.specs.declared.items.Item.TheVariants.{Char}
-use Rattle.kmn_base.specs.Lists.{characters, window, still_stands, read_again}
+use Rattle.kmn_base.specs.Lists.{characters, window, is_still_suffix, read_again}
 use Rattle.kmn_base.proofs.Lists.{characters-append, length-window, window_short}
-use Rattle.kmn_base.proofs.ReadingAgain.{read_again-lost, read_again-stands, still_stands-true, reading_again_gives_the_text}
+use Rattle.kmn_base.proofs.ReadingAgain.{read_again-lost, read_again-stands, is_still_suffix-true, reading_again_gives_the_text}
 use Rattle.rule_model.specs.Event.{State, happening, whole_text, edited_text, moved_caret, caret_event, edit_event}
 use Rattle.play_session.specs.Session.{SessionState}
-use Rattle.curlew_calls.specs.Calls.{at_new_place, told_before}
+use Rattle.curlew_calls.specs.Calls.{at_new_place, with_text_before}
 use Rattle.curlew_calls.specs.Laws.{NoneToldLeavesNone}
 
 neither : (a b : Bool) → b ≡ false → (a && b) ≡ false
@@ -57,7 +57,7 @@ taken (suc n) = refl
 
 -- if a window has fewer than 64 items, so has the window after an empty text is read again
 nothing_again : (items : List Item) → (length (window items) ≡ 64 → ⊥) → length (window (read_again items [])) ≡ 64 → ⊥
-nothing_again items short full = elim (cases_Bool (still_stands (window items) [])) [
+nothing_again items short full = elim (cases_Bool (is_still_suffix (window items) [])) [
   | inl stands ↦
       let is : read_again items [] ≡ window items = read_again-stands items [] stands ∙ ap (λ (l : List ℕ). map Char l ++ window items) (taken (0 - length (characters (window items)))) in
       omega (arith, short, full, length-window items, length-window (window items), ap (λ (l : List Item). length (window l)) is)
@@ -97,10 +97,10 @@ new_place_has_none session none short = by_right session.state.right refl
 
 -- if the window has a character, no item remains after an empty text is read again
 lost_in_none : (items : List Item) → 0 < length (characters (window items)) → read_again items [] ≡ []
-lost_in_none items some = elim (cases_Bool (still_stands (window items) [])) [
+lost_in_none items some = elim (cases_Bool (is_still_suffix (window items) [])) [
   | inl stands ↦
       let kept = characters (window items) in
-      let same = still_stands-true (window items) [] stands in
+      let same = is_still_suffix-true (window items) [] stands in
       absurd (omega (arith, some, length-append (take (0 - length kept) []) kept, ap length same))
   | inr lost ↦ read_again-lost items [] lost
 ]
@@ -128,7 +128,7 @@ pub told_of_none : NoneToldLeavesNone
 unfolding happening
 told_of_none session either = by_left (characters session.state.left) refl
   where
-    by_left : (left : List ℕ) → characters session.state.left ≡ left → (told_before [] session).state.left ≡ []
+    by_left : (left : List ℕ) → characters session.state.left ≡ left → (with_text_before [] session).state.left ≡ []
     by_left [] is =
         ap (λ (s : SessionState). s.state.left) (cond-false (ltb 0 (length (characters session.state.left))) _ _ (ap (λ (r : List ℕ). ltb 0 (length r)) is))
         ∙ new_place_has_none session is (none_in_window session.state.left is either)

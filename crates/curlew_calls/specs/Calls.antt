@@ -58,8 +58,8 @@ at_new_place session =
 
 -- the session after the text before the caret was set. An edit at the caret leaves the caret before the new characters, so if no
 -- character was before the caret, the caret moves after the new ones; if the new text is empty too, the field moves to a new position
-abbrev pub told_before : List ℕ → SessionState → SessionState
-told_before text session =
+abbrev pub with_text_before : List ℕ → SessionState → SessionState
+with_text_before text session =
     if nat_lt 0 (length (characters session.state.left)) then after_step session (edit_before text session.state)
     else if nat_eq (length text) 0 then at_new_place session
     else after_step (after_step session (edit_before text session.state)) (event.Caret (length text))

@@ -15,7 +15,7 @@ ghost use Rattle.rule_model.specs.Tab.{tab};
 ghost use Rattle.rule_engine.specs.Engine.{name_of};
 ghost use Rattle.play_session.specs.Session.{first_session, happened, after_step};
 ghost use Rattle.curlew_calls.specs.Answers.{IsCause, IsCaretCause, IsSettingCause};
-ghost use Rattle.curlew_calls.specs.Calls.{key, Happens, edit_of, text_at, edit_before, at_new_place, told_before, knows_option, is_option_named, own_key_code, store_count, store_name, store_value};
+ghost use Rattle.curlew_calls.specs.Calls.{key, Happens, edit_of, text_at, edit_before, at_new_place, with_text_before, knows_option, is_option_named, own_key_code, store_count, store_name, store_value};
 ghost use Rattle.play_session.specs.Changes.{option_stores};
 ghost use Rattle.curlew_calls.specs.Numbers.{written, item_numbers, element_numbers};
 
@@ -157,7 +157,7 @@ impl OpenField {
     /// `Memory` if an allocation fails.
     pub fn before(&mut self, alloc: Global, text: &[u32]) -> Result<(), CallError>
         ensures happens { IfOk result (λ _. Happens self.old (edit_before text.now self.old.state)) }
-        ensures leaves { IfOk result (λ _. self.new ≡ told_before text.now self.old) }
+        ensures leaves { IfOk result (λ _. self.new ≡ with_text_before text.now self.old) }
         ensures characters { IfOk result (λ _. all_scalars text.now ≡ true) }
         ensures refused { IfErr result (λ error. IsCause text.now (event_refusal self.old.state (edit_before text.now self.old.state)) error) }
         ensures unchanged { IfErr result (λ _. self.new ≡ self.old) }

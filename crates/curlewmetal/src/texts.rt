@@ -7,7 +7,7 @@ ghost use Rattle.rule_model.specs.Event.{event_refusal};
 ghost use Rattle.play_session.specs.Session.{after_step};
 ghost use Rattle.curlew_calls.specs.Numbers.{written, item_numbers};
 ghost use Rattle.curlew_calls.specs.Answers.{IsCause, IsCaretCause};
-ghost use Rattle.curlew_calls.specs.Calls.{Happens, text_at, edit_before, told_before};
+ghost use Rattle.curlew_calls.specs.Calls.{Happens, text_at, edit_before, with_text_before};
 ghost use Rattle.curlewmetal.specs.Answers.{Answers, is_set};
 
 use crate::answers::{CLOSED, OK, error_number};
@@ -21,7 +21,7 @@ use std::alloc::Global;
 #[unsafe(no_mangle)]
 pub extern "C" fn curlew_before(alloc: Global, field: &mut Field, text: &[u32]) -> u32
     ensures { Answers field.old.held result (λ session. Happens session (edit_before text.now session.state)
-        × (field.new.held ≡ Some (told_before text.now session)))
+        × (field.new.held ≡ Some (with_text_before text.now session)))
         (field.new.held ≡ field.old.held)
         (λ session error. IsCause text.now (event_refusal session.state (edit_before text.now session.state)) error) }
 {

@@ -101,7 +101,7 @@ impl Editor {
             return Ok(());
         }
         let room = n.max(self.cells.len());
-        let (cells, end) = with_room(alloc, self.left(), room, self.right())?;
+        let (cells, end) = with_capacity(alloc, self.left(), room, self.right())?;
         self.cells = cells;
         self.end = end;
         Ok(())
@@ -271,7 +271,7 @@ impl Editor {
 }
 
 /// Returns two texts with `room` cells between them, and the position after these cells.
-fn with_room(
+fn with_capacity(
     alloc: Global,
     left: &[char],
     room: usize,

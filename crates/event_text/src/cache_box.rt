@@ -27,14 +27,14 @@ impl Model for CacheBox {
 
 impl CacheBox {
     /// Creates an empty cache.
-    pub fn with_room(alloc: Global) -> Result<CacheBox, Memory>
+    pub fn with_capacity(alloc: Global) -> Result<CacheBox, Memory>
         ensures { IfOk result (λ cache. cache ≡ record { items = []; room = WINDOW_ITEMS }) }
     {
         Ok(CacheBox::of(Box::new(alloc, Cache::new())?))
     }
 
     /// Returns a box without a cache.
-    pub fn without_room() -> CacheBox
+    pub fn without_capacity() -> CacheBox
         ensures { result ≡ record { items = []; room = 0 } }
     {
         CacheBox { cache: None }
@@ -69,7 +69,7 @@ impl CacheBox {
         }
     }
 
-    /// Reads the text before the caret again. If the items are still its last items (`still_stands`), they stay. Otherwise the last
+    /// Reads the text before the caret again. If the items are still its last items (`is_still_suffix`), they stay. Otherwise the last
     /// characters of the text replace them.
     pub fn sync(&mut self, left: &[char])
         requires { self.old.room ≡ WINDOW_ITEMS }

@@ -32,7 +32,7 @@ impl Model for Inserted {
 
 impl Inserted {
     /// Returns no characters, without capacity for an event.
-    pub fn without_room(alloc: Global) -> Inserted
+    pub fn without_capacity(alloc: Global) -> Inserted
         ensures { result ≡ record { text = []; room = 0 } }
     {
         Inserted {
@@ -43,7 +43,7 @@ impl Inserted {
     }
 
     /// Creates a buffer with capacity for as many characters as an event may put, and no inserted characters.
-    pub fn with_room(alloc: Global) -> Result<Inserted, Memory>
+    pub fn with_capacity(alloc: Global) -> Result<Inserted, Memory>
         ensures { IfOk result (λ inserted. inserted ≡ record { text = []; room = EVENT_PUTS }) }
     {
         Ok(Inserted {

@@ -31,7 +31,7 @@ pub struct Edited {
 impl<'a> Model for Left<'a> {
     ghost use Rattle.std.specs.Prelude.{◌≤◌};
     ghost use Rattle.kmn_base.specs.declared.limits.TheConstants.{EVENT_PUTS};
-    ghost use Rattle.context_cache.specs.Cached.{text_with_context, StandsAtEnd};
+    ghost use Rattle.context_cache.specs.Cached.{text_with_context, EndsText};
     ghost use Rattle.event_text.specs.Texts.{LeftValue};
 
     ghost Value = { LeftValue };
@@ -43,7 +43,7 @@ impl<'a> Model for Left<'a> {
       put = left.put;
     } };
 
-    ghost invariant = { λ left. (left.text.added ≤ left.put) × (left.put ≤ EVENT_PUTS) × StandsAtEnd left.cache.value left.text.text };
+    ghost invariant = { λ left. (left.text.added ≤ left.put) × (left.put ≤ EVENT_PUTS) × EndsText left.cache.value left.text.text };
 }
 
 impl<'a> Left<'a> {

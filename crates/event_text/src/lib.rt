@@ -5,7 +5,7 @@
 //! event makes. The layer above begins a `Left` on its own text, with the cache and the buffer of the previous event, and finishes it
 //! with the edit. Contracts model a `Left` as the whole left list (characters and marks) and its cached items (`specs/Texts`). It
 //! borrows the text and copies only the cached items. A `CacheBox` has the cache on the heap, so an event moves it as a pointer.
-//! Contracts model it as the items and the capacity for them (`specs/Boxed`). Only `with_room` and `copy` of a `CacheBox` and of
+//! Contracts model it as the items and the capacity for them (`specs/Boxed`). Only `with_capacity` and `copy` of a `CacheBox` and of
 //! `Inserted` allocate.
 #![tactic(auto)]
 

@@ -7,7 +7,7 @@ use Rattle.kmx_verifier.specs.declared.faults.VerifyError.TheVariants as verify
 use Rattle.core_export.specs.Export.{IsExportError}
 use Rattle.core_export.specs.declared.errors.ExportError.{ExportError}
 use Rattle.core_export.specs.declared.errors.ExportError.TheVariants as error
-use Rattle.export_run.specs.declared.reading.ExportReason.TheVariants.{File, SavesTwice, Nameless, Unreadable, Overfull, NoZeroUnit, Entangled}
+use Rattle.export_run.specs.declared.reading.ExportReason.TheVariants.{File, SavesTwice, Nameless, Unreadable, Overfull, NoZeroUnit, Overlapping}
 use Rattle.export_run.specs.declared.reading.Export.{Export}
 use Rattle.export_run.specs.declared.reading.ExportStop.{ExportStop}
 use Rattle.export_run.specs.declared.reading.ExportStop.TheVariants as stop
@@ -20,7 +20,7 @@ stop_answered bytes error.Nameless h = h
 stop_answered bytes (error.Unreadable line) h = h
 stop_answered bytes error.Overfull h = h
 stop_answered bytes error.NoZeroUnit h = h
-stop_answered bytes error.Entangled h = h
+stop_answered bytes error.Overlapping h = h
 stop_answered bytes error.Memory h = h
 
 -- if bytes are a valid file, the result for the file is the result for the bytes
@@ -32,7 +32,7 @@ states_answered bytes (Err (stop.Refused Nameless)) valid h = (valid, h)
 states_answered bytes (Err (stop.Refused (Unreadable line))) valid h = (valid, h)
 states_answered bytes (Err (stop.Refused Overfull)) valid h = (valid, h)
 states_answered bytes (Err (stop.Refused NoZeroUnit)) valid h = (valid, h)
-states_answered bytes (Err (stop.Refused Entangled)) valid h = (valid, h)
+states_answered bytes (Err (stop.Refused Overlapping)) valid h = (valid, h)
 states_answered bytes (Err stop.ReadFault) valid h = absurd h
 states_answered bytes (Err stop.Memory) valid h = h
 

@@ -8,7 +8,7 @@ use Rattle.core_export.specs.declared.construct.Construct.{Construct}
 use Rattle.core_export.specs.declared.construct.Construct.TheVariants as construct
 use Rattle.core_export.specs.declared.construct.Difference.{Difference}
 use Rattle.export_run.specs.declared.reading.ExportReason.{ExportReason}
-use Rattle.export_run.specs.declared.reading.ExportReason.TheVariants.{File, SavesTwice, Nameless, Unreadable, Overfull, NoZeroUnit, Entangled}
+use Rattle.export_run.specs.declared.reading.ExportReason.TheVariants.{File, SavesTwice, Nameless, Unreadable, Overfull, NoZeroUnit, Overlapping}
 use Rattle.export_run.specs.declared.reading.Export.{Export}
 
 -- the line with the size of an export
@@ -44,4 +44,4 @@ unexported_line (Unreadable (Some line)) = concat (codes "refused K03 line " ∷
 unexported_line (Unreadable None) = codes "refused K03\n"
 unexported_line Overfull = codes "refused K04\n"
 unexported_line NoZeroUnit = codes "refused K05\n"
-unexported_line Entangled = codes "refused K06\n"
+unexported_line Overlapping = codes "refused K06\n"

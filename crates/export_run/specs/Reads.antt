@@ -11,7 +11,7 @@ use Rattle.core_export.specs.declared.errors.ExportError.{ExportError}
 use Rattle.core_export.specs.declared.errors.ExportError.TheVariants as error
 use Rattle.keyman_words.specs.Seen.{FolderView, FolderState, seen_folder}
 use Rattle.export_run.specs.declared.reading.ExportReason.{ExportReason}
-use Rattle.export_run.specs.declared.reading.ExportReason.TheVariants.{File, SavesTwice, Nameless, Unreadable, Overfull, NoZeroUnit, Entangled}
+use Rattle.export_run.specs.declared.reading.ExportReason.TheVariants.{File, SavesTwice, Nameless, Unreadable, Overfull, NoZeroUnit, Overlapping}
 use Rattle.export_run.specs.declared.reading.Export.{Export}
 use Rattle.export_run.specs.declared.reading.ExportStop.{ExportStop}
 use Rattle.export_run.specs.declared.reading.ExportStop.TheVariants as stop
@@ -28,7 +28,7 @@ IsReasonOfValid bytes Nameless = IsExportError bytes error.Nameless
 IsReasonOfValid bytes (Unreadable line) = IsExportError bytes (error.Unreadable line)
 IsReasonOfValid bytes Overfull = IsExportError bytes error.Overfull
 IsReasonOfValid bytes NoZeroUnit = IsExportError bytes error.NoZeroUnit
-IsReasonOfValid bytes Entangled = IsExportError bytes error.Entangled
+IsReasonOfValid bytes Overlapping = IsExportError bytes error.Overlapping
 
 -- why bytes have no export: they have a fault (V15 at 0 if they are over the limit), or are a valid file that isn't exported
 abbrev pub IsReason : List ℕ → ExportReason → Type 0
@@ -38,7 +38,7 @@ IsReason bytes Nameless = IsValid bytes × IsReasonOfValid bytes Nameless
 IsReason bytes (Unreadable line) = IsValid bytes × IsReasonOfValid bytes (Unreadable line)
 IsReason bytes Overfull = IsValid bytes × IsReasonOfValid bytes Overfull
 IsReason bytes NoZeroUnit = IsValid bytes × IsReasonOfValid bytes NoZeroUnit
-IsReason bytes Entangled = IsValid bytes × IsReasonOfValid bytes Entangled
+IsReason bytes Overlapping = IsValid bytes × IsReasonOfValid bytes Overlapping
 
 -- why a run stops if bytes are not a valid file
 abbrev pub verify_stop : VerifyError → ExportStop
@@ -52,7 +52,7 @@ export_stop error.Nameless = stop.Refused Nameless
 export_stop (error.Unreadable line) = stop.Refused (Unreadable line)
 export_stop error.Overfull = stop.Refused Overfull
 export_stop error.NoZeroUnit = stop.Refused NoZeroUnit
-export_stop error.Entangled = stop.Refused Entangled
+export_stop error.Overlapping = stop.Refused Overlapping
 export_stop error.Memory = stop.Memory
 
 -- the export of a valid file, or why there is none

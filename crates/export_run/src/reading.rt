@@ -27,7 +27,7 @@ pub enum ExportReason {
     /// The file has no strings, so it has no zero unit to point to.
     NoZeroUnit,
     /// Parts of the file overlap.
-    Entangled,
+    Overlapping,
 }
 
 /// The export of a file, and the lines of its source for which Keyman's own engine behaves differently.
@@ -80,7 +80,7 @@ impl From<ExportError> for ExportStop {
             ExportError::Unreadable(line) => ExportStop::Refused(ExportReason::Unreadable(line)),
             ExportError::Overfull => ExportStop::Refused(ExportReason::Overfull),
             ExportError::NoZeroUnit => ExportStop::Refused(ExportReason::NoZeroUnit),
-            ExportError::Entangled => ExportStop::Refused(ExportReason::Entangled),
+            ExportError::Overlapping => ExportStop::Refused(ExportReason::Overlapping),
             ExportError::Memory => ExportStop::Memory,
         }
     }

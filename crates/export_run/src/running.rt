@@ -1,6 +1,6 @@
 ghost use Rattle.export_run.specs.Runs.{Exports, Runs};
 
-use crate::printing::{tell_exported, tell_stop};
+use crate::printing::{print_exported, print_stop};
 use crate::reading::read_export;
 use keyman_words::{FileName, Status, write, write_status};
 use kmn_base::Text;
@@ -42,9 +42,9 @@ fn export_file<F: Folder, S: Sink>(
 {
     match read_export(alloc, file, folder) {
         Ok(export) => match write(alloc, target, export.bytes.as_slice(), folder) {
-            Ok(()) => tell_exported(alloc, &export, out),
+            Ok(()) => print_exported(alloc, &export, out),
             Err(error) => write_status(error),
         },
-        Err(stop) => tell_stop(alloc, stop, out),
+        Err(stop) => print_stop(alloc, stop, out),
     }
 }

@@ -6,7 +6,7 @@ use kmn_base::Item::{Char, Mark};
 use kmn_base::limits::{RECORDS, STORE_ELEMENTS, STORES};
 use kmn_base::{Element, Item, KeyPress, Memory};
 use kmx_parts::{ContextItem, FileTables};
-use rule_index::{Holding, IndexedKeyboard, RuleIndex, wanted_classes};
+use rule_index::{Holding, IndexedKeyboard, RuleIndex, matching_classes};
 use std::alloc::Global;
 use std::test::Fail;
 
@@ -106,7 +106,7 @@ fn index_of(alloc: Global, file: &FileTables<'_>, number: u32) -> Result<RuleInd
 fn answers(with_keys: &RuleIndex, without_keys: &RuleIndex, asked: &Asked) -> bool {
     let (using_keys, code, mods, left, numbers) = *asked;
     let index = if using_keys { with_keys } else { without_keys };
-    let mut candidates = index.candidates(&wanted_classes(KeyPress { code, mods }, left));
+    let mut candidates = index.candidates(&matching_classes(KeyPress { code, mods }, left));
     for number in numbers {
         if candidates.next() != Some(*number) {
             return false;

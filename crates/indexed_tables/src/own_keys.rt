@@ -7,7 +7,7 @@ ghost use Rattle.kmn_base.specs.Names.{same_name};
 ghost use Rattle.rule_model.specs.Tab.{store_elements, is_dictionary, element_char, words, distinct_onto, tab_dictionary};
 ghost use Rattle.virtual_keys.specs.Groups.{bytes_behind};
 ghost use Rattle.indexed_tables.specs.OwnNames.{AreFolded};
-ghost use Rattle.indexed_tables.specs.Words.{words_behind};
+ghost use Rattle.indexed_tables.specs.Words.{words_after};
 
 use indexmap::IndexSet;
 use kmn_base::{Element, Memory, Seq, Text};
@@ -50,7 +50,7 @@ fn first_space(text: &[u8]) -> Option<usize>
 /// Returns a text up to its first space, and the rest after this space.
 #[tactic(auto, using(crate::proofs::Words::words_parted, crate::proofs::Words::words_alone))]
 pub fn first_word(text: &[u8]) -> (&[u8], Option<&[u8]>)
-    ensures parts { slice_split (nat_eq 32) text.now ≡ result.0.now ∷ words_behind (option_copied result.1) }
+    ensures parts { slice_split (nat_eq 32) text.now ≡ result.0.now ∷ words_after (option_copied result.1) }
     ensures sizes { length result.0.now + bytes_behind (option_copied result.1) ≡ length text.now }
 {
     match first_space(text) {

@@ -17,7 +17,7 @@ use Rattle.kmx_format.specs.Versions.{file_versions}
 use Rattle.item_checker.specs.declared.summaries.Summary.{Summary}
 use Rattle.item_checker.specs.declared.summaries.Summaries.{Summaries}
 use Rattle.store_table.specs.Known.{Known, statement_elements}
-use Rattle.item_checker.specs.Items.{are_unfit_keys, is_key_element, is_layout_text, is_no_character, is_no_plain_key, is_other_text, is_system_text, is_unfit_key, is_unfit_store, is_version_text, puts_key}
+use Rattle.item_checker.specs.Items.{are_unfit_keys, is_key_element, is_layout_text, is_no_character, is_no_plain_key, is_other_text, is_system_text, is_unfit_key, is_unfit_store, is_version_text, has_virtual_key}
 use Rattle.item_checker.specs.Summaries.{AreFacts, are_found_keys, element_characters, found_lacks_characters, found_summary, front_of, has_key, has_other, is_far_element, is_layout_front, is_mark_element, is_nothing, is_system_front, is_unfit_summary, is_version_front, lacks_characters, summary, with_items}
 use Rattle.item_checker.proofs.Summed.{found_is, items_are}
 
@@ -77,7 +77,7 @@ unfit_named known found options name are =
     ap is_unfit_summary (found_is found known.stores name are.stores) ∙ unfit_found (find (λ (s : Store). same_name s.name name) known.stores)
 
 pub key_named : (known : Known) (found : Summaries) (options : List (List ℕ)) (name : List ℕ) → AreFacts known found options
-    → has_key (found_summary found name) ≡ puts_key known name
+    → has_key (found_summary found name) ≡ has_virtual_key known name
 key_named known found options name are =
     ap has_key (found_is found known.stores name are.stores) ∙ key_found (find (λ (s : Store). same_name s.name name) known.stores)
 

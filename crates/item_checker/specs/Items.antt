@@ -99,8 +99,8 @@ abbrev pub is_unfit_store : Known → List ℕ → Bool
 is_unfit_store known store = are_unfit_keys (elements_named known.stores store)
 
 -- C12: a virtual key in an output after `outs` and `$`
-abbrev pub puts_key : Known → List ℕ → Bool
-puts_key known store = list_any is_key_element (elements_named known.stores store)
+abbrev pub has_virtual_key : Known → List ℕ → Bool
+has_virtual_key known store = list_any is_key_element (elements_named known.stores store)
 
 -- C12: a system store that is not supported
 abbrev pub is_left_out : StoreDef → Bool
@@ -124,13 +124,13 @@ is_other_text known store =
     && not (is_system_text store.system (statement_elements known store))
 
 -- C13: `outs` or `$` names an option store
-abbrev pub puts_option : Known → SrcItem → Bool
-puts_option known (source.Outs store) = is_option known store
-puts_option known item = false
+abbrev pub uses_option : Known → SrcItem → Bool
+uses_option known (source.Outs store) = is_option known store
+uses_option known item = false
 
 -- C14: an element is not a character, in an option store, `&bitmap`, `&version` or `&mnemoniclayout`
-abbrev pub wants_characters : Known → StoreDef → Bool
-wants_characters known store =
+abbrev pub needs_characters : Known → StoreDef → Bool
+needs_characters known store =
     if nat_eq store.system 0 then is_option known store.name
     else list_any (nat_eq store.system) (BITMAP ∷ VERSION ∷ MNEMONIC_LAYOUT ∷ [])
 
@@ -143,8 +143,8 @@ is_no_plain_key (element.Key flags code) = not (nat_eq flags VIRTUAL_KEY && nat_
 is_no_plain_key other = true
 
 -- whether a statement is `&casedkeys`, whose keys must be plain
-abbrev pub wants_plain_keys : StoreDef → Bool
-wants_plain_keys store = nat_eq store.system CASED_KEYS
+abbrev pub needs_plain_keys : StoreDef → Bool
+needs_plain_keys store = nat_eq store.system CASED_KEYS
 
 abbrev pub brings_no_plain_key : Known → SrcItem → Bool
 brings_no_plain_key known item = list_any is_no_plain_key (brought known item)
@@ -152,7 +152,7 @@ brings_no_plain_key known item = list_any is_no_plain_key (brought known item)
 -- a store statement: its kind or its text is checked first, then its items
 abbrev pub store_item_code : Known → Bool → Bool → SrcItem → Option Code
 store_item_code known characters keys item =
-    broken ((C13, puts_option known item) ∷ (C14, characters && brings_no_character known item)
+    broken ((C13, uses_option known item) ∷ (C14, characters && brings_no_character known item)
     ∷ (C25, keys && brings_no_plain_key known item) ∷ [])
 
 abbrev pub store_head_code : Known → StoreDef → Option Code
@@ -160,7 +160,7 @@ store_head_code known store = broken ((C12, is_left_out store) ∷ (C12, is_othe
 
 abbrev pub store_code : Known → StoreDef → Option Code
 store_code known store =
-    option_or (store_head_code known store) (first_code (store_item_code known (wants_characters known store) (wants_plain_keys store)) store.items)
+    option_or (store_head_code known store) (first_code (store_item_code known (needs_characters known store) (needs_plain_keys store)) store.items)
 
 abbrev pub store_refusal : Known → List StoreDef → StoreDef → Option Refusal
 store_refusal known before store = at_line store.line (store_code known store)
@@ -194,7 +194,7 @@ key_code known item = None
 abbrev pub output_code : Known → SrcItem → Option Code
 output_code known (source.Call text) = Some C11
 output_code known source.OutOfProfile = Some C12
-output_code known (source.Outs store) = broken ((C12, puts_key known store) ∷ (C13, is_option known store) ∷ [])
+output_code known (source.Outs store) = broken ((C12, has_virtual_key known store) ∷ (C13, is_option known store) ∷ [])
 output_code known item = None
 
 -- `index` at the key's offset: C09 if the key isn't `any`, C13 for an option store

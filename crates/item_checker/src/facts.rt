@@ -40,7 +40,7 @@ impl<'a> Model for Facts<'a> {
 impl<'a> Facts<'a> {
     ghost use Rattle.std.specs.List.{list_any};
     ghost use Rattle.rule_model.specs.Naming.{elements_named};
-    ghost use Rattle.item_checker.specs.Items.{is_no_character, is_no_plain_key, is_option, is_other_text, is_unfit_store, puts_key};
+    ghost use Rattle.item_checker.specs.Items.{is_no_character, is_no_plain_key, is_option, is_other_text, is_unfit_store, has_virtual_key};
 
     /// Returns the facts that the items of a program are checked with. Errors: `Memory` if an allocation fails.
     #[tactic(auto, unfolding(store_table::specs::Known::known))]
@@ -71,8 +71,8 @@ impl<'a> Facts<'a> {
     }
 
     /// Returns whether a store has a virtual key.
-    pub fn puts_key(&self, name: &[u8]) -> bool
-        ensures { result ≡ puts_key self.now name.now }
+    pub fn has_virtual_key(&self, name: &[u8]) -> bool
+        ensures { result ≡ has_virtual_key self.now name.now }
     {
         has_key(found_summary(&self.stores, name))
     }

@@ -3,7 +3,7 @@
 ghost use Rattle.std.specs.Prelude.{◌≡◌, [], ◌∷◌, if◌then◌else◌};
 ghost use Rattle.kmn_base.specs.declared.codes.Code.TheVariants.{C10, C12, C13};
 ghost use Rattle.store_table.specs.First.{broken, first_code, first_of};
-ghost use Rattle.item_checker.specs.Items.{index_code, is_any_key, is_far, is_key_place, is_option, is_unfit_store, key_code, key_index_code, match_output_code, output_code, plain_code, puts_key, rule_code, rule_output_code, rule_refusal, rules_refusal};
+ghost use Rattle.item_checker.specs.Items.{index_code, is_any_key, is_far, is_key_place, is_option, is_unfit_store, key_code, key_index_code, match_output_code, output_code, plain_code, has_virtual_key, rule_code, rule_output_code, rule_refusal, rules_refusal};
 
 use crate::facts::Facts;
 use crate::offsets::{context_at_code, context_code, index_code, is_any_item, offset_code};
@@ -48,9 +48,9 @@ fn key_code(facts: &Facts<'_>, key: &Option<SrcItem>) -> Option<Code>
 
 /// Returns the rule that `outs` or `$` breaks in an output.
 fn put_code(facts: &Facts<'_>, store: &[u8]) -> Option<Code>
-    ensures { result ≡ broken ((C12, puts_key facts.now store.now) ∷ (C13, is_option facts.now store.now) ∷ []) }
+    ensures { result ≡ broken ((C12, has_virtual_key facts.now store.now) ∷ (C13, is_option facts.now store.now) ∷ []) }
 {
-    if facts.puts_key(store) {
+    if facts.has_virtual_key(store) {
         Some(Code::C12)
     } else if facts.is_option(store) {
         Some(Code::C13)

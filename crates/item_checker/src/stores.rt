@@ -4,7 +4,7 @@ ghost use Rattle.std.specs.Prelude.{◌≡◌, true, [], IfOk};
 ghost use Rattle.std.specs.List.{list_all};
 ghost use Rattle.store_table.specs.First.{first_code, first_of};
 ghost use Rattle.rule_model.specs.declared.program.StoreDef.{StoreDef};
-ghost use Rattle.item_checker.specs.Items.{brings_no_character, brings_no_plain_key, puts_option, store_code, store_head_code, store_item_code, store_refusal, wants_characters, wants_plain_keys};
+ghost use Rattle.item_checker.specs.Items.{brings_no_character, brings_no_plain_key, uses_option, store_code, store_head_code, store_item_code, store_refusal, needs_characters, needs_plain_keys};
 ghost use Rattle.item_checker.specs.Summaries.{are_found_keys, is_found_key};
 
 use crate::facts::Facts;
@@ -32,8 +32,8 @@ fn store_head_code(
 }
 
 /// Returns whether all elements of a store must be characters.
-fn wants_characters(facts: &Facts<'_>, store: &StoreDef) -> bool
-    ensures { result ≡ wants_characters facts.now store.now }
+fn needs_characters(facts: &Facts<'_>, store: &StoreDef) -> bool
+    ensures { result ≡ needs_characters facts.now store.now }
 {
     match store.system {
         0 => facts.is_option(store.name.as_slice()),
@@ -43,15 +43,15 @@ fn wants_characters(facts: &Facts<'_>, store: &StoreDef) -> bool
 }
 
 /// Returns whether all elements of a store must be plain keys.
-fn wants_plain_keys(store: &StoreDef) -> bool
-    ensures { result ≡ wants_plain_keys store.now }
+fn needs_plain_keys(store: &StoreDef) -> bool
+    ensures { result ≡ needs_plain_keys store.now }
 {
     store.system == CASED_KEYS
 }
 
 /// Returns whether an `outs` or `$` item names an option store.
-fn puts_option(facts: &Facts<'_>, item: &SrcItem) -> bool
-    ensures { result ≡ puts_option facts.now item.now }
+fn uses_option(facts: &Facts<'_>, item: &SrcItem) -> bool
+    ensures { result ≡ uses_option facts.now item.now }
 {
     match item {
         SrcItem::Outs(store) => facts.is_option(store.as_slice()),
@@ -91,7 +91,7 @@ fn store_item_code(facts: &Facts<'_>, characters: bool, keys: bool, item: &SrcIt
     requires { is_found_key facts.now.names item.now ≡ true }
     ensures { result ≡ store_item_code facts.now characters keys item.now }
 {
-    if puts_option(facts, item) {
+    if uses_option(facts, item) {
         Some(Code::C13)
     } else if characters && brings_no_character(facts, item) {
         Some(Code::C14)
@@ -130,8 +130,8 @@ fn store_code(alloc: Global, facts: &Facts<'_>, store: &StoreDef) -> Result<Opti
     match store_head_code(alloc, facts, store)? {
         Some(code) => Ok(Some(code)),
         None => {
-            let characters = wants_characters(facts, store);
-            let keys = wants_plain_keys(store);
+            let characters = needs_characters(facts, store);
+            let keys = needs_plain_keys(store);
             Ok(store_items_code(facts, characters, keys, store.items.as_slice()))
         }
     }

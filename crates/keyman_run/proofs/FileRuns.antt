@@ -26,7 +26,7 @@ use Rattle.keyman_words.specs.Reasons.{fault_line}
 use Rattle.keyman_run.specs.Run.{Does}
 use Rattle.keyman_words.specs.Seen.{FolderView, SinkView}
 use Rattle.keyman_words.specs.Tells.{Tells}
-use Rattle.keyman_run.specs.Steps.{TellsFile, TellsStop, verify_stop}
+use Rattle.keyman_run.specs.Steps.{PrintsFileCounts, PrintsStop, verify_stop}
 use Rattle.keyman_run.specs.Work.{Work, given, and_then, reads}
 use Rattle.keyman_run.specs.Work.Work.{Give, Refuse}
 use Rattle.keyman_run.proofs.AskedLaws.{first_none}
@@ -35,7 +35,7 @@ use Rattle.keyman_run.proofs.RunLaws.{does_told}
 
 -- if a run prints the line of a file's tables or of its fault, it does the work of verifying the file
 does_tables : {F S : Type 0} (read : Result Tables Reason) (folders : FolderView F) (folder : F) (sinks : SinkView S) (out out_after : S) (how : Status)
-    → TellsFile read sinks out out_after how → Does (and_then (given read) (λ tables. Give (verify_ending tables))) folders folder folder sinks out out_after how
+    → PrintsFileCounts read sinks out out_after how → Does (and_then (given read) (λ tables. Give (verify_ending tables))) folders folder folder sinks out out_after how
 does_tables (Ok tables) folders folder sinks out out_after how tells =
     does_told (Give (verify_ending tables)) (verify_ending tables) folders folder folder sinks out out_after how refl refl
     (λ told. (refl, record { asked = sym (append-nil (folders.calls folder)); files = λ name. refl })) tells
@@ -44,40 +44,40 @@ does_tables (Err why) folders folder sinks out out_after how tells =
     (λ told. (refl, record { asked = sym (append-nil (folders.calls folder)); files = λ name. refl })) tells
 
 pub does_file : {F S : Type 0} (slice bytes : List ℕ) (folders : FolderView F) (folder : F) (sinks : SinkView S) (out out_after : S) (how : Status) → slice ≡ bytes
-    → TellsFile (tables_of_file slice) sinks out out_after how → Does (and_then (given (tables_of_file bytes)) (λ tables. Give (verify_ending tables))) folders folder folder sinks out out_after how
+    → PrintsFileCounts (tables_of_file slice) sinks out out_after how → Does (and_then (given (tables_of_file bytes)) (λ tables. Give (verify_ending tables))) folders folder folder sinks out out_after how
 does_file slice bytes folders folder sinks out out_after how same tells =
     subst (λ (b : List ℕ). Does (and_then (given (tables_of_file b)) (λ tables. Give (verify_ending tables))) folders folder folder sinks out out_after how) same
     (does_tables (tables_of_file slice) folders folder sinks out out_after how tells)
 
--- if an allocation fails and no output is printed, the run satisfies `TellsFile`
-tells_nothing : {S : Type 0} (read : Result Tables Reason) (sinks : SinkView S) (out : S) → TellsFile read sinks out out status.Memory
+-- if an allocation fails and no output is printed, the run satisfies `PrintsFileCounts`
+tells_nothing : {S : Type 0} (read : Result Tables Reason) (sinks : SinkView S) (out : S) → PrintsFileCounts read sinks out out status.Memory
 tells_nothing (Ok tables) sinks out = record { counts = refl; told = refl; prints = λ told. none_begun (sinks.written out) _ }
 tells_nothing (Err why) sinks out = record { counts = refl; told = refl; prints = λ told. none_begun (sinks.written out) _ }
 
--- if a file is valid, a run that prints the line of its tables satisfies `TellsFile`; if it has a fault, a run that prints the
+-- if a file is valid, a run that prints the line of its tables satisfies `PrintsFileCounts`; if it has a fault, a run that prints the
 -- fault does
 pub tells_valid : {S : Type 0} (bytes file : List ℕ) (sinks : SinkView S) (out out_after : S) (how : Status) → fault_of bytes ≡ None → file ≡ bytes
-    → Tells status.Done (valid_line (tables_of file)) sinks out out_after how → TellsFile (tables_of_file bytes) sinks out out_after how
+    → Tells status.Done (valid_line (tables_of file)) sinks out out_after how → PrintsFileCounts (tables_of_file bytes) sinks out out_after how
 tells_valid bytes file sinks out out_after how none same tells =
-    subst (λ (found : Option Fault). TellsFile (unless_faulty (tables_of bytes) found) sinks out out_after how) (sym none)
+    subst (λ (found : Option Fault). PrintsFileCounts (unless_faulty (tables_of bytes) found) sinks out out_after how) (sym none)
     (subst (λ (b : List ℕ). Tells status.Done (valid_line (tables_of b)) sinks out out_after how) same tells)
 
 tells_faulty : {S : Type 0} (bytes : List ℕ) (fault : Fault) (sinks : SinkView S) (out out_after : S) (how : Status) → fault_of bytes ≡ Some fault
-    → Tells status.Refused (fault_line fault) sinks out out_after how → TellsFile (tables_of_file bytes) sinks out out_after how
+    → Tells status.Refused (fault_line fault) sinks out out_after how → PrintsFileCounts (tables_of_file bytes) sinks out out_after how
 tells_faulty bytes fault sinks out out_after how is tells =
-    subst (λ (found : Option Fault). TellsFile (unless_faulty (tables_of bytes) found) sinks out out_after how) (sym is) tells
+    subst (λ (found : Option Fault). PrintsFileCounts (unless_faulty (tables_of bytes) found) sinks out out_after how) (sym is) tells
 
--- if two stops are equal, a run that satisfies `TellsStop` for one satisfies it for the other
-pub as_stop : {S : Type 0} (s other : Stop) (sinks : SinkView S) (out out_after : S) (how : Status) → s ≡ other → TellsStop s sinks out out_after how → TellsStop other sinks out out_after how
-as_stop s other sinks out out_after how same tells = subst (λ (t : Stop). TellsStop t sinks out out_after how) same tells
+-- if two stops are equal, a run that satisfies `PrintsStop` for one satisfies it for the other
+pub as_stop : {S : Type 0} (s other : Stop) (sinks : SinkView S) (out out_after : S) (how : Status) → s ≡ other → PrintsStop s sinks out out_after how → PrintsStop other sinks out out_after how
+as_stop s other sinks out out_after how same tells = subst (λ (t : Stop). PrintsStop t sinks out out_after how) same tells
 
--- if the opening of bytes stops and the run satisfies `TellsStop` for this stop, it satisfies `TellsFile`
+-- if the opening of bytes stops and the run satisfies `PrintsStop` for this stop, it satisfies `PrintsFileCounts`
 pub tells_unread : {S : Type 0} (bytes : List ℕ) (error : VerifyError) (sinks : SinkView S) (out out_after : S) (how : Status) → IsRefusal error (λ fault. fault_of bytes ≡ Some fault)
-    → TellsStop (verify_stop error) sinks out out_after how → TellsFile (tables_of_file bytes) sinks out out_after how
+    → PrintsStop (verify_stop error) sinks out out_after how → PrintsFileCounts (tables_of_file bytes) sinks out out_after how
 tells_unread bytes (verify.Refused fault) sinks out out_after how is tells = tells_faulty bytes fault sinks out out_after how is tells
 tells_unread {S} bytes verify.Memory sinks out out_after how is tells =
-    subst (λ (o : S). TellsFile (tables_of_file bytes) sinks out o how) (sym tells.1)
-    (subst (λ (s : Status). TellsFile (tables_of_file bytes) sinks out out s) (sym tells.0) (tells_nothing (tables_of_file bytes) sinks out))
+    subst (λ (o : S). PrintsFileCounts (tables_of_file bytes) sinks out o how) (sym tells.1)
+    (subst (λ (s : Status). PrintsFileCounts (tables_of_file bytes) sinks out out s) (sym tells.0) (tells_nothing (tables_of_file bytes) sinks out))
 
 -- if bytes are a file of writable tables, they have no fault
 pub never_refused : (bytes : List ℕ) (fault : Fault) → IsFile bytes → fault_of bytes ≡ Some fault → ⊥
@@ -88,7 +88,7 @@ never_refused bytes fault file is =
 
 -- so if the opening of such bytes stops, an allocation failed and no output is printed, which satisfies every `Tells`
 pub tells_unopened : {S : Type 0} (bytes : List ℕ) (error : VerifyError) (good : Status) (printed : List ℕ) (sinks : SinkView S) (out out_after : S) (how : Status) → IsFile bytes
-    → IsRefusal error (λ fault. fault_of bytes ≡ Some fault) → TellsStop (verify_stop error) sinks out out_after how → Tells good printed sinks out out_after how
+    → IsRefusal error (λ fault. fault_of bytes ≡ Some fault) → PrintsStop (verify_stop error) sinks out out_after how → Tells good printed sinks out out_after how
 tells_unopened bytes (verify.Refused fault) good printed sinks out out_after how file is tells = absurd (never_refused bytes fault file is)
 tells_unopened {S} bytes verify.Memory good printed sinks out out_after how file is tells =
     subst (λ (o : S). Tells good printed sinks out o how) (sym tells.1)
@@ -123,23 +123,23 @@ does_faulty on bytes fault folders folder sinks out out_after how is tells =
     (does_told (Refuse (reason.File fault)) (refused_ending (reason.File fault)) folders folder folder sinks out out_after how refl refl
     (λ told. (refl, record { asked = sym (append-nil (folders.calls folder)); files = λ name. refl })) tells)
 
--- if the opening of bytes stops, a run that satisfies `TellsStop` for this stop does the work on the bytes
+-- if the opening of bytes stops, a run that satisfies `PrintsStop` for this stop does the work on the bytes
 pub does_unread : {F S : Type 0} (on : Tables → Work Ending) (bytes : List ℕ) (error : VerifyError) (folders : FolderView F) (folder : F) (sinks : SinkView S) (out out_after : S) (how : Status)
-    → IsRefusal error (λ fault. fault_of bytes ≡ Some fault) → TellsStop (verify_stop error) sinks out out_after how → Does (on_bytes on bytes) folders folder folder sinks out out_after how
+    → IsRefusal error (λ fault. fault_of bytes ≡ Some fault) → PrintsStop (verify_stop error) sinks out out_after how → Does (on_bytes on bytes) folders folder folder sinks out out_after how
 does_unread on bytes (verify.Refused fault) folders folder sinks out out_after how is tells = does_faulty on bytes fault folders folder sinks out out_after how is tells
 does_unread {F} {S} on bytes verify.Memory folders folder sinks out out_after how is tells =
     subst (λ (o : S). Does (on_bytes on bytes) folders folder folder sinks out o how) (sym tells.1)
     (subst (λ (s : Status). Does (on_bytes on bytes) folders folder folder sinks out out s) (sym tells.0) (does_no_memory (on_bytes on bytes) folders folder sinks out))
 
 -- if bytes are a valid file, a run that plays on its tables plays on the bytes; if their opening stops, a run that satisfies
--- `TellsStop` for this stop does
+-- `PrintsStop` for this stop does
 pub plays_valid : {F S : Type 0} (bytes file keys : List ℕ) (folders : FolderView F) (folder after : F) (sinks : SinkView S) (out out_after : S) (how : Status) → fault_of bytes ≡ None → file ≡ bytes
     → Does (tables_play_work (tables_of file) keys) folders folder after sinks out out_after how → Does (bytes_play_work bytes keys) folders folder after sinks out out_after how
 plays_valid bytes file keys folders folder after sinks out out_after how none same does =
     does_valid (λ tables. tables_play_work tables keys) bytes file folders folder after sinks out out_after how none same does
 
 pub plays_unread : {F S : Type 0} (bytes keys : List ℕ) (error : VerifyError) (folders : FolderView F) (folder : F) (sinks : SinkView S) (out out_after : S) (how : Status)
-    → IsRefusal error (λ fault. fault_of bytes ≡ Some fault) → TellsStop (verify_stop error) sinks out out_after how → Does (bytes_play_work bytes keys) folders folder folder sinks out out_after how
+    → IsRefusal error (λ fault. fault_of bytes ≡ Some fault) → PrintsStop (verify_stop error) sinks out out_after how → Does (bytes_play_work bytes keys) folders folder folder sinks out out_after how
 plays_unread bytes keys error folders folder sinks out out_after how is tells =
     does_unread (λ tables. tables_play_work tables keys) bytes error folders folder sinks out out_after how is tells
 

@@ -12,20 +12,20 @@ use Rattle.keyman_run.specs.Orders.{bytes_host_work, tables_host_work}
 use Rattle.keyman_run.specs.Run.{Does}
 use Rattle.keyman_words.specs.Seen.{FolderView, SinkView}
 use Rattle.keyman_words.specs.Tells.{Tells}
-use Rattle.keyman_run.specs.Steps.{TellsStop, verify_stop}
+use Rattle.keyman_run.specs.Steps.{PrintsStop, verify_stop}
 use Rattle.keyman_run.specs.Work.Work.{Give}
 use Rattle.keyman_run.proofs.FileRuns.{does_unread, does_valid}
 use Rattle.keyman_run.proofs.RunLaws.{does_told}
 
 -- if bytes are a valid file, a run that plays on its tables plays on the bytes; if their opening stops, a run that satisfies
--- `TellsStop` for this stop does
+-- `PrintsStop` for this stop does
 pub hosts_valid : {F S : Type 0} (bytes file keys : List ℕ) (folders : FolderView F) (folder after : F) (sinks : SinkView S) (out out_after : S) (how : Status) → fault_of bytes ≡ None → file ≡ bytes
     → Does (tables_host_work (tables_of file) keys) folders folder after sinks out out_after how → Does (bytes_host_work bytes keys) folders folder after sinks out out_after how
 hosts_valid bytes file keys folders folder after sinks out out_after how none same does =
     does_valid (λ tables. tables_host_work tables keys) bytes file folders folder after sinks out out_after how none same does
 
 pub hosts_unread : {F S : Type 0} (bytes keys : List ℕ) (error : VerifyError) (folders : FolderView F) (folder : F) (sinks : SinkView S) (out out_after : S) (how : Status)
-    → IsRefusal error (λ fault. fault_of bytes ≡ Some fault) → TellsStop (verify_stop error) sinks out out_after how → Does (bytes_host_work bytes keys) folders folder folder sinks out out_after how
+    → IsRefusal error (λ fault. fault_of bytes ≡ Some fault) → PrintsStop (verify_stop error) sinks out out_after how → Does (bytes_host_work bytes keys) folders folder folder sinks out out_after how
 hosts_unread bytes keys error folders folder sinks out out_after how is tells =
     does_unread (λ tables. tables_host_work tables keys) bytes error folders folder sinks out out_after how is tells
 

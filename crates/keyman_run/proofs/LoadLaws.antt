@@ -46,7 +46,7 @@ use Rattle.keyman_run.specs.Orders.{work_of}
 use Rattle.keyman_run.specs.Run.{Does}
 use Rattle.keyman_words.specs.Seen.{FolderView, SinkView}
 use Rattle.keyman_words.specs.Tells.{Tells}
-use Rattle.keyman_run.specs.Steps.{States, TellsLoad, TellsStop, compile_stop, load_stop, verify_stop, itself}
+use Rattle.keyman_run.specs.Steps.{States, PrintsLoad, PrintsStop, compile_stop, load_stop, verify_stop, itself}
 use Rattle.keyman_run.specs.Work.{given, and_then}
 use Rattle.keyman_run.specs.Work.Work.{Give, Refuse}
 use Rattle.play_transcript.proofs.PrintingLaws.{none_begun}
@@ -187,41 +187,41 @@ module _ (session : SessionState) (progress : Progress) (entries : List Entry) (
       let put : progress.put + 0 ≡ progress.put = omega arith in
       sym is ∙ ap (sums_left session progress) (drop_of_length-le entries all) ∙ (λ j. Ok (record { events = events j; put = put j; text = length (whole_text session.state) }))
 
--- if a run prints the line of a load, or the reason for which it stops, it satisfies `TellsLoad`
+-- if a run prints the line of a load, or the reason for which it stops, it satisfies `PrintsLoad`
 tells_loaded : {S : Type 0} (loaded : Result (List ℕ) Reason) (slice line : List ℕ) (sinks : SinkView S) (out out_after : S) (how : Status) → loaded ≡ Ok line → slice ≡ line
-    → Tells status.Done slice sinks out out_after how → TellsLoad loaded sinks out out_after how
+    → Tells status.Done slice sinks out out_after how → PrintsLoad loaded sinks out out_after how
 tells_loaded loaded slice line sinks out out_after how is same tells =
-    subst (λ (read : Result (List ℕ) Reason). TellsLoad read sinks out out_after how) (sym is) (subst (λ (l : List ℕ). Tells status.Done l sinks out out_after how) same tells)
+    subst (λ (read : Result (List ℕ) Reason). PrintsLoad read sinks out out_after how) (sym is) (subst (λ (l : List ℕ). Tells status.Done l sinks out out_after how) same tells)
 
-nothing_told : {S : Type 0} (loaded : Result (List ℕ) Reason) (sinks : SinkView S) (out : S) → TellsLoad loaded sinks out out status.Memory
+nothing_told : {S : Type 0} (loaded : Result (List ℕ) Reason) (sinks : SinkView S) (out : S) → PrintsLoad loaded sinks out out status.Memory
 nothing_told (Ok line) sinks out = record { counts = refl; told = refl; prints = λ told. none_begun (sinks.written out) _ }
 nothing_told (Err why) sinks out = record { counts = refl; told = refl; prints = λ told. none_begun (sinks.written out) _ }
 
 tells_unloaded : {S : Type 0} (loaded : Result (List ℕ) Reason) (s : Stop) (sinks : SinkView S) (out out_after : S) (how : Status) → States {A = List ℕ} itself loaded (Err s)
-    → TellsStop s sinks out out_after how → TellsLoad loaded sinks out out_after how
+    → PrintsStop s sinks out out_after how → PrintsLoad loaded sinks out out_after how
 tells_unloaded loaded (stop.Refused why) sinks out out_after how is tells =
-    subst (λ (read : Result (List ℕ) Reason). TellsLoad read sinks out out_after how) (sym is) tells
+    subst (λ (read : Result (List ℕ) Reason). PrintsLoad read sinks out out_after how) (sym is) tells
 tells_unloaded loaded stop.ReadFault sinks out out_after how is tells = absurd is
 tells_unloaded {S} loaded stop.Memory sinks out out_after how is tells =
-    subst (λ (o : S). TellsLoad loaded sinks out o how) (sym tells.1)
-    (subst (λ (s : Status). TellsLoad loaded sinks out out s) (sym tells.0) (nothing_told loaded sinks out))
+    subst (λ (o : S). PrintsLoad loaded sinks out o how) (sym tells.1)
+    (subst (λ (s : Status). PrintsLoad loaded sinks out out s) (sym tells.0) (nothing_told loaded sinks out))
 
 -- the same for the load of a number, from the result of playing it
 pub load_told : {S : Type 0} (number : ℕ) (slice line : List ℕ) (sinks : SinkView S) (out out_after : S) (how : Status) → played_load number ≡ Ok line → slice ≡ line
-    → Tells status.Done slice sinks out out_after how → TellsLoad (load_text number) sinks out out_after how
+    → Tells status.Done slice sinks out out_after how → PrintsLoad (load_text number) sinks out out_after how
 load_told number slice line sinks out out_after how is same tells =
-    subst (λ (loaded : Result (List ℕ) Reason). TellsLoad loaded sinks out out_after how) (load_stated number)
+    subst (λ (loaded : Result (List ℕ) Reason). PrintsLoad loaded sinks out out_after how) (load_stated number)
     (tells_loaded (played_load number) slice line sinks out out_after how is same tells)
 
 pub stop_told : {S : Type 0} (number : ℕ) (s : Stop) (sinks : SinkView S) (out out_after : S) (how : Status) → States {A = List ℕ} itself (played_load number) (Err s)
-    → TellsStop s sinks out out_after how → TellsLoad (load_text number) sinks out out_after how
+    → PrintsStop s sinks out out_after how → PrintsLoad (load_text number) sinks out out_after how
 stop_told number s sinks out out_after how is tells =
-    subst (λ (loaded : Result (List ℕ) Reason). TellsLoad loaded sinks out out_after how) (load_stated number)
+    subst (λ (loaded : Result (List ℕ) Reason). PrintsLoad loaded sinks out out_after how) (load_stated number)
     (tells_unloaded (played_load number) s sinks out out_after how is tells)
 
 -- if a run prints the result of a load, it does the work of the load
 pub does_load : {F S : Type 0} (loaded : Result (List ℕ) Reason) (folders : FolderView F) (folder : F) (sinks : SinkView S) (out out_after : S) (how : Status)
-    → TellsLoad loaded sinks out out_after how → Does (and_then (given loaded) (λ line. Give (load_ending line))) folders folder folder sinks out out_after how
+    → PrintsLoad loaded sinks out out_after how → Does (and_then (given loaded) (λ line. Give (load_ending line))) folders folder folder sinks out out_after how
 does_load (Ok line) folders folder sinks out out_after how tells =
     does_told (Give (load_ending line)) (load_ending line) folders folder folder sinks out out_after how refl refl
     (λ told. (refl, record { asked = sym (append-nil (folders.calls folder)); files = λ name. refl })) tells
@@ -231,7 +231,7 @@ does_load (Err why) folders folder sinks out out_after how tells =
 
 -- the same for a request of a load
 pub load_runs : {F S : Type 0} (number : ℕ) (request : Option Request) (folders : FolderView F) (folder : F) (sinks : SinkView S) (out out_after : S) (how : Status)
-    → Some (Load number) ≡ request → TellsLoad (load_text number) sinks out out_after how → Does (work_of request) folders folder folder sinks out out_after how
+    → Some (Load number) ≡ request → PrintsLoad (load_text number) sinks out out_after how → Does (work_of request) folders folder folder sinks out out_after how
 load_runs number request folders folder sinks out out_after how is tells =
     subst (λ (r : Option Request). Does (work_of r) folders folder folder sinks out out_after how) is
     (does_load (load_text number) folders folder sinks out out_after how tells)

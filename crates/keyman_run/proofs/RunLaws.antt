@@ -15,7 +15,7 @@ use Rattle.keyman_run.specs.Endings.{Ending, conclusion, refused_ending, ends, f
 use Rattle.keyman_run.specs.Run.{Written, HasRead, HasBegunToRead, HasFailedToRead, HasWorked, IsEnded, IsSpoilt, IsCutOff, LeavesBy, FaultCounts, Does}
 use Rattle.keyman_words.specs.Seen.{FolderView, SinkView, FolderState, SinkState, seen_folder, seen_sink}
 use Rattle.keyman_words.specs.Tells.{SinkCounts, PrintsBy, Tells, write_status}
-use Rattle.keyman_run.specs.Steps.{StopCounts, GivesBy, Gives, TellsStop}
+use Rattle.keyman_run.specs.Steps.{StopCounts, GivesBy, Gives, PrintsStop}
 use Rattle.keyman_run.specs.Work.{Work, and_then, reads, comes_to}
 use Rattle.keyman_run.specs.Work.Work.{Give, Refuse}
 use Rattle.keyman_run.proofs.AskedLaws.{first_front, until_front, joined, first_behind, until_behind, all_behind, first_none}
@@ -267,9 +267,9 @@ does_unwritten good printed name bytes written folders folder after sinks out wr
       inl (record { asked = record { front = []; rest = []; parts = refl; made = w.1 ∙ sym (append-nil (folders.calls folder)) }; files = w.0 }, λ told_sink. refl);
 }
 
--- if work stops before it writes and the run satisfies `TellsStop` for this stop, the run does the work followed by any more work
+-- if work stops before it writes and the run satisfies `PrintsStop` for this stop, the run does the work followed by any more work
 pub does_stopped : {F S A B : Type 0} (seen : A → B) (part : Work B) (more : B → Work Ending) (folders : FolderView F) (folder after : F) (s : Stop) (sinks : SinkView S) (out out_after : S) (how : Status)
-    → Gives seen part folders folder after (Err s) → TellsStop s sinks out out_after how → Does (and_then part more) folders folder after sinks out out_after how
+    → Gives seen part folders folder after (Err s) → PrintsStop s sinks out out_after how → Does (and_then part more) folders folder after sinks out out_after how
 does_stopped seen part more folders folder after (stop.Refused why) sinks out out_after how g tells =
     does_told (and_then part more) (refused_ending why) folders folder after sinks out out_after how g.counts g.told
     (λ told.

@@ -19,9 +19,9 @@ use Rattle.keyman_words.specs.declared.status.Status.{Status}
 use Rattle.keyman_run.specs.Endings.{Ending, refused_ending, shadow_ending}
 use Rattle.keyman_run.specs.Inputs.{Pictured, few_records}
 use Rattle.keyman_run.specs.Orders.{compiled_work, program_work, shadow_work}
-use Rattle.keyman_run.specs.Run.{Does, FieldsAreAlone, LinesAreDead}
+use Rattle.keyman_run.specs.Run.{Does, FieldsAreIndependent, LinesAreDead}
 use Rattle.keyman_words.specs.Seen.{FolderView, SinkView}
-use Rattle.keyman_run.specs.Steps.{TellsDead}
+use Rattle.keyman_run.specs.Steps.{PrintsDeadRules}
 use Rattle.keyman_run.specs.Work.{Work, given, and_then, comes_to}
 use Rattle.keyman_run.specs.Work.Work.{Give, Refuse}
 use Rattle.keyman_run.proofs.MeaningLaws.{IsCompilable, all_compilable, file_behind}
@@ -40,7 +40,7 @@ shadow_in_steps source = file_behind source search_behind
 
 -- if a run prints the result of a search, it does the work of the search
 does_found : {F S : Type 0} (few : Result Tables Reason) (folders : FolderView F) (folder : F) (sinks : SinkView S) (out out_after : S) (how : Status)
-    → TellsDead few sinks out out_after how → Does (and_then (given few) search_tables) folders folder folder sinks out out_after how
+    → PrintsDeadRules few sinks out out_after how → Does (and_then (given few) search_tables) folders folder folder sinks out out_after how
 does_found (Ok tables) folders folder sinks out out_after how tells =
     does_told (Give (shadow_ending tables)) (shadow_ending tables) folders folder folder sinks out out_after how refl refl
     (λ told. (refl, record { asked = sym (append-nil (folders.calls folder)); files = λ name. refl })) tells
@@ -49,7 +49,7 @@ does_found (Err why) folders folder sinks out out_after how tells =
     (λ told. (refl, record { asked = sym (append-nil (folders.calls folder)); files = λ name. refl })) tells
 
 pub does_searched : {F S : Type 0} (compiled : Compiled) (folders : FolderView F) (folder : F) (sinks : SinkView S) (out out_after : S) (how : Status)
-    → TellsDead (few_records compiled.tables) sinks out out_after how → Does (search_behind compiled) folders folder folder sinks out out_after how
+    → PrintsDeadRules (few_records compiled.tables) sinks out out_after how → Does (search_behind compiled) folders folder folder sinks out out_after how
 does_searched compiled folders folder sinks out out_after how tells = does_found (few_records compiled.tables) folders folder sinks out out_after how tells
 
 -- the lines that are printed for a source never fire in its program
@@ -73,7 +73,7 @@ lines_are_dead files (Some (Shadow source)) = λ pictured is. source_dead files 
 lines_are_dead files (Some (Host file keys)) = tt
 
 -- whatever a host plays, the steps of each field are the steps of its events only
-pub fields_are_alone : (files : Files) (request : Option Request) → FieldsAreAlone files request
+pub fields_are_alone : (files : Files) (request : Option Request) → FieldsAreIndependent files request
 fields_are_alone files None = tt
 fields_are_alone files (Some (Compile source file)) = tt
 fields_are_alone files (Some (Test source file keys)) = tt

@@ -146,8 +146,8 @@ LinesAreDead files _ = Unit {0}
 
 -- if the file of a host is valid and the script is read for it, the steps of each field are the steps of its events only, and
 -- these steps are printed for it
-abbrev pub FieldsAreAlone : Files → Option Request → Type 0
-FieldsAreAlone files (Some (Host file keys)) = (tables : Tables) → (entries : List HostEntry) → comes_to files (tables_work file) ≡ Some (Ok tables)
+abbrev pub FieldsAreIndependent : Files → Option Request → Type 0
+FieldsAreIndependent files (Some (Host file keys)) = (tables : Tables) → (entries : List HostEntry) → comes_to files (tables_work file) ≡ Some (Ok tables)
     → comes_to files (host_script_work (tab tables).dictionary keys) ≡ Some (Ok entries)
     → FieldsAreTraces tables entries × StepsAreTold tables entries
-FieldsAreAlone files _ = Unit {0}
+FieldsAreIndependent files _ = Unit {0}

@@ -7,7 +7,7 @@ use Rattle.keyman_run.specs.Asked.{AsksBy}
 use Rattle.keyman_words.specs.Command.{is_form, request_of}
 use Rattle.keyman_run.specs.Endings.{asked, ends}
 use Rattle.keyman_run.specs.Orders.{work_of}
-use Rattle.keyman_run.specs.Run.{FaultCounts, FieldsAreAlone, FileMeans, Leaves, LinesAreDead}
+use Rattle.keyman_run.specs.Run.{FaultCounts, FieldsAreIndependent, FileMeans, Leaves, LinesAreDead}
 use Rattle.keyman_words.specs.Seen.{FolderView, SinkView, seen_folder, seen_sink}
 
 -- a run of arguments from one state of a folder and a sink to another, with this status; its work is `work_of` of the request
@@ -28,4 +28,4 @@ pub record Runs {F S : Type 0} (said : List (List ℕ)) (folders : FolderView F)
   pub means : IsTrue (folders.told folder)
       → FileMeans (seen_folder folders folder) (seen_folder folders folder_after) (request_of said)
   pub shadows : IsTrue (folders.told folder) → LinesAreDead (folders.files folder) (request_of said)
-  pub hosts : IsTrue (folders.told folder) → FieldsAreAlone (folders.files folder) (request_of said)
+  pub hosts : IsTrue (folders.told folder) → FieldsAreIndependent (folders.files folder) (request_of said)

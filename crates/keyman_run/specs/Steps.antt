@@ -119,22 +119,22 @@ abbrev pub prepared_job : Prepared → Job
 prepared_job prepared = record { compiled = prepared.compiled; entries = prepared.entries }
 
 -- a run that stops before it writes prints the line of a refusal, or no output
-abbrev pub TellsStop : {S : Type 0} → Stop → SinkView S → S → S → Status → Type 0
-TellsStop (stop.Refused why) sinks out out_after s = Tells status.Refused (reason_line why) sinks out out_after s
-TellsStop stop.ReadFault sinks out out_after s = (s ≡ status.ReadFault) × (out_after ≡ out)
-TellsStop stop.Memory sinks out out_after s = (s ≡ status.Memory) × (out_after ≡ out)
+abbrev pub PrintsStop : {S : Type 0} → Stop → SinkView S → S → S → Status → Type 0
+PrintsStop (stop.Refused why) sinks out out_after s = Tells status.Refused (reason_line why) sinks out out_after s
+PrintsStop stop.ReadFault sinks out out_after s = (s ≡ status.ReadFault) × (out_after ≡ out)
+PrintsStop stop.Memory sinks out out_after s = (s ≡ status.Memory) × (out_after ≡ out)
 
 -- what a run prints for a file: the line of its tables or of its fault
-abbrev pub TellsFile : {S : Type 0} → Result Tables Reason → SinkView S → S → S → Status → Type 0
-TellsFile (Ok tables) sinks out out_after s = Tells status.Done (valid_line tables) sinks out out_after s
-TellsFile (Err why) sinks out out_after s = Tells status.Refused (reason_line why) sinks out out_after s
+abbrev pub PrintsFileCounts : {S : Type 0} → Result Tables Reason → SinkView S → S → S → Status → Type 0
+PrintsFileCounts (Ok tables) sinks out out_after s = Tells status.Done (valid_line tables) sinks out out_after s
+PrintsFileCounts (Err why) sinks out out_after s = Tells status.Refused (reason_line why) sinks out out_after s
 
 -- what a run prints for a load: its line, or the line of a reason
-abbrev pub TellsLoad : {S : Type 0} → Result (List ℕ) Reason → SinkView S → S → S → Status → Type 0
-TellsLoad (Ok line) sinks out out_after s = Tells status.Done line sinks out out_after s
-TellsLoad (Err why) sinks out out_after s = Tells status.Refused (reason_line why) sinks out out_after s
+abbrev pub PrintsLoad : {S : Type 0} → Result (List ℕ) Reason → SinkView S → S → S → Status → Type 0
+PrintsLoad (Ok line) sinks out out_after s = Tells status.Done line sinks out out_after s
+PrintsLoad (Err why) sinks out out_after s = Tells status.Refused (reason_line why) sinks out out_after s
 
 -- what a run prints for a search for dead rules: what it found, or the line of a reason
-abbrev pub TellsDead : {S : Type 0} → Result Tables Reason → SinkView S → S → S → Status → Type 0
-TellsDead (Ok tables) sinks out out_after s = Tells status.Done (dead_text tables) sinks out out_after s
-TellsDead (Err why) sinks out out_after s = Tells status.Refused (reason_line why) sinks out out_after s
+abbrev pub PrintsDeadRules : {S : Type 0} → Result Tables Reason → SinkView S → S → S → Status → Type 0
+PrintsDeadRules (Ok tables) sinks out out_after s = Tells status.Done (dead_text tables) sinks out out_after s
+PrintsDeadRules (Err why) sinks out out_after s = Tells status.Refused (reason_line why) sinks out out_after s

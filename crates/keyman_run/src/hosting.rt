@@ -10,7 +10,7 @@ ghost use Rattle.keyman_words.specs.Tells.{Tells};
 ghost use Rattle.keyman_run.specs.Steps.{Gives, itself};
 
 use crate::preparing::{Stop, at_line_one, own_names, read_file, read_stop};
-use crate::running::{end_status, tell_stop};
+use crate::running::{end_status, print_stop};
 use keyman_words::{FileName, Status, read, write_status};
 use kmn_base::limits::TEXT_BYTES;
 use kmn_base::{Code, Seq};
@@ -34,7 +34,7 @@ pub fn host_on_file<F: Folder, S: Sink>(
 {
     match read_file(alloc, file, folder) {
         Ok(bytes) => host_on_bytes(alloc, bytes.as_slice(), keys, folder, out),
-        Err(stop) => tell_stop(alloc, stop, out),
+        Err(stop) => print_stop(alloc, stop, out),
     }
 }
 
@@ -51,7 +51,7 @@ fn host_on_bytes<F: Folder, S: Sink>(
 {
     match verify(alloc, bytes) {
         Ok(file) => host_on_valid(alloc, &file, keys, folder, out),
-        Err(error) => tell_stop(alloc, Stop::from(error), out),
+        Err(error) => print_stop(alloc, Stop::from(error), out),
     }
 }
 
@@ -66,8 +66,8 @@ fn host_on_valid<'a, F: Folder, S: Sink>(
     ensures { Does (tables_host_work (tables_of file.now) keys.now) F.Folder folder.old folder.new S.Sink out.old out.new result }
 {
     match read_for_file(alloc, file, keys, folder) {
-        Ok(entries) => tell_hosted(alloc, file, entries.as_slice(), out),
-        Err(stop) => tell_stop(alloc, stop, out),
+        Ok(entries) => print_host_play(alloc, file, entries.as_slice(), out),
+        Err(stop) => print_stop(alloc, stop, out),
     }
 }
 
@@ -102,7 +102,7 @@ fn read_host_entries<F: Folder>(
 
 /// Prints what the fields of a host on a valid file do with a script.
 #[tactic(auto, using(play_transcript::proofs::PrintingLaws::none_begun))]
-fn tell_hosted<'a, S: Sink>(
+fn print_host_play<'a, S: Sink>(
     alloc: Global,
     file: &'a Verified<'a>,
     entries: &[HostEntry],

@@ -14,7 +14,7 @@ ghost use Rattle.keyman_run.specs.Loads.{load_text};
 ghost use Rattle.keyman_run.specs.Run.{Does, TextMeans};
 ghost use Rattle.keyman_run.specs.Runs.{Runs};
 ghost use Rattle.keyman_words.specs.Tells.{Tells};
-ghost use Rattle.keyman_run.specs.Steps.{IsCompiled, TellsFile, TellsLoad, TellsStop};
+ghost use Rattle.keyman_run.specs.Steps.{IsCompiled, PrintsFileCounts, PrintsLoad, PrintsStop};
 
 use crate::hosting::host_on_file;
 use crate::layouts::read_keys;
@@ -24,8 +24,8 @@ use crate::shadowing::shadow_rules;
 use crate::texts::read_text;
 use crate::tracing::trace_rules;
 use keyman_words::{
-    Command, FileName, Status, command_of, compiled_line, decompiled_line, reason_line, sound_line,
-    tell_line, tell_made, valid_line, write, write_status,
+    Command, FileName, Status, command_of, compiled_line, decompiled_line, print_line,
+    print_result, reason_line, sound_line, valid_line, write, write_status,
 };
 use kmn_base::{Memory, Text};
 use kmn_outside::{Folder, Sink};
@@ -79,10 +79,10 @@ fn compile<F: Folder, S: Sink>(
 {
     match read_and_compile(alloc, source, folder) {
         Ok(compiled) => match write(alloc, file, compiled.bytes.as_slice(), folder) {
-            Ok(()) => tell_made(compiled_line(alloc, &compiled), Status::Done, out),
+            Ok(()) => print_result(compiled_line(alloc, &compiled), Status::Done, out),
             Err(error) => write_status(error),
         },
-        Err(stop) => tell_stop(alloc, stop, out),
+        Err(stop) => print_stop(alloc, stop, out),
     }
 }
 
@@ -105,7 +105,7 @@ fn test<F: Folder, S: Sink>(
             Ok(()) => play_file(alloc, &prepared, out),
             Err(error) => write_status(error),
         },
-        Err(stop) => tell_stop(alloc, stop, out),
+        Err(stop) => print_stop(alloc, stop, out),
     }
 }
 
@@ -119,18 +119,18 @@ fn verify_file<F: Folder, S: Sink>(
     ensures { Does (verify_work file.now) F.Folder folder.old folder.new S.Sink out.old out.new result }
 {
     match read_file(alloc, file, folder) {
-        Ok(bytes) => tell_file(alloc, bytes.as_slice(), out),
-        Err(stop) => tell_stop(alloc, stop, out),
+        Ok(bytes) => print_file_counts(alloc, bytes.as_slice(), out),
+        Err(stop) => print_stop(alloc, stop, out),
     }
 }
 
 /// Prints the version and counts of a file, or its first fault.
-fn tell_file<S: Sink>(alloc: Global, bytes: &[u8], out: &mut S) -> Status
-    ensures { TellsFile (tables_of_file bytes.now) S.Sink out.old out.new result }
+fn print_file_counts<S: Sink>(alloc: Global, bytes: &[u8], out: &mut S) -> Status
+    ensures { PrintsFileCounts (tables_of_file bytes.now) S.Sink out.old out.new result }
 {
     match verify(alloc, bytes) {
-        Ok(file) => tell_made(valid_line(alloc, &file), Status::Done, out),
-        Err(error) => tell_stop(alloc, Stop::from(error), out),
+        Ok(file) => print_result(valid_line(alloc, &file), Status::Done, out),
+        Err(error) => print_stop(alloc, Stop::from(error), out),
     }
 }
 
@@ -148,10 +148,10 @@ fn decompile<F: Folder, S: Sink>(
 {
     match read_text(alloc, file, folder) {
         Ok(text) => match write(alloc, source, text.as_slice(), folder) {
-            Ok(()) => tell_made(decompiled_line(alloc, &text), Status::Done, out),
+            Ok(()) => print_result(decompiled_line(alloc, &text), Status::Done, out),
             Err(error) => write_status(error),
         },
-        Err(stop) => tell_stop(alloc, stop, out),
+        Err(stop) => print_stop(alloc, stop, out),
     }
 }
 
@@ -167,7 +167,7 @@ fn play_on_file<F: Folder, S: Sink>(
 {
     match read_file(alloc, file, folder) {
         Ok(bytes) => play_on_bytes(alloc, bytes.as_slice(), keys, folder, out),
-        Err(stop) => tell_stop(alloc, stop, out),
+        Err(stop) => print_stop(alloc, stop, out),
     }
 }
 
@@ -184,7 +184,7 @@ fn play_on_bytes<F: Folder, S: Sink>(
 {
     match verify(alloc, bytes) {
         Ok(file) => play_on_valid(alloc, &file, keys, folder, out),
-        Err(error) => tell_stop(alloc, Stop::from(error), out),
+        Err(error) => print_stop(alloc, Stop::from(error), out),
     }
 }
 
@@ -217,8 +217,8 @@ fn play_in_session<'a, F: Folder, S: Sink>(
     ensures { Does (tables_play_work session.entry.tables keys.now) F.Folder folder.old folder.new S.Sink out.old out.new result }
 {
     match read_own_entries(alloc, &session, keys, folder) {
-        Ok(entries) => tell_session(alloc, session, entries.as_slice(), out),
-        Err(stop) => tell_stop(alloc, stop, out),
+        Ok(entries) => print_play(alloc, session, entries.as_slice(), out),
+        Err(stop) => print_stop(alloc, stop, out),
     }
 }
 
@@ -234,7 +234,7 @@ fn check_layout<F: Folder, S: Sink>(
 {
     match read_and_compile(alloc, source, folder) {
         Ok(compiled) => check_beside(alloc, &compiled.tables, layout, folder, out),
-        Err(stop) => tell_stop(alloc, stop, out),
+        Err(stop) => print_stop(alloc, stop, out),
     }
 }
 
@@ -249,24 +249,24 @@ fn check_beside<F: Folder, S: Sink>(
     ensures { Does (tables_layout_work tables.now layout.now) F.Folder folder.old folder.new S.Sink out.old out.new result }
 {
     match read_keys(alloc, layout, tables, folder) {
-        Ok(count) => tell_made(sound_line(alloc, count), Status::Done, out),
-        Err(stop) => tell_stop(alloc, stop, out),
+        Ok(count) => print_result(sound_line(alloc, count), Status::Done, out),
+        Err(stop) => print_stop(alloc, stop, out),
     }
 }
 
 /// Generates, compiles and plays a load, and prints its line.
 fn load<S: Sink>(alloc: Global, number: u32, out: &mut S) -> Status
-    ensures { TellsLoad (load_text number) S.Sink out.old out.new result }
+    ensures { PrintsLoad (load_text number) S.Sink out.old out.new result }
 {
     match played_load(alloc, number) {
-        Ok(line) => tell_line(line.as_slice(), Status::Done, out),
-        Err(stop) => tell_stop(alloc, stop, out),
+        Ok(line) => print_line(line.as_slice(), Status::Done, out),
+        Err(stop) => print_stop(alloc, stop, out),
     }
 }
 
 /// Prints what the keyboard of a valid file does with a script.
 #[tactic(auto, using(play_transcript::proofs::PrintingLaws::none_begun))]
-fn tell_played<'a, S: Sink>(
+fn print_played<'a, S: Sink>(
     alloc: Global,
     file: &'a Verified<'a>,
     entries: &[Entry],
@@ -276,14 +276,14 @@ fn tell_played<'a, S: Sink>(
         (transcript (tab (tables_of file.now)) entries.now) S.Sink out.old out.new result }
 {
     match Session::start(alloc, file) {
-        Ok(session) => tell_session(alloc, session, entries, out),
+        Ok(session) => print_play(alloc, session, entries, out),
         Err(Memory) => Status::Memory,
     }
 }
 
 /// Prints what a session before its first event does with a script.
 #[tactic(auto, using(play_transcript::proofs::PrintingLaws::none_begun))]
-fn tell_session<'a, S: Sink>(
+fn print_play<'a, S: Sink>(
     alloc: Global,
     session: Session<'a>,
     entries: &[Entry],
@@ -301,11 +301,11 @@ fn tell_session<'a, S: Sink>(
 
 /// Ends a run that stops before it writes. Only a refusal prints a line.
 #[tactic(auto, using(keyman_words::proofs::Printed::tells_made))]
-pub fn tell_stop<S: Sink>(alloc: Global, stop: Stop, out: &mut S) -> Status
-    ensures { TellsStop stop S.Sink out.old out.new result }
+pub fn print_stop<S: Sink>(alloc: Global, stop: Stop, out: &mut S) -> Status
+    ensures { PrintsStop stop S.Sink out.old out.new result }
 {
     match stop {
-        Stop::Refused(why) => tell_made(reason_line(alloc, why), Status::Refused, out),
+        Stop::Refused(why) => print_result(reason_line(alloc, why), Status::Refused, out),
         Stop::ReadFault => Status::ReadFault,
         Stop::Memory => Status::Memory,
     }
@@ -319,8 +319,8 @@ fn play_file<S: Sink>(alloc: Global, prepared: &Prepared, out: &mut S) -> Status
         (transcript (tab prepared.now.compiled.tables) prepared.now.entries) S.Sink out.old out.new result }
 {
     match verify(alloc, prepared.compiled.bytes.as_slice()) {
-        Ok(file) => tell_played(alloc, &file, prepared.entries.as_slice(), out),
-        Err(error) => tell_stop(alloc, Stop::from(error), out),
+        Ok(file) => print_played(alloc, &file, prepared.entries.as_slice(), out),
+        Err(error) => print_stop(alloc, Stop::from(error), out),
     }
 }
 

@@ -3,11 +3,11 @@
 ghost use Rattle.keyman_run.specs.Inputs.{few_records};
 ghost use Rattle.keyman_run.specs.Orders.{shadow_work};
 ghost use Rattle.keyman_run.specs.Run.{Does};
-ghost use Rattle.keyman_run.specs.Steps.{IsCompiled, TellsDead};
+ghost use Rattle.keyman_run.specs.Steps.{IsCompiled, PrintsDeadRules};
 
 use crate::preparing::{Stop, read_and_compile};
-use crate::running::tell_stop;
-use keyman_words::{FileName, Reason, Status, tell_made};
+use crate::running::print_stop;
+use keyman_words::{FileName, Reason, Status, print_result};
 use kmn_base::limits::SHADOW_RECORDS;
 use kmn_compiler::Compiled;
 use kmn_outside::{Folder, Sink};
@@ -25,20 +25,20 @@ pub fn shadow_rules<F: Folder, S: Sink>(
     ensures { Does (shadow_work source.now) F.Folder folder.old folder.new S.Sink out.old out.new result }
 {
     match read_and_compile(alloc, source, folder) {
-        Ok(compiled) => tell_dead(alloc, &compiled, out),
-        Err(stop) => tell_stop(alloc, stop, out),
+        Ok(compiled) => print_dead_rules(alloc, &compiled, out),
+        Err(stop) => print_stop(alloc, stop, out),
     }
 }
 
 /// Prints lines of a compiled source that never fire, or refuses a source with too many records to search.
 #[tactic(auto, using(keyman_words::proofs::Printed::tells_made))]
-fn tell_dead<S: Sink>(alloc: Global, compiled: &Compiled, out: &mut S) -> Status
+fn print_dead_rules<S: Sink>(alloc: Global, compiled: &Compiled, out: &mut S) -> Status
     requires { IsCompiled compiled.now }
-    ensures { TellsDead (few_records compiled.now.tables) S.Sink out.old out.new result }
+    ensures { PrintsDeadRules (few_records compiled.now.tables) S.Sink out.old out.new result }
 {
     let count = rule_count(compiled.tables.groups.as_slice());
     if count > SHADOW_RECORDS as u64 {
-        return tell_stop(alloc, Stop::Refused(Reason::Records(count)), out);
+        return print_stop(alloc, Stop::Refused(Reason::Records(count)), out);
     }
-    tell_made(dead_text(alloc, &compiled.tables), Status::Done, out)
+    print_result(dead_text(alloc, &compiled.tables), Status::Done, out)
 }

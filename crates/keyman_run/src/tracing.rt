@@ -15,7 +15,7 @@ ghost use Rattle.keyman_words.specs.Tells.{Tells};
 ghost use Rattle.keyman_run.specs.Steps.{IsCompiled};
 
 use crate::preparing::{Prepared, Stop, prepare};
-use crate::running::tell_stop;
+use crate::running::print_stop;
 use keyman_words::{FileName, Status, write_status};
 use kmn_outside::{Folder, Sink};
 use kmx_verifier::{Verified, verify};
@@ -37,7 +37,7 @@ pub fn trace_rules<F: Folder, S: Sink>(
 {
     match prepare(alloc, source, keys, folder) {
         Ok(prepared) => trace_file(alloc, &prepared, out),
-        Err(stop) => tell_stop(alloc, stop, out),
+        Err(stop) => print_stop(alloc, stop, out),
     }
 }
 
@@ -51,14 +51,14 @@ fn trace_file<S: Sink>(alloc: Global, prepared: &Prepared, out: &mut S) -> Statu
         return Status::Memory;
     };
     match verify(alloc, prepared.compiled.bytes.as_slice()) {
-        Ok(file) => tell_traced(alloc, &file, coverage, prepared.entries.as_slice(), out),
-        Err(error) => tell_stop(alloc, Stop::from(error), out),
+        Ok(file) => print_trace(alloc, &file, coverage, prepared.entries.as_slice(), out),
+        Err(error) => print_stop(alloc, Stop::from(error), out),
     }
 }
 
 /// Prints which lines fire when the keyboard of a valid file runs a script. All counts of the coverage must be 0.
 #[tactic(auto, using(play_transcript::proofs::PrintingLaws::none_begun))]
-fn tell_traced<'a, S: Sink>(
+fn print_trace<'a, S: Sink>(
     alloc: Global,
     file: &'a Verified<'a>,
     coverage: Coverage,

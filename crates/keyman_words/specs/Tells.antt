@@ -29,7 +29,7 @@ pub record Tells {S : Type 0} (good : Status) (bytes : List ℕ) (sinks : SinkVi
   pub prints : IsTrue (sinks.told out) → PrintsBy bytes (sinks.written out) (sinks.written out_after) how
 
 -- bytes that were made are printed as in `Tells`; if an allocation failed while they were made, the sink is unchanged
-pub record TellsMade {S E : Type 0} (good : Status) (made : Result (List ℕ) E) (sinks : SinkView S) (out out_after : S) (how : Status) : Type 0 where
+pub record PrintsResult {S E : Type 0} (good : Status) (made : Result (List ℕ) E) (sinks : SinkView S) (out out_after : S) (how : Status) : Type 0 where
   pub printed : IfOk made (λ bytes. Tells good bytes sinks out out_after how)
   pub silent : IfErr made (λ _. (how ≡ status.Memory) × (out_after ≡ out))
 

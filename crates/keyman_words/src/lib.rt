@@ -12,7 +12,7 @@
 //! - `reason_line` returns the line of a `Reason` why work is refused (`specs/Reasons`). `compiled_line`, `valid_line`,
 //!   `decompiled_line` and `sound_line` return the lines of work that was done (`specs/Lines`). Each returns exactly its line, unless
 //!   an allocation fails. `LONG_FILE` is the fault of a file that is too long to read.
-//! - `tell_line` ends a run; its clause `Tells` (`specs/Tells`) states what was printed for each status. `tell_made` ends a run with a
+//! - `print_line` ends a run; its clause `Tells` (`specs/Tells`) states what was printed for each status. `print_result` ends a run with a
 //!   line that may be missing because an allocation failed, and `write_status` with a failed write.
 //!
 //! The programs end with the `exit_code` of a status. `specs/Seen` defines what the contracts of runs see of a folder and a sink.
@@ -31,7 +31,7 @@ pub use command::{Command, command_of};
 pub use file_lines::{compiled_line, decompiled_line, sound_line, valid_line};
 pub use file_name::{FileName, beside, read, write};
 pub use lines::reason_line;
-pub use printing::{tell_line, tell_made, write_status};
+pub use printing::{print_line, print_result, write_status};
 pub use process::words;
 pub use reason::{LONG_FILE, Reason};
 pub use status::Status;

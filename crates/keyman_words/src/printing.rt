@@ -1,7 +1,7 @@
 //! Prints lines to a sink, and returns the status with which the run then ends.
 
 ghost use Rattle.std.specs.Prelude.{◌≡◌, ◌⊎◌};
-ghost use Rattle.keyman_words.specs.Tells.{Tells, TellsMade, write_status};
+ghost use Rattle.keyman_words.specs.Tells.{Tells, PrintsResult, write_status};
 
 use crate::status::Status;
 use kmn_base::{Memory, Text};
@@ -10,7 +10,7 @@ use play_transcript::put_all;
 
 /// Prints one or more lines, and returns this status. If the sink fails, returns `WriteFault`; then a first part of the bytes was
 /// printed, maybe none.
-pub fn tell_line<S: Sink>(line: &[u8], status: Status, out: &mut S) -> Status
+pub fn print_line<S: Sink>(line: &[u8], status: Status, out: &mut S) -> Status
     requires { (status ≡ Status.Done) ⊎ (status ≡ Status.Refused) }
     ensures { Tells status line.now S.Sink out.old out.new result }
 {
@@ -22,12 +22,12 @@ pub fn tell_line<S: Sink>(line: &[u8], status: Status, out: &mut S) -> Status
 
 /// Prints one or more lines that were made, and returns this status. If an allocation failed while they were made, does not print and
 /// returns `Memory`.
-pub fn tell_made<S: Sink>(made: Result<Text, Memory>, status: Status, out: &mut S) -> Status
+pub fn print_result<S: Sink>(made: Result<Text, Memory>, status: Status, out: &mut S) -> Status
     requires { (status ≡ Status.Done) ⊎ (status ≡ Status.Refused) }
-    ensures { TellsMade status made S.Sink out.old out.new result }
+    ensures { PrintsResult status made S.Sink out.old out.new result }
 {
     match made {
-        Ok(line) => tell_line(line.as_slice(), status, out),
+        Ok(line) => print_line(line.as_slice(), status, out),
         Err(Memory) => Status::Memory,
     }
 }

@@ -7,7 +7,7 @@ use Rattle.std.proofs.lemmas.List.Prefix.{end_rest}
 use Rattle.std.proofs.lemmas.Slice.Eq.{bytes_eq-Decides}
 use Rattle.kmn_base.specs.declared.items.Item.{Item}
 use Rattle.kmn_base.specs.declared.items.Item.TheVariants.{Char}
-use Rattle.kmn_base.specs.Lists.{characters, without_last, window, IsSound, still_stands, read_again}
+use Rattle.kmn_base.specs.Lists.{characters, without_last, window, IsSound, is_still_suffix, read_again}
 use Rattle.kmn_base.specs.Laws.{ReadingAgainNeedsTheWindow, ReadingAgainIsSound, ReadingAgainGivesTheText, ReadingAgainTheSameText}
 use Rattle.kmn_base.proofs.Lists.{characters-append, characters-map, unmarked, map-characters, without_last-append-last, length-window, IsSound_from_front}
 
@@ -16,14 +16,14 @@ pub without_last_at : {X : Type 0} (front back : List X) (n : ℕ) → length ba
 without_last_at front back n h = take_at front back (length (front ++ back) - n) (omega (arith, length-append front back))
 
 -- if the characters are still there, the text ends with them, and the text before them is known
-pub still_stands-true : (kept : List Item) (text : List ℕ) → still_stands kept text ≡ true → without_last (length (characters kept)) text ++ characters kept ≡ text
-still_stands-true kept text h =
+pub is_still_suffix-true : (kept : List Item) (text : List ℕ) → is_still_suffix kept text ≡ true → without_last (length (characters kept)) text ++ characters kept ≡ text
+is_still_suffix-true kept text h =
     let at : ℕ = length text - length (characters kept) in
     let ends : ends_with eqb text (characters kept) ≡ true = (and_parts (ends_with eqb text (characters kept)) _ h).0 in
     let same : characters kept ≡ drop at text = (bytes_eq-Decides (characters kept) (drop at text)).0 ends in
     ap (λ cs. take at text ++ cs) same ∙ take-append-drop at text
 
-pub still_stands_from_end : (kept : List Item) (text front : List ℕ) → text ≡ front ++ characters kept → (length kept ≡ 64) ⊎ (front ≡ []) → still_stands kept text ≡ true
+pub still_stands_from_end : (kept : List Item) (text front : List ℕ) → text ≡ front ++ characters kept → (length kept ≡ 64) ⊎ (front ≡ []) → is_still_suffix kept text ≡ true
 still_stands_from_end kept text front e known =
     let at : ℕ = length text - length (characters kept) in
     let behind : drop at text ≡ characters kept = end_rest text (characters kept) front e in
@@ -34,21 +34,21 @@ still_stands_from_end kept text front e known =
     ] in
     and_from _ _ ends before
 
-pub read_again-stands : (items : List Item) (text : List ℕ) → still_stands (window items) text ≡ true
+pub read_again-stands : (items : List Item) (text : List ℕ) → is_still_suffix (window items) text ≡ true
     → read_again items text ≡ map Char (without_last (length (characters (window items))) text) ++ window items
-read_again-stands items text h = cond-true (still_stands (window items) text) _ _ h
+read_again-stands items text h = cond-true (is_still_suffix (window items) text) _ _ h
 
-pub read_again-lost : (items : List Item) (text : List ℕ) → still_stands (window items) text ≡ false → read_again items text ≡ map Char text
-read_again-lost items text h = cond-false (still_stands (window items) text) _ _ h
+pub read_again-lost : (items : List Item) (text : List ℕ) → is_still_suffix (window items) text ≡ false → read_again items text ≡ map Char text
+read_again-lost items text h = cond-false (is_still_suffix (window items) text) _ _ h
 
 pub reading_again_needs_the_window : ReadingAgainNeedsTheWindow
 reading_again_needs_the_window a b text h =
     let from_kept : List Item → List Item = λ kept.
-    cond (still_stands kept text) (map Char (without_last (length (characters kept)) text) ++ kept) (map Char text) in
+    cond (is_still_suffix kept text) (map Char (without_last (length (characters kept)) text) ++ kept) (map Char text) in
     ap from_kept h
 
 pub reading_again_is_sound : ReadingAgainIsSound
-reading_again_is_sound items text = elim (cases_Bool (still_stands (window items) text)) [
+reading_again_is_sound items text = elim (cases_Bool (is_still_suffix (window items) text)) [
   | inl stands ↦
       let front : List ℕ = without_last (length (characters (window items))) text in
       subst IsSound (sym (read_again-stands items text stands))
@@ -59,13 +59,13 @@ reading_again_is_sound items text = elim (cases_Bool (still_stands (window items
 ]
 
 pub reading_again_gives_the_text : ReadingAgainGivesTheText
-reading_again_gives_the_text items text = elim (cases_Bool (still_stands (window items) text)) [
+reading_again_gives_the_text items text = elim (cases_Bool (is_still_suffix (window items) text)) [
   | inl stands ↦
       let front : List ℕ = without_last (length (characters (window items))) text in
       ap characters (read_again-stands items text stands)
       ∙ characters-append (map Char front) (window items)
       ∙ ap (λ cs. cs ++ characters (window items)) (characters-map front)
-      ∙ still_stands-true (window items) text stands
+      ∙ is_still_suffix-true (window items) text stands
   | inr lost ↦ ap characters (read_again-lost items text lost) ∙ characters-map text
 ]
 

@@ -5,14 +5,14 @@ use Rattle.kmn_base.specs.declared.refusals.CompileError.{CompileError}
 use Rattle.kmn_base.specs.declared.refusals.CompileError.TheVariants.{Refused, TooLarge, Memory}
 
 -- an error with a fault reports the specified fault; an error without a fault is `Memory`
-abbrev pub TellsFault : {A F : Type 0} → Result A F → Option F → Type 0
-TellsFault stated None = Unit {0}
-TellsFault stated (Some fault) = stated ≡ Err fault
+abbrev pub IsFaultOf : {A F : Type 0} → Result A F → Option F → Type 0
+IsFaultOf stated None = Unit {0}
+IsFaultOf stated (Some fault) = stated ≡ Err fault
 
 -- the result is the stated value, or an error with the stated fault
 abbrev pub AnswersBy : {A F E : Type 0} → (E → Option F) → Result A F → Result A E → Type 0
 AnswersBy tells stated (Ok value) = stated ≡ Ok value
-AnswersBy tells stated (Err error) = TellsFault stated (tells error)
+AnswersBy tells stated (Err error) = IsFaultOf stated (tells error)
 
 -- the result is the stated value or the stated refusal
 abbrev pub Answers : {A : Type 0} → Result A Refusal → Result A CompileError → Type 0

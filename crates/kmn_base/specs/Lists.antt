@@ -33,13 +33,13 @@ abbrev pub put : List Item → Item → List Item
 put items item = map Char (characters (without_last WINDOW_ITEMS (items ++ item ∷ []))) ++ window (items ++ item ∷ [])
 
 -- whether the new text ends with the last items of the old one, and the text before them is known
-abbrev pub still_stands : List Item → List ℕ → Bool
-still_stands kept text = ends_with nat_eq text (characters kept) && (nat_eq (length kept) WINDOW_ITEMS || nat_eq (length text) (length (characters kept)))
+abbrev pub is_still_suffix : List Item → List ℕ → Bool
+is_still_suffix kept text = ends_with nat_eq text (characters kept) && (nat_eq (length kept) WINDOW_ITEMS || nat_eq (length text) (length (characters kept)))
 
 -- the text read again: the marks of the window keep their positions if its characters are still there, else no mark is kept
 abbrev pub read_again : List Item → List ℕ → List Item
 read_again items text =
     let kept = window items in
-    if still_stands kept text
+    if is_still_suffix kept text
     then map Char (without_last (length (characters kept)) text) ++ kept
     else map Char text

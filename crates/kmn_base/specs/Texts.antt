@@ -8,12 +8,12 @@ abbrev pub character_count : List ℕ → ℕ
 character_count text = count_by (λ b. nat_lt b 128 || nat_le 192 b) text
 
 -- the size in bytes of a byte order mark (U+FEFF) at the start of a text
-abbrev pub mark_size : List ℕ → ℕ
-mark_size bytes = if starts_with (λ a b. a == b) bytes (0xEF ∷ 0xBB ∷ 0xBF ∷ []) then 3 else 0
+abbrev pub bom_size : List ℕ → ℕ
+bom_size bytes = if starts_with (λ a b. a == b) bytes (0xEF ∷ 0xBB ∷ 0xBF ∷ []) then 3 else 0
 
 -- a text without a byte order mark at its start
-abbrev pub without_mark : List ℕ → List ℕ
-without_mark bytes = drop (mark_size bytes) bytes
+abbrev pub without_bom : List ℕ → List ℕ
+without_bom bytes = drop (bom_size bytes) bytes
 
 -- the characters of a text in UTF-8, or none if the text is not UTF-8
 abbrev pub decoded : List ℕ → List ℕ

@@ -2,7 +2,7 @@
 
 ghost use Rattle.std.specs.Prelude.{◌≡◌, ◌≤◌, IfOk, chars, length};
 ghost use Rattle.kmn_base.specs.Spelling.{is_forbidden};
-ghost use Rattle.kmn_base.specs.Texts.{character_count, decoded, mark_size, without_mark};
+ghost use Rattle.kmn_base.specs.Texts.{character_count, decoded, bom_size, without_bom};
 
 use crate::memory::Memory;
 use crate::sequence::Seq;
@@ -22,8 +22,8 @@ pub fn is_forbidden(code: u32) -> bool
 
 /// Returns the size in bytes of a byte order mark (U+FEFF) at the start of a text, which is not part of the text: 3, or 0 if
 /// there is none.
-pub fn mark_size(bytes: &[u8]) -> usize
-    ensures is { result ≡ mark_size bytes.now }
+pub fn bom_size(bytes: &[u8]) -> usize
+    ensures is { result ≡ bom_size bytes.now }
     ensures within { result ≤ length bytes.now }
 {
     if bytes.starts_with(b"\xEF\xBB\xBF") {
@@ -34,11 +34,11 @@ pub fn mark_size(bytes: &[u8]) -> usize
 }
 
 /// Returns a text without a byte order mark at its start.
-pub fn without_mark(bytes: &[u8]) -> &[u8]
-    ensures is { result.now ≡ without_mark bytes.now }
+pub fn without_bom(bytes: &[u8]) -> &[u8]
+    ensures is { result.now ≡ without_bom bytes.now }
     ensures within { length result.now ≤ length bytes.now }
 {
-    behind(bytes, mark_size(bytes))
+    behind(bytes, bom_size(bytes))
 }
 
 /// Returns the number of characters of a text.

@@ -28,25 +28,25 @@ abbrev pub stands : Bool → Bool → Bool → Bool → Stands
 stands store context key output = record { store = store; context = context; key = key; output = output }
 
 -- where the item of each word is allowed
-abbrev pub word_stands : ItemWord → Stands
-word_stands word.Dead = stands true true false true
-word_stands word.Any = stands false true true false
-word_stands word.NotAny = stands false true false false
-word_stands word.Index = stands false true false true
-word_stands word.Context = stands false false false true
-word_stands word.ContextAt = stands false true false true
-word_stands word.If = stands false true false false
-word_stands word.Nul = stands false true false true
-word_stands word.Outs = stands true false false true
-word_stands word.Dollar = stands true false false true
-word_stands word.Layer = stands false true false true
-word_stands word.Platform = stands false true false false
-word_stands word.BaseLayout = stands false true false false
-word_stands other = stands false false false true
+abbrev pub word_sections : ItemWord → Stands
+word_sections word.Dead = stands true true false true
+word_sections word.Any = stands false true true false
+word_sections word.NotAny = stands false true false false
+word_sections word.Index = stands false true false true
+word_sections word.Context = stands false false false true
+word_sections word.ContextAt = stands false true false true
+word_sections word.If = stands false true false false
+word_sections word.Nul = stands false true false true
+word_sections word.Outs = stands true false false true
+word_sections word.Dollar = stands true false false true
+word_sections word.Layer = stands false true false true
+word_sections word.Platform = stands false true false false
+word_sections word.BaseLayout = stands false true false false
+word_sections other = stands false false false true
 
 -- where each kind of item is allowed
 abbrev pub lead_stands : Lead → Stands
-lead_stands (lead.Named word) = word_stands word
+lead_stands (lead.Named word) = word_sections word
 lead_stands lead.Bracket = stands true false true true
 lead_stands lead.Misplaced = stands false false false false
 lead_stands other = stands true true true true

@@ -1,14 +1,14 @@
 //! Which items a section allows, by its kind and by the items before them.
 
 ghost use Rattle.std.specs.Prelude.{◌≡◌};
-ghost use Rattle.kmn_items.specs.Standing.{stands_in, word_stands, lead_stands, misplaced_code, is_condition, is_nul, order_code, crowded_code, standing_code, seen_word, seen_count, is_crowded};
+ghost use Rattle.kmn_items.specs.Standing.{stands_in, word_sections, lead_stands, misplaced_code, is_condition, is_nul, order_code, crowded_code, standing_code, seen_word, seen_count, is_crowded};
 
 use crate::syntax::{ItemWord, Lead, Seen, Where};
 use kmn_base::Code;
 
 /// Returns whether the item of a word is allowed in a section.
 fn word_may_stand(place: Where, word: ItemWord) -> bool
-    ensures { result ≡ stands_in place (word_stands word) }
+    ensures { result ≡ stands_in place (word_sections word) }
 {
     match word {
         ItemWord::Dead => !matches!(place, Where::Key),
@@ -25,7 +25,7 @@ fn word_may_stand(place: Where, word: ItemWord) -> bool
 }
 
 /// Returns whether a kind of item is allowed in a section.
-fn may_stand(place: Where, lead: Lead) -> bool
+fn is_permitted(place: Where, lead: Lead) -> bool
     ensures { result ≡ stands_in place (lead_stands lead) }
 {
     match lead {
@@ -91,7 +91,7 @@ fn crowded_code(place: Where, seen: Seen, lead: Lead) -> Option<Code>
 pub(crate) fn standing_code(place: Where, seen: Seen, lead: Lead) -> Option<Code>
     ensures { result ≡ standing_code place seen lead }
 {
-    if may_stand(place, lead) {
+    if is_permitted(place, lead) {
         crowded_code(place, seen, lead)
     } else {
         Some(misplaced_code(place))

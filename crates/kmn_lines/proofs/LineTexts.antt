@@ -7,13 +7,13 @@ use Rattle.std.proofs.lemmas.Bool.{eq-eqb, eqb-true, ne_eqb, or_from, cond-true,
 use Rattle.std.proofs.lemmas.List.{drop-drop, drop-take, take-take, length-take}
 use Rattle.std.proofs.lemmas.List.Elements.{All-cons, All-nil, All-head, All-tail}
 use Rattle.kmn_base.specs.Bytes.{is_blank}
-use Rattle.kmn_base.specs.Texts.{mark_size}
+use Rattle.kmn_base.specs.Texts.{bom_size}
 use Rattle.kmn_lines.specs.declared.line_state.LineState.{LineState}
 use Rattle.kmn_lines.specs.declared.line_state.PhysicalLine.{PhysicalLine}
 use Rattle.kmn_lines.specs.declared.logical.Logical.{Logical}
 use Rattle.kmn_lines.specs.declared.logical.Part.{Part}
 use Rattle.kmn_lines.specs.Bytes.{first_or_end}
-use Rattle.kmn_lines.specs.Lines.{ends_line, line_start, after_byte, physical_line, physical_lines, physical_lines_at, extended, gather, logicals, is_skipped, dropped, physical_text, part_behind, opening_parts, parts_in}
+use Rattle.kmn_lines.specs.Lines.{ends_line, line_start, after_byte, physical_line, physical_lines, physical_lines_at, extended, gather, logicals, is_skipped, dropped, physical_text, part_after, opening_parts, parts_in}
 use Rattle.kmn_lines.specs.Laws.{first_or, IsInLine, IsLineEnd, IsCut, IsPhysicalLine, IsJoined, AreJoined, PartsAreTexts}
 use Rattle.kmn_lines.proofs.Whole.{mark-within}
 use Rattle.kmn_lines.proofs.Cuts.{after_bytes, Cut, line_cut}
@@ -342,7 +342,7 @@ cut-again source line at end (p ∷ ps) l (a, b, s, j, g) =
 
 -- the parts of a logical line are parts of the source that contains it
 abbrev opening_step : List ℕ → PhysicalLine → List Part → List PhysicalLine → List Part
-opening_step text p parts ps = if is_skipped text then [] else part_behind (dropped text) p ∷ (if list_all is_blank text then parts else map (part_behind 0) ps)
+opening_step text p parts ps = if is_skipped text then [] else part_after (dropped text) p ∷ (if list_all is_blank text then parts else map (part_after 0) ps)
 
 opening-same : (source : List ℕ) (line at end : ℕ) (ps : List PhysicalLine) → Group source line at end ps → opening_parts (take end source) ps ≡ opening_parts source ps
 opening-same source line at end [] g = refl
@@ -393,5 +393,5 @@ gather-texts source (Some l) line at (p ∷ ps) (qs, b, n, t) (e, f, s, rest) =
 pub parts_are_texts : PartsAreTexts
 unfolding logicals
 parts_are_texts source =
-    gather-texts source None 1 (mark_size source) (physical_lines_at 1 (mark_size source) source) tt
-    (chain-from (length (drop (mark_size source) source)) source 1 (mark_size source) (drop (mark_size source) source) (omega arith) (mark-within source) refl)
+    gather-texts source None 1 (bom_size source) (physical_lines_at 1 (bom_size source) source) tt
+    (chain-from (length (drop (bom_size source) source)) source 1 (bom_size source) (drop (bom_size source) source) (omega arith) (mark-within source) refl)

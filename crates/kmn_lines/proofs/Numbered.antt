@@ -8,7 +8,7 @@ use Rattle.kmn_lines.specs.declared.line_state.LineState.{LineState}
 use Rattle.kmn_lines.specs.declared.line_state.PhysicalLine.{PhysicalLine}
 use Rattle.kmn_lines.specs.declared.logical.Logical.{Logical}
 use Rattle.kmn_lines.specs.Bytes.{first_or_end}
-use Rattle.kmn_base.specs.Texts.{mark_size}
+use Rattle.kmn_base.specs.Texts.{bom_size}
 use Rattle.kmn_lines.specs.Lines.{ends_line, line_start, after_byte, physical_line, physical_lines, physical_lines_at, extended, gather, logicals}
 use Rattle.kmn_lines.specs.Laws.{is_line_end, line_ends, LinesAreNumbered}
 use Rattle.kmn_lines.proofs.Whole.{mark-is}
@@ -99,7 +99,7 @@ none-before false source h = refl
 pub lines_are_numbered : LinesAreNumbered
 unfolding logicals
 lines_are_numbered source =
-    let none : line_ends (mark_size source) source ≡ 0 =
+    let none : line_ends (bom_size source) source ≡ 0 =
     none-before (starts_with (λ a b. a == b) source (0xEF ∷ 0xBB ∷ 0xBF ∷ [])) source (λ h. mark-lines source (mark-is source h)) in
-    gather-numbered source None (physical_lines_at 1 (mark_size source) source) tt
-    (physical_lines-numbered source 1 (mark_size source) line_start (mark_size source) (drop (mark_size source) source) refl (omega arith) (λ l. refl))
+    gather-numbered source None (physical_lines_at 1 (bom_size source) source) tt
+    (physical_lines-numbered source 1 (bom_size source) line_start (bom_size source) (drop (bom_size source) source) refl (omega arith) (λ l. refl))

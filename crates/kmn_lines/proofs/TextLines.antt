@@ -14,9 +14,9 @@ use Rattle.kmn_base.specs.Names.{same_name}
 use Rattle.kmn_lines.specs.declared.line_state.PhysicalLine.{PhysicalLine}
 use Rattle.kmn_lines.specs.declared.logical.Logical.{Logical}
 use Rattle.kmn_base.specs.Bytes.{is_blank}
-use Rattle.kmn_base.specs.Texts.{mark_size}
+use Rattle.kmn_base.specs.Texts.{bom_size}
 use Rattle.kmn_lines.specs.Bytes.{first_or_end}
-use Rattle.kmn_lines.specs.Lines.{ends_line, starts_comment, line_start, outside, in_line, after_byte, physical_line, physical_lines, physical_lines_at, extended, gather, logicals, blanks, begins_with, is_skipped, dropped, physical_text, part_behind, opening_parts, parts_in}
+use Rattle.kmn_lines.specs.Lines.{ends_line, starts_comment, line_start, outside, in_line, after_byte, physical_line, physical_lines, physical_lines_at, extended, gather, logicals, blanks, begins_with, is_skipped, dropped, physical_text, part_after, opening_parts, parts_in}
 use Rattle.kmn_lines.specs.Tokens.{line_tokens}
 use Rattle.kmn_lines.specs.Places.{IsPlaced}
 use Rattle.kmn_lines.specs.Laws.{bytes_between, TokensAreText}
@@ -174,13 +174,13 @@ physical-utf : (text : List ℕ) (p : PhysicalLine) → IsUtf8 text → IsPhysic
 physical-utf text p utf h l =
     IsUtf8-drop (take p.to text) p.from (IsUtf8-take text p.to utf h.to) (boundary-prefix text p.to p.from l h.to.0 h.from)
 
-part-text : (source : List ℕ) (end : ℕ) (p : PhysicalLine) (n : ℕ) → end ≤ length source → p.to ≤ end → IsUtf8 (physical_text (take end source) p) → IsCharBoundary (physical_text (take end source) p) n → IsPartText source (part_behind n p)
+part-text : (source : List ℕ) (end : ℕ) (p : PhysicalLine) (n : ℕ) → end ≤ length source → p.to ≤ end → IsUtf8 (physical_text (take end source) p) → IsCharBoundary (physical_text (take end source) p) n → IsPartText source (part_after n p)
 part-text source end p n l h utf place =
     let same : drop n (physical_text (take end source) p) ≡ drop (p.from + n) (take p.to source) =
     drop-drop n p.from (take p.to (take end source)) ∙ ap (λ (xs : List ℕ). drop (p.from + n) xs) (take-take p.to end source h) in
     record { within = omega arith; utf = subst IsUtf8 same (IsUtf8-drop (physical_text (take end source) p) n utf place) }
 
-mapped-text : (source : List ℕ) (end at : ℕ) (ps : List PhysicalLine) → end ≤ length source → IsUtf8 (take end source) → InRow at end ps → All (IsPhysicalText (take end source)) ps → All (IsPartText source) (map (part_behind 0) ps)
+mapped-text : (source : List ℕ) (end at : ℕ) (ps : List PhysicalLine) → end ≤ length source → IsUtf8 (take end source) → InRow at end ps → All (IsPhysicalText (take end source)) ps → All (IsPartText source) (map (part_after 0) ps)
 mapped-text source end at [] l utf row h = All-nil (IsPartText source)
 mapped-text source end at (p ∷ ps) l utf (e, f, g, k, i, row) h =
     let here : IsPhysicalText (take end source) p = All-head (IsPhysicalText (take end source)) p ps h in
@@ -212,7 +212,7 @@ line-text source l utf placed h =
     (opening-text source l.to l.from (physical_lines_at l.first_line l.from text) placed.within whole row
     (physical_lines-text text whole l.first_line l.from line_start l.from (drop l.from text) refl (omega (arith, placed.forward)) start (record { slash = tt; stop = tt })))
 
-mark-boundary : (source : List ℕ) → IsUtf8 source → IsCharBoundary source (mark_size source)
+mark-boundary : (source : List ℕ) → IsUtf8 source → IsCharBoundary source (bom_size source)
 unfolding lib.Utf8.encode
 mark-boundary source utf =
     cond_both (starts_with (λ a b. a == b) source (0xEF ∷ 0xBB ∷ 0xBF ∷ [])) 3 0 (IsCharBoundary source)
@@ -226,7 +226,7 @@ mark-boundary source utf =
 pub tokens_are_text : TokensAreText
 unfolding logicals
 tokens_are_text source utf =
-    let at : ℕ = mark_size source in
+    let at : ℕ = bom_size source in
     let placed = lines_placed source 1 at (mark-within source) (omega arith) in
     let bounds = gather-text source None (physical_lines_at 1 at source) tt
     (physical_lines-text source utf 1 at line_start at (drop at source) refl (mark-within source) (mark-boundary source utf) (record { slash = tt; stop = tt })) in

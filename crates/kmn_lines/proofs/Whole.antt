@@ -12,8 +12,8 @@ use Rattle.kmn_lines.specs.declared.line_state.PhysicalLine.{PhysicalLine}
 use Rattle.kmn_lines.specs.declared.logical.Logical.{Logical}
 use Rattle.kmn_lines.specs.declared.logical.Part.{Part}
 use Rattle.kmn_base.specs.Bytes.{is_blank}
-use Rattle.kmn_base.specs.Texts.{mark_size}
-use Rattle.kmn_lines.specs.Lines.{physical_lines_at, extended, gather, logicals, blanks, begins_with, is_skipped, dropped, physical_text, part_behind, opening_parts, parts_in}
+use Rattle.kmn_base.specs.Texts.{bom_size}
+use Rattle.kmn_lines.specs.Lines.{physical_lines_at, extended, gather, logicals, blanks, begins_with, is_skipped, dropped, physical_text, part_after, opening_parts, parts_in}
 use Rattle.kmn_lines.specs.Laws.{bytes_between, PhysicalLinesMakeTheSource, LinesMakeTheSource, InOrder, PartsStandInOrder}
 use Rattle.kmn_lines.proofs.Placed.{InRow, physical_lines_at-in_row}
 
@@ -70,7 +70,7 @@ mark-size false n h = omega arith
 pub mark-is : (source : List ℕ) → starts_with (λ a b. a == b) source (0xEF ∷ 0xBB ∷ 0xBF ∷ []) ≡ true → 0xEF ∷ 0xBB ∷ 0xBF ∷ [] ≡ take 3 source
 mark-is source h = (bytes_eq-Decides (0xEF ∷ 0xBB ∷ 0xBF ∷ []) (take 3 source)).0 h
 
-pub mark-within : (source : List ℕ) → mark_size source ≤ length source
+pub mark-within : (source : List ℕ) → bom_size source ≤ length source
 mark-within source =
     mark-size (starts_with (λ a b. a == b) source (0xEF ∷ 0xBB ∷ 0xBF ∷ [])) (length source)
     (λ h. let e : 3 ≡ length (take 3 source) = ap length (mark-is source h) in omega (arith, length-take 3 source))
@@ -83,16 +83,16 @@ rows-whole source at (p ∷ ps) (e, f, g, h, i, row) =
 
 pub physical_lines_make_the_source : PhysicalLinesMakeTheSource
 physical_lines_make_the_source source =
-    ap (λ (xs : List ℕ). take (mark_size source) source ++ xs)
-    (rows-whole source (mark_size source) (physical_lines_at 1 (mark_size source) source) (physical_lines_at-in_row 1 (mark_size source) source (mark-within source) (omega arith)))
-    ∙ take-append-drop (mark_size source) source
+    ap (λ (xs : List ℕ). take (bom_size source) source ++ xs)
+    (rows-whole source (bom_size source) (physical_lines_at 1 (bom_size source) source) (physical_lines_at-in_row 1 (bom_size source) source (mark-within source) (omega arith)))
+    ∙ take-append-drop (bom_size source) source
 
 pub lines_make_the_source : LinesMakeTheSource
 unfolding logicals
 lines_make_the_source source =
-    ap (λ (xs : List ℕ). take (mark_size source) source ++ xs)
-    (gather-whole source None (mark_size source) (physical_lines_at 1 (mark_size source) source) tt (physical_lines_at-in_row 1 (mark_size source) source (mark-within source) (omega arith)))
-    ∙ take-append-drop (mark_size source) source
+    ap (λ (xs : List ℕ). take (bom_size source) source ++ xs)
+    (gather-whole source None (bom_size source) (physical_lines_at 1 (bom_size source) source) tt (physical_lines_at-in_row 1 (bom_size source) source (mark-within source) (omega arith)))
+    ∙ take-append-drop (bom_size source) source
 
 pub begins-long : (words word : List ℕ) → begins_with words word ≡ true → length word ≤ length words
 unfolding same_name
@@ -117,7 +117,7 @@ in_order-if : (at end : ℕ) (b : Bool) (ps qs : List Part) → InOrder at end p
 in_order-if at end true ps qs g h = g
 in_order-if at end false ps qs g h = h
 
-mapped-in_order : (before at size : ℕ) (ps : List PhysicalLine) → before ≤ at → InRow at size ps → InOrder before size (map (part_behind 0) ps)
+mapped-in_order : (before at size : ℕ) (ps : List PhysicalLine) → before ≤ at → InRow at size ps → InOrder before size (map (part_after 0) ps)
 mapped-in_order before at size [] l row = omega arith
 mapped-in_order before at size (p ∷ ps) l (e, f, g, h, i, row) = (omega arith, omega arith, mapped-in_order p.to p.next size ps g row)
 

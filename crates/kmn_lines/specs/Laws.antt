@@ -3,7 +3,7 @@ use Rattle.std.specs.Prelude.{◌≡◌, ℕ, zero, suc, ◌+◌, ◌-◌, ◌<�
 use Rattle.std.specs.List.{list_all}
 use Rattle.kmn_base.specs.Bytes.{is_blank, is_quote}
 use Rattle.kmn_base.specs.Names.{same_name}
-use Rattle.kmn_base.specs.Texts.{mark_size}
+use Rattle.kmn_base.specs.Texts.{bom_size}
 use Rattle.kmn_lines.specs.Lines.{physical_lines_at, logicals, is_skipped, dropped, opening_parts, parts_in}
 use Rattle.kmn_lines.specs.Places.{IsPlaced}
 use Rattle.kmn_lines.specs.Tokens.{single, part_text, line_tokens}
@@ -57,11 +57,11 @@ bytes_between source from to = drop from (take to source)
 
 -- the physical lines with their line ends, joined after a byte order mark, are the source
 abbrev pub PhysicalLinesMakeTheSource : Type 0
-PhysicalLinesMakeTheSource = (source : List ℕ) → take (mark_size source) source ++ flat_map (λ (p : PhysicalLine). bytes_between source p.from p.next) (physical_lines_at 1 (mark_size source) source) ≡ source
+PhysicalLinesMakeTheSource = (source : List ℕ) → take (bom_size source) source ++ flat_map (λ (p : PhysicalLine). bytes_between source p.from p.next) (physical_lines_at 1 (bom_size source) source) ≡ source
 
 -- the logical lines, joined after a byte order mark, are the source
 abbrev pub LinesMakeTheSource : Type 0
-LinesMakeTheSource = (source : List ℕ) → take (mark_size source) source ++ flat_map (λ (l : Logical). bytes_between source l.from l.to) (logicals source) ≡ source
+LinesMakeTheSource = (source : List ℕ) → take (bom_size source) source ++ flat_map (λ (l : Logical). bytes_between source l.from l.to) (logicals source) ≡ source
 
 -- parts between two positions, each after the end of the previous one
 abbrev pub InOrder : ℕ → ℕ → List Part → Type 0

@@ -3,7 +3,7 @@ use Rattle.std.specs.Prelude.{ℕ, ◌+◌, ◌==◌, Bool, true, false, not, �
 use Rattle.std.specs.List.{list_all}
 use Rattle.kmn_base.specs.Bytes.{is_blank, is_quote}
 use Rattle.kmn_base.specs.Names.{same_name}
-use Rattle.kmn_base.specs.Texts.{mark_size}
+use Rattle.kmn_base.specs.Texts.{bom_size}
 use Rattle.kmn_lines.specs.Bytes.{first_or_end}
 use Rattle.kmn_lines.specs.declared.line_state.LineState.{LineState}
 use Rattle.kmn_lines.specs.declared.line_state.PhysicalLine.{PhysicalLine}
@@ -75,7 +75,7 @@ gather begun (p ∷ ps) = if p.joined then gather (Some (extended begun p)) ps e
 
 -- the logical lines of a source
 unfoldable pub logicals : List ℕ → List Logical
-logicals source = gather None (physical_lines_at 1 (mark_size source) source)
+logicals source = gather None (physical_lines_at 1 (bom_size source) source)
 
 -- the number of blanks at the beginning of a text
 abbrev pub blanks : List ℕ → ℕ
@@ -107,8 +107,8 @@ abbrev pub physical_text : List ℕ → PhysicalLine → List ℕ
 physical_text source p = drop p.from (take p.to source)
 
 -- a physical line as a part, without its first bytes
-abbrev pub part_behind : ℕ → PhysicalLine → Part
-part_behind n p = record { line = p.line; from = p.from + n; to = p.to }
+abbrev pub part_after : ℕ → PhysicalLine → Part
+part_after n p = record { line = p.line; from = p.from + n; to = p.to }
 
 -- the parts of a logical line from its first text on: its prefix is dropped, and after a skipping prefix there are no parts; a joining
 -- backslash counts as a blank, so blank parts may precede the prefix
@@ -116,8 +116,8 @@ abbrev pub opening_parts : List ℕ → List PhysicalLine → List Part
 opening_parts source [] = []
 opening_parts source (p ∷ ps) =
     if is_skipped (physical_text source p) then []
-    else part_behind (dropped (physical_text source p)) p
-    ∷ (if list_all is_blank (physical_text source p) then opening_parts source ps else map (part_behind 0) ps)
+    else part_after (dropped (physical_text source p)) p
+    ∷ (if list_all is_blank (physical_text source p) then opening_parts source ps else map (part_after 0) ps)
 
 -- the parts of a logical line, which is split into its physical lines again
 unfoldable pub parts_in : List ℕ → Logical → List Part

@@ -22,7 +22,7 @@ mod prefix;
 mod token;
 
 use kmn_base::slices::before;
-use kmn_base::texts::mark_size;
+use kmn_base::texts::bom_size;
 pub use line_state::{LineState, PhysicalLine};
 pub use line_walk::Lines;
 pub use logical::{Logical, Part};
@@ -40,7 +40,7 @@ pub fn lines(source: &str) -> Lines<'_>
     let bytes = source.as_bytes();
     Lines {
         bytes,
-        at: mark_size(bytes),
+        at: bom_size(bytes),
         line: 1,
     }
 }

@@ -27,13 +27,13 @@ pub struct Parts<'a> {
 }
 
 impl Parts<'_> {
-    ghost use Rattle.kmn_lines.specs.Lines.{part_behind, physical_text};
+    ghost use Rattle.kmn_lines.specs.Lines.{part_after, physical_text};
 
     /// Returns a physical line as a part, without its first `count` bytes.
-    fn part_behind(count: usize, physical: PhysicalLine) -> Part
+    fn part_after(count: usize, physical: PhysicalLine) -> Part
         requires from { physical.from + count < 2 ^ 32 }
         requires to { physical.to < 2 ^ 32 }
-        ensures { result ≡ part_behind count physical }
+        ensures { result ≡ part_after count physical }
     {
         Part {
             line: physical.line,
@@ -69,7 +69,7 @@ impl Iterator for Parts<'_> {
         self.at = physical.next;
         self.line += 1;
         if self.begun {
-            return Some(Parts::part_behind(0, physical));
+            return Some(Parts::part_after(0, physical));
         }
         let text = Parts::text(self.bytes, &physical);
         if is_skipped(text) {
@@ -77,6 +77,6 @@ impl Iterator for Parts<'_> {
             return None;
         }
         self.begun = !is_all_blank(text);
-        Some(Parts::part_behind(dropped(text), physical))
+        Some(Parts::part_after(dropped(text), physical))
     }
 }

@@ -37,7 +37,7 @@ use Rattle.kmn_items.specs.Standing.{standing_code, is_crowded}
 use Rattle.kmn_items.specs.Forms.{word_slots, option_ids, option_id, is_option_id, system_condition, condition, system_setting, setting, layer_item, equal_at, word_item}
 use Rattle.kmn_items.specs.Brackets.{flags_of, named_key, key_item, modifier_count}
 use Rattle.kmn_items.specs.Item.{unseen, formed, read_word, read_quoted, read_bracket, read_led, read_item, prepend, then_items, read_items, last_item, read_key}
-use Rattle.kmn_parser.specs.ProgramLaws.{IsCharacter, IsReadKey, IsReadItem, StandsAsKey}
+use Rattle.kmn_parser.specs.ProgramLaws.{IsCharacter, IsReadKey, IsReadItem, IsRuleKey}
 use Rattle.kmn_parser.proofs.CleanTexts.{clean-take, clean-drop, clean-characters}
 use Rattle.kmn_parser.proofs.SoundTokens.{IsSoundKind, IsSoundToken}
 use Rattle.kmn_parser.proofs.SoundKeys.{row-found, key-read}
@@ -107,7 +107,7 @@ lead-sound (token ∷ tokens) sound = token-lead-sound (begins_open tokens) toke
 
 -- what an item is in a section
 abbrev StandsIn : Where → SrcItem → Type 0
-StandsIn section.Key item = StandsAsKey item
+StandsIn section.Key item = IsRuleKey item
 StandsIn other item = Unit {0}
 
 -- an item that is read in a section

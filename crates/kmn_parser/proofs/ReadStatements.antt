@@ -28,9 +28,9 @@ use Rattle.kmn_base.specs.Texts.{character_count}
 use Rattle.kmn_base.proofs.Options.{option_or-none}
 use Rattle.kmn_items.specs.Slots.{unless, broken}
 use Rattle.kmn_items.specs.Item.{unseen, read_items, read_key}
-use Rattle.kmn_parser.specs.Line.{place_of, begins_word, is_none_left, checked, first_of, behind_close, system_stores, store_system, store_form, store_fault, store_def, read_store, begin_head, begin_fault, read_begin, group_head, group_fault, read_group, no_group, no_output, match_fault, read_match, begins_rule, uses_keys, rule_head, rule_key, rule_body, earliest, rule_at, read_rule, read_tokens, read_line}
+use Rattle.kmn_parser.specs.Line.{place_of, begins_word, is_none_left, checked, first_of, tokens_after_close, system_stores, store_system, store_form, store_fault, store_def, read_store, begin_head, begin_fault, read_begin, group_head, group_fault, read_group, no_group, no_output, match_fault, read_match, begins_rule, uses_keys, rule_head, rule_key, rule_body, earliest, rule_at, read_rule, read_tokens, read_line}
 use Rattle.kmn_parser.specs.Source.{last_group}
-use Rattle.kmn_parser.specs.ProgramLaws.{IsName, IsReadItem, StandsAsKey, IsLine, IsReadStore, IsReadBegin, IsReadRule}
+use Rattle.kmn_parser.specs.ProgramLaws.{IsName, IsReadItem, IsRuleKey, IsLine, IsReadStore, IsReadBegin, IsReadRule}
 use Rattle.kmn_parser.proofs.CleanTexts.{clean-characters, counted-characters}
 use Rattle.kmn_parser.proofs.SoundTokens.{IsSoundToken}
 use Rattle.kmn_parser.proofs.SoundKeys.{row-found}
@@ -197,7 +197,7 @@ unfolding read_group group_fault
 group-line group line last tokens placed sound =
     checked-read group (group_fault last tokens) _
     (λ whole.
-    let form = (first-none (group_head tokens (behind_close (drop 2 tokens))) (broken last 2 (slot.Name ∷ slot.Close ∷ []) (drop 2 tokens)) whole).1 in
+    let form = (first-none (group_head tokens (tokens_after_close (drop 2 tokens))) (broken last 2 (slot.Name ∷ slot.Close ∷ []) (drop 2 tokens)) whole).1 in
     (placed, named-at last 2 2 (slot.Close ∷ []) tokens sound form, refl))
 
 -- a group before a line
@@ -231,7 +231,7 @@ match-line kind group line last tokens other placed sound =
 
 -- the key of a rule: it is present exactly after a +, and only in a group with keys
 abbrev RuleKeyRead : Bool → Bool → Result (Option SrcItem) TokenRefusal → Type 0
-RuleKeyRead using_keys plus (Ok key) = IfSome key (λ item. StandsAsKey item × IsReadItem item) × (is_some key ≡ plus) × (plus ≡ true → using_keys ≡ true)
+RuleKeyRead using_keys plus (Ok key) = IfSome key (λ item. IsRuleKey item × IsReadItem item) × (is_some key ≡ plus) × (plus ≡ true → using_keys ≡ true)
 RuleKeyRead using_keys plus (Err found) = Unit {0}
 
 key-if : (using_keys plus : Bool) (read : Result SrcItem TokenRefusal) (wrong : TokenRefusal) → KeyRead read
@@ -246,7 +246,7 @@ record IsPlainRule (using_keys plus : Bool) (line : ℕ) (rule : RuleDef) : Type
   at : rule.line ≡ line
   plain : rule.kind ≡ Plain
   context : All IsReadItem rule.context
-  key : IfSome rule.key (λ item. StandsAsKey item × IsReadItem item)
+  key : IfSome rule.key (λ item. IsRuleKey item × IsReadItem item)
   output : All IsReadItem rule.output
   keyed : is_some rule.key ≡ plus
   keys : plus ≡ true → using_keys ≡ true

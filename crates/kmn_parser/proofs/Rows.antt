@@ -11,8 +11,8 @@ use Rattle.std.proofs.Math.Seq.{take-append_seam}
 use Rattle.kmn_base.specs.Bytes.{is_blank}
 use Rattle.kmn_lines.specs.Bytes.{first_or_end}
 use Rattle.kmn_base.specs.Names.{same_name}
-use Rattle.kmn_base.specs.Texts.{mark_size}
-use Rattle.kmn_lines.specs.Lines.{ends_line, line_start, after_byte, physical_line, physical_lines, physical_lines_at, gather, logicals, blanks, begins_with, begins_other, is_skipped, dropped, physical_text, part_behind, opening_parts, parts_in}
+use Rattle.kmn_base.specs.Texts.{bom_size}
+use Rattle.kmn_lines.specs.Lines.{ends_line, line_start, after_byte, physical_line, physical_lines, physical_lines_at, gather, logicals, blanks, begins_with, begins_other, is_skipped, dropped, physical_text, part_after, opening_parts, parts_in}
 use Rattle.kmn_lines.specs.declared.line_state.LineState.{LineState}
 use Rattle.kmn_lines.specs.declared.line_state.PhysicalLine.{PhysicalLine}
 use Rattle.kmn_lines.specs.declared.logical.Logical.{Logical}
@@ -65,7 +65,7 @@ rows_gathered number at (line ∷ lines) ok =
     ∙ ap (λ (ls : List Logical). record { first_line = number; from = at; to = at + length line + 1 } ∷ ls) (rows_gathered (number + 1) (at + length line + 1) lines (All-tail IsWholeLine line lines ok))
 
 -- the first byte is not that of a byte order mark
-marks-not : (lines : List (List ℕ)) → starts_with (λ a b. a == b) (rows lines) (0xEF ∷ 0xBB ∷ 0xBF ∷ []) ≡ false → mark_size (rows lines) ≡ 0
+marks-not : (lines : List (List ℕ)) → starts_with (λ a b. a == b) (rows lines) (0xEF ∷ 0xBB ∷ 0xBF ∷ []) ≡ false → bom_size (rows lines) ≡ 0
 marks-not lines e = cond-false _ 3 0 e
 
 pub rows_logicals : (lines : List (List ℕ)) → starts_with (λ a b. a == b) (rows lines) (0xEF ∷ 0xBB ∷ 0xBF ∷ []) ≡ false → All IsWholeLine lines → logicals (rows lines) ≡ row_lines 1 0 lines
@@ -127,8 +127,8 @@ one-part text number at line e plain =
     let is : physical_text text (whole number at line) ≡ line = line-text text at line (10 ∷ []) e in
     let same : at + 0 ≡ at = omega arith in
     cond-false (is_skipped (physical_text text (whole number at line))) _ _ (ap is_skipped is ∙ not-skipped line plain)
-    ∙ ap (λ (ps : List Part). part_behind (dropped (physical_text text (whole number at line))) (whole number at line) ∷ ps) (if-same (list_all is_blank (physical_text text (whole number at line))) [])
-    ∙ ap (λ (n : ℕ). part_behind n (whole number at line) ∷ []) (ap dropped is ∙ none-dropped line plain)
+    ∙ ap (λ (ps : List Part). part_after (dropped (physical_text text (whole number at line))) (whole number at line) ∷ ps) (if-same (list_all is_blank (physical_text text (whole number at line))) [])
+    ∙ ap (λ (n : ℕ). part_after n (whole number at line) ∷ []) (ap dropped is ∙ none-dropped line plain)
     ∙ ap (λ (n : ℕ). record { line = number; from = n; to = at + length line } ∷ []) same
 
 -- a line in a source is one part

@@ -13,7 +13,7 @@ use Rattle.kmn_lines.specs.declared.line_state.LineState.{LineState}
 use Rattle.kmn_lines.specs.declared.line_state.PhysicalLine.{PhysicalLine}
 use Rattle.kmn_lines.specs.declared.logical.Logical.{Logical}
 use Rattle.kmn_lines.specs.Bytes.{first_or_end}
-use Rattle.kmn_base.specs.Texts.{mark_size}
+use Rattle.kmn_base.specs.Texts.{bom_size}
 use Rattle.kmn_lines.specs.Lines.{ends_line, line_start, after_byte, physical_line, physical_lines, extended, gather, logicals}
 use Rattle.kmn_lines.specs.Tokens.{line_tokens, refusal, tokens_refusal}
 use Rattle.rule_model.specs.declared.program.StoreDef.{StoreDef}
@@ -80,7 +80,7 @@ gather_from low n (Some line) (p ∷ ps) (here, rest) = λ le lt.
 -- the line numbers of the logical lines of a source rise from 1
 pub logicals_from : (source : List ℕ) → LinesFrom 1 (logicals source)
 unfolding logicals
-logicals_from source = gather_from 1 1 None _ (physical_lines_from 1 (mark_size source) line_start (mark_size source) (drop (mark_size source) source)) refl
+logicals_from source = gather_from 1 1 None _ (physical_lines_from 1 (bom_size source) line_start (bom_size source) (drop (bom_size source) source)) refl
 
 -- adding a rule keeps the lines of the groups, and adds a line to those of the rules
 pub group_lines-with_rule : (groups : List GroupDef) (rule : RuleDef) → group_lines (with_rule groups rule) ≡ group_lines groups

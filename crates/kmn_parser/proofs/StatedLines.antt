@@ -14,7 +14,7 @@ use Rattle.kmn_parser.specs.declared.statement.Statement.TheVariants as statemen
 use Rattle.kmn_base.specs.Answers.{and_then}
 use Rattle.kmn_items.specs.TokenTexts.{LineToken, text_at}
 use Rattle.kmn_items.specs.Item.{unseen, read_items}
-use Rattle.kmn_parser.specs.Line.{place_of, begins_word, behind_close, is_none_left, checked, store_fault, store_def, begin_fault, is_using_keys, group_fault, match_fault, earliest, read_store, read_begin, read_group, read_match, rule_body, rule_head, rule_key, read_rule, read_tokens, read_line}
+use Rattle.kmn_parser.specs.Line.{place_of, begins_word, tokens_after_close, is_none_left, checked, store_fault, store_def, begin_fault, is_using_keys, group_fault, match_fault, earliest, read_store, read_begin, read_group, read_match, rule_body, rule_head, rule_key, read_rule, read_tokens, read_line}
 
 -- a statement has the number of a line; an empty line contains no statement
 abbrev pub StandsAt : ℕ → Statement → Type 0
@@ -69,7 +69,7 @@ begin-at line last tokens = checked-at line (begin_fault last tokens) (begin_of 
 
 abbrev group_of : ℕ → List LineToken → Result Statement TokenRefusal
 group_of line tokens =
-    Ok (statement.Group (record { line = line; name = text_at 2 tokens; using_keys = is_using_keys (behind_close (drop 2 tokens)); rules = [] }))
+    Ok (statement.Group (record { line = line; name = text_at 2 tokens; using_keys = is_using_keys (tokens_after_close (drop 2 tokens)); rules = [] }))
 
 pub group-at : (line last : ℕ) (tokens : List LineToken) → ReadsAt line (read_group line last tokens)
 unfolding read_group

@@ -62,8 +62,8 @@ first_of (Some head) later = Some (fault 0 head)
 first_of None later = later
 
 -- the tokens after the first )
-abbrev pub behind_close : List LineToken → List LineToken
-behind_close tokens = drop (place_of sign.Close tokens + 1) tokens
+abbrev pub tokens_after_close : List LineToken → List LineToken
+tokens_after_close tokens = drop (place_of sign.Close tokens + 1) tokens
 
 -- the id in a file of each system store of a source; DROPPED is read and dropped, and the checker refuses LEFT_OUT as not supported
 unfoldable pub system_stores : List (List ℕ × ℕ)
@@ -114,7 +114,7 @@ begins_kind tokens = begins_word (codes "Unicode") tokens || begins_word (codes 
 
 -- whether tokens are use ( .. ) without tokens after it
 abbrev pub is_use : List LineToken → Bool
-is_use tokens = begins_word (codes "use") tokens && begins_open (drop 1 tokens) && is_none_left (behind_close (drop 2 tokens))
+is_use tokens = begins_word (codes "use") tokens && begins_open (drop 1 tokens) && is_none_left (tokens_after_close (drop 2 tokens))
 
 -- begin, with the index of its first >: a form that lacks only its > has another code than a different form
 abbrev pub begin_head : ℕ → List LineToken → Option Code
@@ -142,13 +142,13 @@ group_head tokens tail = unless (begins_open (drop 1 tokens) && (is_none_left ta
 
 unfoldable pub group_fault : ℕ → List LineToken → Option TokenRefusal
 group_fault last tokens =
-    first_of (group_head tokens (behind_close (drop 2 tokens))) (broken last 2 (slot.Name ∷ slot.Close ∷ []) (drop 2 tokens))
+    first_of (group_head tokens (tokens_after_close (drop 2 tokens))) (broken last 2 (slot.Name ∷ slot.Close ∷ []) (drop 2 tokens))
 
 -- group ( name ), group ( name ) using keys
 unfoldable pub read_group : ℕ → ℕ → List LineToken → Result Statement TokenRefusal
 read_group line last tokens =
     checked (group_fault last tokens)
-    (Ok (statement.Group (record { line = line; name = text_at 2 tokens; using_keys = is_using_keys (behind_close (drop 2 tokens)); rules = [] })))
+    (Ok (statement.Group (record { line = line; name = text_at 2 tokens; using_keys = is_using_keys (tokens_after_close (drop 2 tokens)); rules = [] })))
 
 -- the code if there is no group before
 abbrev pub no_group : LastGroup → Option Code

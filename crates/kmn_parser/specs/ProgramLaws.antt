@@ -60,11 +60,11 @@ IsReadItem (source.SetSystem id value) = (nat_eq id LAYER ≡ true) × All IsCha
 IsReadItem other = Unit {0}
 
 -- the items that are allowed as the key of a rule: a character, a virtual key, or `any`
-abbrev pub StandsAsKey : SrcItem → Type 0
-StandsAsKey (source.Char c) = Unit {0}
-StandsAsKey (source.Key key) = Unit {0}
-StandsAsKey (source.Any name) = Unit {0}
-StandsAsKey other = ⊥
+abbrev pub IsRuleKey : SrcItem → Type 0
+IsRuleKey (source.Char c) = Unit {0}
+IsRuleKey (source.Key key) = Unit {0}
+IsRuleKey (source.Any name) = Unit {0}
+IsRuleKey other = ⊥
 
 -- the number of a line; a source has fewer than 2 ^ 32
 pub record IsLine (line : ℕ) : Type 0 where
@@ -90,7 +90,7 @@ pub record IsReadBegin (start : BeginDef) : Type 0 where
 pub record IsReadRule (using_keys : Bool) (rule : RuleDef) : Type 0 where
   pub line : IsLine rule.line
   pub context : All IsReadItem rule.context
-  pub key : IfSome rule.key (λ item. StandsAsKey item × IsReadItem item)
+  pub key : IfSome rule.key (λ item. IsRuleKey item × IsReadItem item)
   pub output : All IsReadItem rule.output
   pub keyed : rule.kind ≡ Plain → is_some rule.key ≡ using_keys
   pub bare : rule.kind ≢ Plain → (rule.context ≡ []) × (rule.key ≡ None)

@@ -4,7 +4,7 @@ ghost use Rattle.std.specs.Prelude.{◌≡◌, ◌+◌, ◌<◌, ◌^◌, length
 ghost use Rattle.kmn_items.specs.TokenTexts.{texts, Reads};
 ghost use Rattle.kmn_parser.specs.Line.{begins_kind, is_use, begin_head, begin_fault, read_begin, is_using_keys, group_head, group_fault, read_group};
 
-use crate::signs::{begins_word, behind_close, place_of};
+use crate::signs::{begins_word, place_of, tokens_after_close};
 use crate::statement::{Line, Sign, Statement};
 use kmn_base::{Code, Seq};
 use kmn_items::{LineError, LineTokens, Slot, TokenRefusal, begins_open, broken};
@@ -24,7 +24,7 @@ fn is_use(tokens: LineTokens<'_>) -> bool
 {
     begins_word(b"use", tokens)
         && begins_open(tokens.behind(1))
-        && behind_close(tokens.behind(2)).is_empty()
+        && tokens_after_close(tokens.behind(2)).is_empty()
 }
 
 /// Returns the code of a begin statement's fault outside its parentheses, given the index of its first `>`.
@@ -102,7 +102,7 @@ fn group_fault(last: usize, tokens: LineTokens<'_>) -> Option<TokenRefusal>
     ensures { result ≡ group_fault last (texts tokens.entry) }
 {
     let named = tokens.behind(2);
-    match group_head(tokens, behind_close(named)) {
+    match group_head(tokens, tokens_after_close(named)) {
         Some(code) => Some(TokenRefusal { at: 0, code }),
         None => broken(last, 2, &[Slot::Name, Slot::Close], named),
     }
@@ -126,7 +126,7 @@ pub(crate) fn read_group(alloc: Global, line: Line<'_>) -> Result<Statement, Lin
     Ok(Statement::Group(GroupDef {
         line: number,
         name: tokens.name(alloc, 2)?,
-        using_keys: is_using_keys(behind_close(tokens.behind(2))),
+        using_keys: is_using_keys(tokens_after_close(tokens.behind(2))),
         rules: Seq::new(alloc),
     }))
 }

@@ -3,7 +3,7 @@
 ghost use Rattle.std.specs.Prelude.{◌≡◌, ◌≤◌, length};
 ghost use Rattle.std.specs.List.{position_or_len};
 ghost use Rattle.kmn_items.specs.TokenTexts.{texts};
-ghost use Rattle.kmn_parser.specs.Line.{is_sign, place_of, begins_word, behind_close};
+ghost use Rattle.kmn_parser.specs.Line.{is_sign, place_of, begins_word, tokens_after_close};
 
 use crate::statement::Sign;
 use kmn_base::names::same_name;
@@ -58,8 +58,8 @@ pub(crate) fn begins_word(word: &[u8], tokens: LineTokens<'_>) -> bool
 }
 
 /// Returns the tokens after the first `)`.
-pub(crate) fn behind_close<'a>(tokens: LineTokens<'a>) -> LineTokens<'a>
-    ensures { texts result ≡ behind_close (texts tokens.entry) }
+pub(crate) fn tokens_after_close<'a>(tokens: LineTokens<'a>) -> LineTokens<'a>
+    ensures { texts result ≡ tokens_after_close (texts tokens.entry) }
 {
     tokens.behind(place_of(Sign::Close, tokens) + 1)
 }

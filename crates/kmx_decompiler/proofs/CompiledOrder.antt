@@ -11,13 +11,13 @@ use Rattle.rule_model.specs.declared.tables.Group.{Group}
 use Rattle.rule_model.specs.declared.tables.Tables.{Tables}
 use Rattle.kmx_format.specs.TablesOf.{rule_without_place, group_without_places, no_places}
 use Rattle.kmx_format.proofs.FileLaw.{law}
-use Rattle.compile_laws.specs.Compiles.{stands_before, Compiles}
+use Rattle.compile_laws.specs.Compiles.{precedes, Compiles}
 use Rattle.kmx_decompiler.specs.declared.no_spelling.NoSpelling.TheVariants.{Order}
 use Rattle.kmx_decompiler.specs.Unspelled.{longer_behind, first_longer, disorder}
 use Rattle.kmx_decompiler.specs.Laws.{CompiledIsInOrder}
 
 -- if a record does not come before another, its context is not longer
-not-longer : (a b : Rule) → stands_before a b ≡ false → nat_lt (length b.context) (length a.context) ≡ false
+not-longer : (a b : Rule) → precedes a b ≡ false → nat_lt (length b.context) (length a.context) ≡ false
 not-longer a b h = by (nat_lt (length b.context) (length a.context)) h
   where
     by : (t : Bool)
@@ -26,16 +26,16 @@ not-longer a b h = by (nat_lt (length b.context) (length a.context)) h
     by true h = absurd (cc)
     by false h = refl
 
-none-longer : (n : ℕ) (before : Rule) (rules : List Rule) → IsSortedBy stands_before (before ∷ rules) → longer_behind n (length before.context) (map rule_without_place rules) ≡ None
+none-longer : (n : ℕ) (before : Rule) (rules : List Rule) → IsSortedBy precedes (before ∷ rules) → longer_behind n (length before.context) (map rule_without_place rules) ≡ None
 none-longer n before [] up = refl
 none-longer n before (rule ∷ rules) up =
     cond-false (nat_lt (length before.context) (length rule.context)) _ _ (not-longer rule before (up 0 before (omega arith) (omega arith)))
     ∙ none-longer (n + 1) rule rules
     (λ k d low less.
     let e : suc k + 1 ≡ suc (k + 1) = omega arith in
-    subst (λ (j : ℕ). stands_before (slice_index_or (before ∷ rule ∷ rules) j d) (slice_index_or (rule ∷ rules) k d) ≡ false) e (up (suc k) d (omega arith) (omega arith)))
+    subst (λ (j : ℕ). precedes (slice_index_or (before ∷ rule ∷ rules) j d) (slice_index_or (rule ∷ rules) k d) ≡ false) e (up (suc k) d (omega arith) (omega arith)))
 
-group-in-order : (rules : List Rule) → IsSortedBy stands_before rules → first_longer (map rule_without_place rules) ≡ None
+group-in-order : (rules : List Rule) → IsSortedBy precedes rules → first_longer (map rule_without_place rules) ≡ None
 group-in-order [] up = refl
 group-in-order (rule ∷ rules) up = none-longer 1 rule rules up
 
@@ -43,7 +43,7 @@ none-else : (g : ℕ) (group : Group) (groups : List Group) → first_longer (gr
     → disorder g (map group_without_places (group ∷ groups)) ≡ None
 none-else g group groups e f = (λ i. option_or (option_map (λ (rule : ℕ). Order g rule) (e i)) (disorder (g + 1) (map group_without_places groups))) ∙ f
 
-in-order : (g : ℕ) (groups : List Group) → ((k : ℕ) (d : Group) → k < length groups → IsSortedBy stands_before (slice_index_or groups k d).rules) → disorder g (map group_without_places groups) ≡ None
+in-order : (g : ℕ) (groups : List Group) → ((k : ℕ) (d : Group) → k < length groups → IsSortedBy precedes (slice_index_or groups k d).rules) → disorder g (map group_without_places groups) ≡ None
 in-order g [] up = refl
 in-order g (group ∷ groups) up =
     none-else g group groups (group-in-order group.rules (up 0 group (omega arith))) (in-order (g + 1) groups (λ k d less. up (suc k) d (omega arith)))

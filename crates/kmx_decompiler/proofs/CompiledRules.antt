@@ -55,7 +55,7 @@ use Rattle.decompile_program.specs.Items.{Names}
 use Rattle.decompile_program.specs.WrittenOut.{has_key_name}
 use Rattle.decompile_program.proofs.Choosing.{all_join}
 use Rattle.kmx_decompiler.specs.Causes.{is_far_mark, is_unspelled_key, is_system_store, names_system_store, have_both_quotes, is_unspelled_value, has_unspelled_value, is_unspelled_pattern, is_unspelled_output, stands_behind_match, is_unspelled_context}
-use Rattle.kmx_decompiler.specs.Written.{IsWrittenItem, stands_in_context, has_late_item, is_nul_item, IsWrittenContext, IsWrittenRule}
+use Rattle.kmx_decompiler.specs.Written.{IsWrittenItem, is_allowed_in_context, has_late_item, is_nul_item, IsWrittenContext, IsWrittenRule}
 use Rattle.kmx_decompiler.proofs.CompiledElements.{IsFine, IsFineStore, found_fine, key_named, mark_near}
 use Rattle.kmx_decompiler.proofs.Sayable.{IsSayableRule, IsSayableGroup}
 
@@ -91,7 +91,7 @@ module _ (numbers : Numbers) where
       (λ i. (matched && not (matched-same item i)) || stands_behind_match (matched || matched-same item i) (map (file_pattern numbers) items))
       ∙ (λ i. (matched && not (is_pattern_item item)) || order-same (matched || is_pattern_item item) items i)
 
-  nul-same : (before : List SrcItem) (item : SrcItem) → stands_in_context item ≡ true → context_item_code before item ≡ None → is_nul (file_pattern numbers item) ≡ is_nul_item item
+  nul-same : (before : List SrcItem) (item : SrcItem) → is_allowed_in_context item ≡ true → context_item_code before item ≡ None → is_nul (file_pattern numbers item) ≡ is_nul_item item
   nul-same before (source.Char c) stands code = refl
   nul-same before (source.Dead name) stands code = refl
   nul-same before (source.Any store) stands code = refl
@@ -110,11 +110,11 @@ module _ (numbers : Numbers) where
   longer true x y xs ys e = ap suc e
   longer false x y xs ys e = e
 
-  nul-count : (before items : List SrcItem) → list_all stands_in_context items ≡ true → context_code before items ≡ None
+  nul-count : (before items : List SrcItem) → list_all is_allowed_in_context items ≡ true → context_code before items ≡ None
       → length (filter is_nul (map (file_pattern numbers) items)) ≡ length (filter is_nul_item items)
   nul-count before [] stands code = refl
   nul-count before (item ∷ items) stands code =
-      let s = and_parts (stands_in_context item) (list_all stands_in_context items) stands in
+      let s = and_parts (is_allowed_in_context item) (list_all is_allowed_in_context items) stands in
       let c = option_or-none (context_item_code before item) (context_code (before ++ item ∷ []) items) code in
       let rest = nul-count (before ++ item ∷ []) items s.1 c.1 in
       (λ i. length (if nul-same before item s.0 c.0 i then file_pattern numbers item ∷ filter is_nul (map (file_pattern numbers) items) else filter is_nul (map (file_pattern numbers) items)))

@@ -21,7 +21,7 @@ use Rattle.store_table.specs.declared.stating.Stated.{Stated}
 use Rattle.store_table.specs.Names.{stated, is_named, kept_name, store_names, is_store_again}
 use Rattle.store_table.specs.Names.{store_refusal as name_refusal, store_item_code as name_item_code, store_code as name_code}
 use Rattle.store_table.specs.Known.{Known, known, brought, statement_elements}
-use Rattle.item_checker.specs.Items.{is_no_character, is_left_out, is_layout_text, is_system_text, is_other_text, puts_option, wants_characters, wants_plain_keys, brings_no_character, brings_no_plain_key, store_item_code, store_head_code, store_code, store_refusal}
+use Rattle.item_checker.specs.Items.{is_no_character, is_left_out, is_layout_text, is_system_text, is_other_text, uses_option, needs_characters, needs_plain_keys, brings_no_character, brings_no_plain_key, store_item_code, store_head_code, store_code, store_refusal}
 use Rattle.rule_checker.specs.Refused.{IsRead}
 use Rattle.rule_checker.proofs.Unrefused.{none_earlier, none_at_line, none_broken, Stands, none_first}
 use Rattle.rule_checker.proofs.Accepted.{IsUnrefused}
@@ -104,10 +104,10 @@ module _ (facts : Known) (s : Store) (stated : IsStatedStore facts s) where
   def = stated.statement
 
   abbrev wants : Bool
-  wants = wants_characters facts def
+  wants = needs_characters facts def
 
   abbrev keys : Bool
-  keys = wants_plain_keys def
+  keys = needs_plain_keys def
 
   code_parts : (store_head_code facts def ≡ None) × (first_code (store_item_code facts wants keys) def.items ≡ None)
   code_parts = option_or-none (store_head_code facts def) (first_code (store_item_code facts wants keys) def.items) stated.code
@@ -116,7 +116,7 @@ module _ (facts : Known) (s : Store) (stated : IsStatedStore facts s) where
   items-alone [] want h = refl
   items-alone (item ∷ items) want h =
       let both = option_or-none (store_item_code facts wants keys item) (first_code (store_item_code facts wants keys) items) h in
-      let one = none_broken C13 (puts_option facts item) ((C14, wants && brings_no_character facts item) ∷ (C25, keys && brings_no_plain_key facts item) ∷ []) both.0 in
+      let one = none_broken C13 (uses_option facts item) ((C14, wants && brings_no_character facts item) ∷ (C25, keys && brings_no_plain_key facts item) ∷ []) both.0 in
       let two = none_broken C14 (wants && brings_no_character facts item) ((C25, keys && brings_no_plain_key facts item) ∷ []) one.1 in
       list_any-append is_no_character (brought facts item) (flat_map (brought facts) items)
       ∙ (λ i. second-fails wants (brings_no_character facts item) want two.0 i || items-alone items want both.1 i)

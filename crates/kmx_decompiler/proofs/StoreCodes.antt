@@ -14,7 +14,7 @@ use Rattle.rule_model.specs.declared.program.StoreDef.{StoreDef}
 use Rattle.kmx_format.specs.Versions.{is_version, version_numbers}
 use Rattle.store_table.specs.First.{first_code}
 use Rattle.store_table.specs.Known.{Known, brought, statement_elements}
-use Rattle.item_checker.specs.Items.{is_option, is_no_character, is_left_out, is_layout_text, is_system_text, is_other_text, puts_option, wants_characters, wants_plain_keys, brings_no_character, brings_no_plain_key, store_item_code, store_head_code, store_code}
+use Rattle.item_checker.specs.Items.{is_option, is_no_character, is_left_out, is_layout_text, is_system_text, is_other_text, uses_option, needs_characters, needs_plain_keys, brings_no_character, brings_no_plain_key, store_item_code, store_head_code, store_code}
 use Rattle.decompile_program.specs.Items.{Names, back_element}
 use Rattle.decompile_program.specs.Names.{written_ids}
 use Rattle.decompile_program.specs.Back.{numbered, stated_marks, stated_key, mark_store, key_store, version_store}
@@ -27,9 +27,9 @@ module _ (known : Known) where
   IsFineStore store = store_code known store ≡ None
 
   code-fine : (store : StoreDef) → is_left_out store ≡ false → is_system_text store.system (statement_elements known store) ≡ true
-      → first_code (store_item_code known (wants_characters known store) (wants_plain_keys store)) store.items ≡ None → IsFineStore store
+      → first_code (store_item_code known (needs_characters known store) (needs_plain_keys store)) store.items ≡ None → IsFineStore store
   code-fine store kept text items =
-      no-else (store_head_code known store) (first_code (store_item_code known (wants_characters known store) (wants_plain_keys store)) store.items)
+      no-else (store_head_code known store) (first_code (store_item_code known (needs_characters known store) (needs_plain_keys store)) store.items)
       (no-broken C12 (is_left_out store) ((C12, is_other_text known store) ∷ []) kept
       (no-broken C12 (is_other_text known store) []
       (and_right (not (list_any is_no_character (statement_elements known store))) (not (is_system_text store.system (statement_elements known store)))
@@ -75,7 +75,7 @@ module _ (known : Known) where
       )
 
   module _ (names : Names) where
-    puts-none : (e : Element) → puts_option known (back_element names e) ≡ false
+    puts-none : (e : Element) → uses_option known (back_element names e) ≡ false
     puts-none (element.Char c) = refl
     puts-none (element.Mark m) = refl
     puts-none (element.Key flags code) = refl
@@ -91,7 +91,7 @@ module _ (known : Known) where
     items-fine characters [] h = refl
     items-fine characters (e ∷ es) h =
         no-else (store_item_code known characters false (back_element names e)) (first_code (store_item_code known characters false) (map (back_element names) es))
-        (no-broken C13 (puts_option known (back_element names e)) ((C14, characters && brings_no_character known (back_element names e)) ∷ (C25, false && brings_no_plain_key known (back_element names e)) ∷ []) (puts-none e)
+        (no-broken C13 (uses_option known (back_element names e)) ((C14, characters && brings_no_character known (back_element names e)) ∷ (C25, false && brings_no_plain_key known (back_element names e)) ∷ []) (puts-none e)
         (no-broken C14 (characters && brings_no_character known (back_element names e)) ((C25, false && brings_no_plain_key known (back_element names e)) ∷ [])
         (brings-none characters e (λ t. (or_parts (is_no_character e) (list_any is_no_character es) (h t)).0)) refl))
         (items-fine characters es (λ t. (or_parts (is_no_character e) (list_any is_no_character es) (h t)).1))
@@ -101,9 +101,9 @@ module _ (known : Known) where
 
     back-fine : (line system : ℕ) (name : List ℕ) (es : List Element) → nat_eq system 39 ≡ false → is_left_out (written line system name es) ≡ false
         → is_system_text system (statement_elements known (written line system name es)) ≡ true
-        → (wants_characters known (written line system name es) ≡ true → list_any is_no_character es ≡ false) → IsFineStore (written line system name es)
+        → (needs_characters known (written line system name es) ≡ true → list_any is_no_character es ≡ false) → IsFineStore (written line system name es)
     back-fine line system name es uncased kept text h =
-        let wants : Bool = wants_characters known (written line system name es) in
+        let wants : Bool = needs_characters known (written line system name es) in
         code-fine (written line system name es) kept text
         (subst (λ (keys : Bool). first_code (store_item_code known wants keys) (map (back_element names) es) ≡ None) (sym uncased) (items-fine wants es h))
 

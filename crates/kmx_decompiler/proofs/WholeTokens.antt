@@ -14,7 +14,7 @@ use Rattle.kmn_lines.specs.declared.logical.Logical.{Logical}
 use Rattle.kmn_lines.specs.declared.logical.Part.{Part}
 use Rattle.kmn_lines.specs.declared.token.Token.{Token}
 use Rattle.kmn_lines.specs.declared.token.TokenKind.{TokenKind}
-use Rattle.kmn_lines.specs.Lines.{logicals, is_skipped, dropped, physical_text, part_behind, opening_parts, parts_in}
+use Rattle.kmn_lines.specs.Lines.{logicals, is_skipped, dropped, physical_text, part_after, opening_parts, parts_in}
 use Rattle.kmn_lines.specs.Laws.{IsInLine, IsPhysicalLine, AreJoined}
 use Rattle.kmn_lines.specs.Tokens.{token_size, token_text, token_kind, token_at, token_fault, scanned, first_fault, part_text, parts_tokens, parts_fault, line_tokens, line_refusal, tokens_refusal}
 use Rattle.kmn_lines.proofs.LineTexts.{parts_are_texts}
@@ -56,25 +56,25 @@ module _ (source : List ℕ) where
       let same : physical_text source p ≡ take line.size (drop p.from source) = ap (λ (to : ℕ). drop p.from (take to source)) line.to ∙ drop-take p.from line.size source in
       subst (All IsInLine) (sym same) (text-taken p line)
 
-  behind-inner : (n : ℕ) (p : PhysicalLine) → IsPhysicalLine source p → IsInner (part_behind n p)
+  behind-inner : (n : ℕ) (p : PhysicalLine) → IsPhysicalLine source p → IsInner (part_after n p)
   behind-inner n p line =
       subst (All IsInLine) (drop-drop n p.from (take p.to source)) (All-drop IsInLine n (physical_text source p) (line-inner p line))
 
-  all-inner : (number at end : ℕ) (ps : List PhysicalLine) → AreJoined source number at end ps → All IsInner (map (part_behind 0) ps)
+  all-inner : (number at end : ℕ) (ps : List PhysicalLine) → AreJoined source number at end ps → All IsInner (map (part_after 0) ps)
   all-inner number at end [] h = All-nil IsInner
-  all-inner number at end (p ∷ ps) h = All-cons IsInner (part_behind 0 p) (map (part_behind 0) ps) (behind-inner 0 p h.2) (all-inner (number + 1) p.next end ps h.4)
+  all-inner number at end (p ∷ ps) h = All-cons IsInner (part_after 0 p) (map (part_after 0) ps) (behind-inner 0 p h.2) (all-inner (number + 1) p.next end ps h.4)
 
   opening-inner : (number at end : ℕ) (ps : List PhysicalLine) → AreJoined source number at end ps → All IsInner (opening_parts source ps)
   opening-inner number at end [] h = All-nil IsInner
   opening-inner number at end (p ∷ ps) h =
-      let first : Part = part_behind (dropped (physical_text source p)) p in
+      let first : Part = part_after (dropped (physical_text source p)) p in
       let here = behind-inner (dropped (physical_text source p)) p h.2 in
       let later = opening-inner (number + 1) p.next end ps h.4 in
       let others = all-inner (number + 1) p.next end ps h.4 in
       cond_both (is_skipped (physical_text source p)) _ _ (All IsInner) (λ t. All-nil IsInner)
       (λ t. cond_both (list_all is_blank (physical_text source p)) _ _ (λ rest. All IsInner (first ∷ rest))
       (λ u. All-cons IsInner first (opening_parts source ps) here later)
-      (λ u. All-cons IsInner first (map (part_behind 0) ps) here others))
+      (λ u. All-cons IsInner first (map (part_after 0) ps) here others))
 
   abbrev HasInnerParts : Logical → Type 0
   HasInnerParts l = All IsInner (parts_in source l)

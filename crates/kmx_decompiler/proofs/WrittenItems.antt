@@ -35,7 +35,7 @@ use Rattle.kmn_parser.proofs.ReadItems.{text_at-drop}
 use Rattle.kmn_parser.proofs.ReadStatements.{unless-none}
 use Rattle.item_checker.specs.Items.{is_pattern_item}
 use Rattle.kmn_parser.specs.Spelled.{IsSpelledName, IsSpelledValue, IsSpelledKey}
-use Rattle.kmx_decompiler.specs.Written.{IsWrittenItem, stands_in_context, has_late_item, is_nul_item, IsWrittenContext}
+use Rattle.kmx_decompiler.specs.Written.{IsWrittenItem, is_allowed_in_context, has_late_item, is_nul_item, IsWrittenContext}
 use Rattle.kmx_decompiler.proofs.CompiledStores.{all_at}
 use Rattle.kmx_decompiler.proofs.WholeTokens.{IsWholeToken}
 use Rattle.kmx_decompiler.proofs.WrittenNames.{filled, text_is, named_at, store_at, value_at, key_spelled}
@@ -187,7 +187,7 @@ nuls false = 0
 
 -- items that come after what was seen, and what is seen after them
 record AreInOrder (seen after : Seen) (items : List SrcItem) : Type 0 where
-  stand : list_all stands_in_context items ≡ true
+  stand : list_all is_allowed_in_context items ≡ true
   order : has_late_item seen.pattern items ≡ false
   patterns : after.pattern ≡ (seen.pattern || list_any is_pattern_item items)
   count : nuls after.nul ≡ nuls seen.nul + length (filter is_nul_item items)
@@ -198,7 +198,7 @@ TakenInOrder seen (Err found) = Unit {0}
 
 -- a pattern item, which is allowed anywhere in a context
 record IsPatternAlone (item : SrcItem) : Type 0 where
-  stands : stands_in_context item ≡ true
+  stands : is_allowed_in_context item ≡ true
   pattern : is_pattern_item item ≡ true
   nul : is_nul_item item ≡ false
 
@@ -212,7 +212,7 @@ pattern-order seen item is = record {
 
 -- a condition, which is allowed if no pattern was seen
 record IsConditionAlone (item : SrcItem) : Type 0 where
-  stands : stands_in_context item ≡ true
+  stands : is_allowed_in_context item ≡ true
   pattern : is_pattern_item item ≡ false
   nul : is_nul_item item ≡ false
 
@@ -232,7 +232,7 @@ nul-order seen free one = record {
   count = let none : nuls seen.nul ≡ 0 = ap nuls one in omega (arith, none);
 }
 
-characters-stand : (cs : List ℕ) → list_all stands_in_context (map source.Char cs) ≡ true
+characters-stand : (cs : List ℕ) → list_all is_allowed_in_context (map source.Char cs) ≡ true
 characters-stand [] = refl
 characters-stand (c ∷ cs) = characters-stand cs
 
@@ -330,7 +330,7 @@ item-order seen last at tokens = lead-order seen last at tokens (lead_of tokens)
 
 -- the items of a context after what was seen
 record IsContextBehind (seen : Seen) (items : List SrcItem) : Type 0 where
-  stand : list_all stands_in_context items ≡ true
+  stand : list_all is_allowed_in_context items ≡ true
   order : has_late_item seen.pattern items ≡ false
   count : nuls seen.nul + length (filter is_nul_item items) ≤ 1
 
@@ -352,7 +352,7 @@ late-append matched (x ∷ xs) ys =
 prepend-order : (seen after : Seen) (items : List SrcItem) (rest : Result (List SrcItem) TokenRefusal) → AreInOrder seen after items → ContextBehind after rest → ContextBehind seen (prepend items rest)
 prepend-order seen after items (Err found) here rest = tt
 prepend-order seen after items (Ok more) here rest = record {
-  stand = list_all-append stands_in_context items more ∙ (λ i. here.stand i && rest.stand i);
+  stand = list_all-append is_allowed_in_context items more ∙ (λ i. here.stand i && rest.stand i);
   order =
       late-append seen.pattern items more
       ∙ ((λ i. here.order i || has_late_item (sym here.patterns i) more) ∙ rest.order);

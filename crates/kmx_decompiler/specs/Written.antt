@@ -27,14 +27,14 @@ IsWrittenItem (source.Reset name) = IsSpelledName name
 IsWrittenItem other = Unit {0}
 
 -- whether an item is allowed in a context
-abbrev pub stands_in_context : SrcItem → Bool
-stands_in_context (source.Equal name value) = true
-stands_in_context (source.Unequal name value) = true
-stands_in_context (source.SystemEqual id value) = true
-stands_in_context (source.SystemUnequal id value) = true
-stands_in_context source.Nul = true
-stands_in_context source.OutOfProfile = true
-stands_in_context item = is_pattern_item item
+abbrev pub is_allowed_in_context : SrcItem → Bool
+is_allowed_in_context (source.Equal name value) = true
+is_allowed_in_context (source.Unequal name value) = true
+is_allowed_in_context (source.SystemEqual id value) = true
+is_allowed_in_context (source.SystemUnequal id value) = true
+is_allowed_in_context source.Nul = true
+is_allowed_in_context source.OutOfProfile = true
+is_allowed_in_context item = is_pattern_item item
 
 -- whether a condition or `nul` follows an item that is matched; the first argument states whether an earlier item was matched
 abbrev pub has_late_item : Bool → List SrcItem → Bool
@@ -47,7 +47,7 @@ is_nul_item other = false
 
 -- a context as a source writes it: conditions and `nul` precede all items that are matched, and there is at most one `nul`
 pub record IsWrittenContext (context : List SrcItem) : Type 0 where
-  pub stand : list_all stands_in_context context ≡ true
+  pub stand : list_all is_allowed_in_context context ≡ true
   pub order : has_late_item false context ≡ false
   pub one_nul : length (filter is_nul_item context) ≤ 1
 

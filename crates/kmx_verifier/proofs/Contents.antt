@@ -24,7 +24,7 @@ use Rattle.kmx_verifier.specs.declared.faults.StringKind.TheVariants as of
 use Rattle.kmx_verifier.specs.declared.faults.Target.{Target}
 use Rattle.kmx_view.specs.View.{store_count, group_count}
 use Rattle.kmx_verifier.specs.Items as target
-use Rattle.kmx_verifier.specs.Items.{target_at, may_stand, stores_named, groups_named, target_of, points_right}
+use Rattle.kmx_verifier.specs.Items.{target_at, is_permitted, stores_named, groups_named, target_of, points_right}
 use Rattle.kmx_verifier.specs.FaultOf.{walk_fault, context_fault}
 use Rattle.kmn_base.proofs.SmallBytes.{AreUnits, unit_bytes-small}
 use Rattle.kmx_verifier.proofs.Sound.{walk_readable, walk_stands, context_readable, context_stands, ItemStands, ItemsStand, ContextStands, element_again, pattern_again, output_again}
@@ -61,7 +61,7 @@ items_all bytes kind targets (item ∷ items) h = All-cons (ItemStands bytes kin
 
 -- an item is allowed in a string of a kind and has a spelling
 abbrev MayStand : StringKind → UnitItem → Type 0
-MayStand kind item = (may_stand kind item ≡ true) × IsSpellable item
+MayStand kind item = (is_permitted kind item ≡ true) × IsSpellable item
 
 -- the values that are read from the units of a string without a fault
 pub record Contents {X : Type 0} (there : X → UnitItem) (bytes : List ℕ) (kind : StringKind) (targets : List Target) (units : List ℕ) (xs : List X) : Type 0 where
@@ -81,8 +81,8 @@ contents there again kind one bytes targets at units small h =
     (items_have_one_spelling (unit_bytes units) items (unit_bytes-small units small) (walk_readable bytes kind targets at (results_of (unit_bytes units)) h)).0 in
     let stand : All (ItemStands bytes kind targets) items = items_all bytes kind targets items (walk_stands bytes kind targets at (results_of (unit_bytes units)) h) in
     let may : All (MayStand kind) items =
-    both_all (λ item. may_stand kind item ≡ true) IsSpellable items
-    (All-weaker (ItemStands bytes kind targets) (λ item. may_stand kind item ≡ true) (λ item s. s.stands) items stand) spellable in
+    both_all (λ item. is_permitted kind item ≡ true) IsSpellable items
+    (All-weaker (ItemStands bytes kind targets) (λ item. is_permitted kind item ≡ true) (λ item s. s.stands) items stand) spellable in
     let same : map there (filter_map again items) ≡ items = read_all there again (MayStand kind) one items may in
     record {
       spellable = unmapped IsSpellable there (filter_map again items) (subst (All IsSpellable) (sym same) spellable);
@@ -99,7 +99,7 @@ pub outputs_read : (bytes : List ℕ) (targets : List Target) (at : ℕ) (units 
 outputs_read bytes targets at units small h = contents unit_item_of_output output_of_unit_item of.Output (λ item s. output_again item s.0 s.1) bytes targets at units small h
 
 -- if an item is allowed in a match output, it is allowed in every output
-match_is_output : (item : UnitItem) → may_stand of.Match item ≡ true → may_stand of.Output item ≡ true
+match_is_output : (item : UnitItem) → is_permitted of.Match item ≡ true → is_permitted of.Output item ≡ true
 match_is_output (spelled.Char c) h = h
 match_is_output (spelled.Any store) h = h
 match_is_output (spelled.Index store offset) h = refl
@@ -129,7 +129,7 @@ counted : (id number : ℕ) → nat_eq (id + 1) (number + 1) ≡ nat_eq id numbe
 counted id number = grind arith
 
 -- an output is allowed in an output string if and only if it does not set a system option that no file can set
-pub output_stands : (o : Out) → may_stand of.Output (unit_item_of_output o) ≡ sets_system_id o
+pub output_stands : (o : Out) → is_permitted of.Output (unit_item_of_output o) ≡ sets_system_id o
 output_stands (output.Char c) = refl
 output_stands (output.Mark mark) = refl
 output_stands (output.Index store offset) = refl
@@ -145,7 +145,7 @@ output_stands output.Beep = refl
 output_stands output.Stop = refl
 
 -- an output is allowed in a match output if and only if it needs no context and does not set a system option that no file can set
-pub stands_alone : (o : Out) → may_stand of.Match (unit_item_of_output o) ≡ (not (needs_context o) && sets_system_id o)
+pub stands_alone : (o : Out) → is_permitted of.Match (unit_item_of_output o) ≡ (not (needs_context o) && sets_system_id o)
 stands_alone (output.Char c) = refl
 stands_alone (output.Mark mark) = refl
 stands_alone (output.Index store offset) = refl
@@ -160,7 +160,7 @@ stands_alone output.Nul = refl
 stands_alone output.Beep = refl
 stands_alone output.Stop = refl
 
-pub acts_alone : (o : Out) → may_stand of.Match (unit_item_of_output o) ≡ true → needs_context o ≡ false
+pub acts_alone : (o : Out) → is_permitted of.Match (unit_item_of_output o) ≡ true → needs_context o ≡ false
 acts_alone o h = not-true (needs_context o) (and_parts (not (needs_context o)) (sets_system_id o) (sym (stands_alone o) ∙ h)).0
 
 -- the stores and groups that an output names are below the counts
@@ -225,7 +225,7 @@ match_systems bytes targets outputs h =
 -- ---- contexts
 
 -- a pattern is allowed in a context if and only if it is not a condition on a system option that no file can test
-pub pattern_stands : (p : Pat) → may_stand of.Context (unit_item_of_pattern p) ≡ has_system_id p
+pub pattern_stands : (p : Pat) → is_permitted of.Context (unit_item_of_pattern p) ≡ has_system_id p
 pattern_stands (pattern.Any store) = refl
 pattern_stands (pattern.NotAny store) = refl
 pattern_stands (pattern.Index store offset) = refl

@@ -20,7 +20,7 @@ use Rattle.kmx_view.specs.View.{has_zero, is_ended, store_count, group_count}
 use Rattle.kmx_verifier.specs.declared.faults.StringKind.{StringKind}
 use Rattle.kmx_verifier.specs.declared.faults.StringKind.TheVariants as of
 use Rattle.kmx_verifier.specs.declared.faults.Target.{Target}
-use Rattle.kmx_verifier.specs.Items.{target_of, may_stand, code_of, stores_named, groups_named, points_right}
+use Rattle.kmx_verifier.specs.Items.{target_of, is_permitted, code_of, stores_named, groups_named, points_right}
 use Rattle.kmx_verifier.specs.FaultOf.{broken, broken_by, item_fault, walk_fault, context_fault, read_at, item_count, string_fault, context_string_fault, name_fault, too_many_elements, store_fault, elements_in, stores_fault, context_targets, flags_fault, record_fault, records_fault, records_place_fault, group_strings_fault, group_fault, groups_fault, size_fault, header_fault, arrays_fault, fault_of, no_group}
 use Rattle.kmx_verifier.specs.Looked.{Range, string_range, header_looked, stores_looked, records_looked, groups_looked, IsSameAt, OtherBytesChangeNothing}
 
@@ -111,7 +111,7 @@ string_same bytes other offset same_length same = by_test (nat_eq offset 0) same
 module _ (bytes other : List ℕ) (stores : store_count bytes ≡ store_count other) (groups : group_count bytes ≡ group_count other) where
   pub item_same : (kind : StringKind) (targets : List Target) (item : UnitItem) (at : ℕ) → item_fault bytes kind targets item at ≡ item_fault other kind targets item at
   item_same kind targets item at =
-      ap₂ (λ n g. option_or (broken_by (code_of item) at (not (may_stand kind item)))
+      ap₂ (λ n g. option_or (broken_by (code_of item) at (not (is_permitted kind item)))
       (option_or (broken V12 at (list_any (nat_lt n) (stores_named item) || list_any (nat_lt g) (groups_named item))) (option_or (broken V13 at (not (points_right targets item))) None))) stores groups
 
   pub walk_same : (kind : StringKind) (targets : List Target) (at : ℕ) (results : Results) → walk_fault bytes kind targets at results ≡ walk_fault other kind targets at results

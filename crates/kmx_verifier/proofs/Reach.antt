@@ -10,7 +10,7 @@ use Rattle.kmn_base.specs.declared.units.UnitItem.TheVariants.{Char, Any, Index,
 use Rattle.kmx_verifier.specs.declared.contexts.TheConstants.{OFFSET_REACH}
 use Rattle.kmx_verifier.specs.declared.faults.StringKind.{StringKind}
 use Rattle.kmx_verifier.specs.declared.faults.Target.{Target}
-use Rattle.kmx_verifier.specs.Items.{target_of, reached, target_at, is_any, is_pattern, points_right, may_stand, code_of, HasSmallOffset}
+use Rattle.kmx_verifier.specs.Items.{target_of, reached, target_at, is_any, is_pattern, points_right, is_permitted, code_of, HasSmallOffset}
 use Rattle.kmx_verifier.specs.FaultOf.{broken, broken_by, names_outside, item_fault}
 
 take-more : {X : Type 0} (n : ℕ) (xs : List X) (x : X) → take n (take n xs ++ x ∷ []) ≡ take n (xs ++ x ∷ [])
@@ -88,5 +88,5 @@ points_right-reached targets (Reset store) h = refl
 pub item_reached : (bytes : List ℕ) (kind : StringKind) (targets : List Target) (item : UnitItem) (at : ℕ) → HasSmallOffset item
     → item_fault bytes kind (reached targets) item at ≡ item_fault bytes kind targets item at
 item_reached bytes kind targets item at h =
-    ap (λ points. option_or (broken_by (code_of item) at (not (may_stand kind item))) (option_or (broken V12 at (names_outside bytes item)) (option_or (broken V13 at (not points)) None)))
+    ap (λ points. option_or (broken_by (code_of item) at (not (is_permitted kind item))) (option_or (broken V12 at (names_outside bytes item)) (option_or (broken V13 at (not points)) None)))
     (points_right-reached targets item h)

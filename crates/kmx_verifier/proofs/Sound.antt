@@ -17,7 +17,7 @@ use Rattle.item_codec.proofs.Results.{Results}
 use Rattle.kmx_verifier.specs.declared.faults.StringKind.{StringKind}
 use Rattle.kmx_verifier.specs.declared.faults.StringKind.TheVariants as of
 use Rattle.kmx_verifier.specs.declared.faults.Target.{Target}
-use Rattle.kmx_verifier.specs.Items.{may_stand, target_of, points_right, code_of}
+use Rattle.kmx_verifier.specs.Items.{is_permitted, target_of, points_right, code_of}
 use Rattle.kmx_verifier.specs.FaultOf.{broken, broken_by, names_outside, item_fault, walk_fault, context_fault}
 
 pub broken-none : (code : Code) (at : ℕ) (c : Bool) → broken code at c ≡ None → c ≡ false
@@ -30,7 +30,7 @@ broken_by-none unit at false h = refl
 
 -- an item without a fault
 pub record ItemStands (bytes : List ℕ) (kind : StringKind) (targets : List Target) (item : UnitItem) : Type 0 where
-  pub stands : may_stand kind item ≡ true
+  pub stands : is_permitted kind item ≡ true
   pub named : names_outside bytes item ≡ false
   pub points : points_right targets item ≡ true
 
@@ -86,7 +86,7 @@ context_stands bytes before at (Ok item ∷ results) h =
     (item_stands bytes of.Context before item at (option_or-none _ _ h).0, context_stands bytes (before ++ target_of item ∷ []) (at + spelled_size item) results (option_or-none _ _ h).1)
 
 -- if an item is allowed in a store and has a spelling, it is read as an element that converts back to it
-pub element_again : (item : UnitItem) → may_stand of.Store item ≡ true → IsSpellable item
+pub element_again : (item : UnitItem) → is_permitted of.Store item ≡ true → IsSpellable item
     → (e : Element) × (element_of_unit_item item ≡ Some e) × (unit_item_of_element e ≡ item)
 element_again (Char c) h s = (_, refl, refl)
 element_again (Dead mark) h s = (_, refl, refl)
@@ -127,7 +127,7 @@ system_comparison_again system comparison value s v (inr two) =
     (_, ap (λ c. system_comparison_of system c value) two, ap (λ n. SystemTest n 2 (value - 1 + 1)) (less_one system s) ∙ ap (SystemTest system 2) (less_one value v) ∙ ap (λ c. SystemTest system c value) (sym two))
 
 -- if an item is allowed in a context and has a spelling, it is read as a pattern that converts back to it
-pub pattern_again : (item : UnitItem) → may_stand of.Context item ≡ true → IsSpellable item
+pub pattern_again : (item : UnitItem) → is_permitted of.Context item ≡ true → IsSpellable item
     → (p : Pat) × (pattern_of_unit_item item ≡ Some p) × (unit_item_of_pattern p ≡ item)
 pattern_again (Char c) h s = (_, refl, refl)
 pattern_again (Dead mark) h s = (_, refl, refl)
@@ -149,7 +149,7 @@ pattern_again (Save store) h s = absurd (cc)
 pattern_again (Reset store) h s = absurd (cc)
 
 -- if an item is allowed in an output and has a spelling, it is read as an output that converts back to it
-pub output_again : (item : UnitItem) → may_stand of.Output item ≡ true → IsSpellable item
+pub output_again : (item : UnitItem) → is_permitted of.Output item ≡ true → IsSpellable item
     → (o : Out) × (output_of_unit_item item ≡ Some o) × (unit_item_of_output o ≡ item)
 output_again (Char c) h s = (_, refl, refl)
 output_again (Dead mark) h s = (_, refl, refl)

@@ -25,7 +25,7 @@ use Rattle.kmx_verifier.specs.declared.faults.StringKind.{StringKind}
 use Rattle.kmx_verifier.specs.declared.faults.StringKind.TheVariants.{Store, Context, Output, Match}
 use Rattle.kmx_verifier.specs.declared.faults.Target.{Target}
 use Rattle.kmx_view.specs.View.{is_within, is_ended, store_count, group_count}
-use Rattle.kmx_verifier.specs.Items.{may_stand, code_of, stores_named, groups_named, target_of, points_right}
+use Rattle.kmx_verifier.specs.Items.{is_permitted, code_of, stores_named, groups_named, target_of, points_right}
 
 -- the fault with a code at a place, if a condition holds
 abbrev pub broken : Code → ℕ → Bool → Option Fault
@@ -48,7 +48,7 @@ names_outside bytes item = list_any (nat_lt (store_count bytes)) (stores_named i
 -- its offset does not point at an allowed target
 abbrev pub item_fault : List ℕ → StringKind → List Target → UnitItem → ℕ → Option Fault
 item_fault bytes kind targets item at = first_fault (
-    broken_by (code_of item) at (not (may_stand kind item))
+    broken_by (code_of item) at (not (is_permitted kind item))
     ∷ broken V12 at (names_outside bytes item)
     ∷ broken V13 at (not (points_right targets item))
     ∷ [])
@@ -235,6 +235,6 @@ IsRefusal (Refused found) holds = holds found
 IsRefusal Memory holds = Unit {0}
 
 -- an error is the specified fault or `Memory`; if a result is `Ok`, there is no fault and a property holds
-abbrev pub TellsOf : {A : Type 0} → Option Fault → Type 0 → Result A VerifyError → Type 0
-TellsOf fault holds (Ok x) = (fault ≡ None) × holds
-TellsOf fault holds (Err error) = IsRefusal error (λ found. fault ≡ Some found)
+abbrev pub ReportsFault : {A : Type 0} → Option Fault → Type 0 → Result A VerifyError → Type 0
+ReportsFault fault holds (Ok x) = (fault ≡ None) × holds
+ReportsFault fault holds (Err error) = IsRefusal error (λ found. fault ≡ Some found)

@@ -11,53 +11,53 @@ use Rattle.kmx_verifier.specs.declared.faults.Target.{Target}
 use Rattle.kmx_verifier.specs.declared.faults.Target.TheVariants as target
 
 -- the items that are allowed in a store: character, deadkey, extended
-abbrev pub stands_in_store : UnitItem → Bool
-stands_in_store (Char c) = true
-stands_in_store (Dead mark) = true
-stands_in_store (Key flags code) = true
-stands_in_store _ = false
+abbrev pub is_allowed_in_store : UnitItem → Bool
+is_allowed_in_store (Char c) = true
+is_allowed_in_store (Dead mark) = true
+is_allowed_in_store (Key flags code) = true
+is_allowed_in_store _ = false
 
 -- the items that are allowed in a context: character, deadkey, any, notany, index, context(n), if, nul, and a condition on the
 -- platform or the layer; a file counts their ids from 1, as it counts stores
-abbrev pub stands_in_context : UnitItem → Bool
-stands_in_context (Char c) = true
-stands_in_context (Dead mark) = true
-stands_in_context (Any store) = true
-stands_in_context (NotAny store) = true
-stands_in_context (Index store offset) = true
-stands_in_context (ContextAt offset) = true
-stands_in_context (Test store comparison value) = true
-stands_in_context (SystemTest system comparison value) = nat_eq system (PLATFORM + 1) || nat_eq system (LAYER + 1)
-stands_in_context Nul = true
-stands_in_context _ = false
+abbrev pub is_allowed_in_context : UnitItem → Bool
+is_allowed_in_context (Char c) = true
+is_allowed_in_context (Dead mark) = true
+is_allowed_in_context (Any store) = true
+is_allowed_in_context (NotAny store) = true
+is_allowed_in_context (Index store offset) = true
+is_allowed_in_context (ContextAt offset) = true
+is_allowed_in_context (Test store comparison value) = true
+is_allowed_in_context (SystemTest system comparison value) = nat_eq system (PLATFORM + 1) || nat_eq system (LAYER + 1)
+is_allowed_in_context Nul = true
+is_allowed_in_context _ = false
 
 -- the items that are allowed in a match or nomatch output: character, deadkey, use, set, save, reset, nul, beep, return, and a
 -- set of the layer
-abbrev pub stands_in_match : UnitItem → Bool
-stands_in_match (Char c) = true
-stands_in_match (Dead mark) = true
-stands_in_match (Enter group) = true
-stands_in_match (Set store value) = true
-stands_in_match (SetSystem system value) = nat_eq system (LAYER + 1)
-stands_in_match (Save store) = true
-stands_in_match (Reset store) = true
-stands_in_match Nul = true
-stands_in_match Beep = true
-stands_in_match Stop = true
-stands_in_match _ = false
+abbrev pub is_allowed_in_match : UnitItem → Bool
+is_allowed_in_match (Char c) = true
+is_allowed_in_match (Dead mark) = true
+is_allowed_in_match (Enter group) = true
+is_allowed_in_match (Set store value) = true
+is_allowed_in_match (SetSystem system value) = nat_eq system (LAYER + 1)
+is_allowed_in_match (Save store) = true
+is_allowed_in_match (Reset store) = true
+is_allowed_in_match Nul = true
+is_allowed_in_match Beep = true
+is_allowed_in_match Stop = true
+is_allowed_in_match _ = false
 
 -- the items that are allowed in an output: the items of a match output, and index, context, context(n)
-abbrev pub stands_in_output : UnitItem → Bool
-stands_in_output (Index store offset) = true
-stands_in_output Context = true
-stands_in_output (ContextAt offset) = true
-stands_in_output item = stands_in_match item
+abbrev pub is_allowed_in_output : UnitItem → Bool
+is_allowed_in_output (Index store offset) = true
+is_allowed_in_output Context = true
+is_allowed_in_output (ContextAt offset) = true
+is_allowed_in_output item = is_allowed_in_match item
 
-abbrev pub may_stand : StringKind → UnitItem → Bool
-may_stand of.Store item = stands_in_store item
-may_stand of.Context item = stands_in_context item
-may_stand of.Output item = stands_in_output item
-may_stand of.Match item = stands_in_match item
+abbrev pub is_permitted : StringKind → UnitItem → Bool
+is_permitted of.Store item = is_allowed_in_store item
+is_permitted of.Context item = is_allowed_in_context item
+is_permitted of.Output item = is_allowed_in_output item
+is_permitted of.Match item = is_allowed_in_match item
 
 -- the code after an item's sentinel, which a refusal names; 0 for a character, which has no sentinel
 abbrev pub code_of : UnitItem → ℕ

@@ -10,7 +10,7 @@ ghost use Rattle.kmx_verifier.specs.declared.contexts.TheConstants.{OFFSET_REACH
 ghost use Rattle.kmx_verifier.specs.declared.faults.Target.{Target};
 ghost use Rattle.kmx_verifier.specs.declared.faults.StringKind.TheVariants.{Context};
 ghost use Rattle.kmx_verifier.specs.Items.{target_of, reached};
-ghost use Rattle.kmx_verifier.specs.FaultOf.{item_fault, context_fault, read_context_fault, context_string_fault, context_targets, flags_fault, record_fault, records_fault, Tells, TellsOf};
+ghost use Rattle.kmx_verifier.specs.FaultOf.{item_fault, context_fault, read_context_fault, context_string_fault, context_targets, flags_fault, record_fault, records_fault, Tells, ReportsFault};
 
 use crate::faults::{Fault, StringKind, Target, VerifyError};
 use crate::items::{check_item, offset_is_unit, spelled_size, spelling_fault, target_of};
@@ -51,7 +51,7 @@ fn check_context_item(
     item: UnitItem,
     at: u32,
 ) -> Result<(), VerifyError>
-    ensures { (before : List Target) → targets.now ≡ reached before → TellsOf (item_fault bytes.now Context before item at) (Unit {0}) result }
+    ensures { (before : List Target) → targets.now ≡ reached before → ReportsFault (item_fault bytes.now Context before item at) (Unit {0}) result }
 {
     offset_is_unit(item);
     Ok(check_item(bytes, StringKind::Context, targets, item, at)?)
@@ -65,7 +65,7 @@ pub(crate) fn walk_context(
     targets: &mut Vec<Target>,
 ) -> Result<(), VerifyError>
     requires within { at + length string.now ≤ FILE_BYTES }
-    ensures { TellsOf (context_fault bytes.now [] at (results_of string.now)) (targets.new.items ≡ reached (map target_of (items_given (results_of string.now)))) result }
+    ensures { ReportsFault (context_fault bytes.now [] at (results_of string.now)) (targets.new.items ≡ reached (map target_of (items_given (results_of string.now)))) result }
 {
     targets.clear();
     let mut place = at;
@@ -90,7 +90,7 @@ pub(crate) fn walk_context(
 fn read_context(bytes: &[u8], place: usize, targets: &mut Vec<Target>) -> Result<(), VerifyError>
     requires fits { length bytes.now ≤ FILE_BYTES }
     requires place { place < FILE_BYTES }
-    ensures { TellsOf (read_context_fault bytes.now place) (targets.new.items ≡ reached (context_targets bytes.now (word_at bytes.now place))) result }
+    ensures { ReportsFault (read_context_fault bytes.now place) (targets.new.items ≡ reached (context_targets bytes.now (word_at bytes.now place))) result }
 {
     let offset = word_at(bytes, place);
     match ended_string(bytes, offset) {
@@ -104,7 +104,7 @@ fn read_context(bytes: &[u8], place: usize, targets: &mut Vec<Target>) -> Result
 fn check_context(bytes: &[u8], place: usize, targets: &mut Vec<Target>) -> Result<(), VerifyError>
     requires fits { length bytes.now ≤ FILE_BYTES }
     requires place { place < FILE_BYTES }
-    ensures { TellsOf (context_string_fault bytes.now place) (targets.new.items ≡ context_targets bytes.now (word_at bytes.now place)) result }
+    ensures { ReportsFault (context_string_fault bytes.now place) (targets.new.items ≡ context_targets bytes.now (word_at bytes.now place)) result }
 {
     read_context(bytes, place, targets)?;
     if targets.len() > CONTEXT_ITEMS {
@@ -138,7 +138,7 @@ pub(crate) fn check_record(
 ) -> Result<(), VerifyError>
     requires fits { length bytes.now ≤ FILE_BYTES }
     requires place { place + RULE_BYTES ≤ FILE_BYTES }
-    ensures { TellsOf (record_fault bytes.now using_keys place) (targets.new.items ≡ context_targets bytes.now (word_at bytes.now (place + RULE_CONTEXT_AT))) result }
+    ensures { ReportsFault (record_fault bytes.now using_keys place) (targets.new.items ≡ context_targets bytes.now (word_at bytes.now (place + RULE_CONTEXT_AT))) result }
 {
     check_flags(bytes, using_keys, place + RULE_FLAGS_AT)?;
     check_context(bytes, place + RULE_CONTEXT_AT, targets)?;
@@ -156,7 +156,7 @@ pub(crate) fn check_records(
 ) -> Result<(), VerifyError>
     requires fits { length bytes.now ≤ FILE_BYTES }
     requires stand { (count ≡ 0) ⊎ (place + RULE_BYTES * count ≤ FILE_BYTES) }
-    ensures { TellsOf (records_fault bytes.now using_keys place count) (Unit {0}) result }
+    ensures { ReportsFault (records_fault bytes.now using_keys place count) (Unit {0}) result }
 {
     for i in 0..count as usize {
         check_record(bytes, using_keys, place as usize + RULE_BYTES * i, targets)?;

@@ -5,7 +5,7 @@ ghost use Rattle.kmn_base.specs.declared.limits.TheConstants.{FILE_BYTES, RECORD
 ghost use Rattle.kmx_format.specs.declared.places.TheConstants.{GROUP_RULE_COUNT_AT};
 ghost use Rattle.kmx_format.specs.declared.sizes.TheConstants.{GROUP_BYTES};
 ghost use Rattle.kmx_format.specs.TablesOf.{word_at};
-ghost use Rattle.kmx_verifier.specs.FaultOf.{records_place_fault, group_strings_fault, group_fault, groups_fault, Tells, TellsOf, IsRefusal};
+ghost use Rattle.kmx_verifier.specs.FaultOf.{records_place_fault, group_strings_fault, group_fault, groups_fault, Tells, ReportsFault, IsRefusal};
 
 use crate::contexts::check_records;
 use crate::faults::{Fault, StringKind, Target, VerifyError};
@@ -88,7 +88,7 @@ pub(crate) fn check_groups(
 ) -> Result<(), VerifyError>
     requires fits { length bytes.now ≤ FILE_BYTES }
     requires stand { (count ≡ 0) ⊎ (place + GROUP_BYTES * count ≤ FILE_BYTES) }
-    ensures { TellsOf (groups_fault bytes.now 0 place count) (Unit {0}) result }
+    ensures { ReportsFault (groups_fault bytes.now 0 place count) (Unit {0}) result }
 {
     let mut records = 0;
     for i in 0..count as usize {

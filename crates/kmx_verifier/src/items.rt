@@ -2,7 +2,7 @@
 
 ghost use Rattle.std.specs.Prelude.{◌≡◌};
 ghost use Rattle.item_codec.specs.Walk.{spelled_size};
-ghost use Rattle.kmx_verifier.specs.Items.{may_stand, stands_in_store, stands_in_context, stands_in_output, stands_in_match, code_of, target_of, target_at, points_right, HasSmallOffset};
+ghost use Rattle.kmx_verifier.specs.Items.{is_permitted, is_allowed_in_store, is_allowed_in_context, is_allowed_in_output, is_allowed_in_match, code_of, target_of, target_at, points_right, HasSmallOffset};
 ghost use Rattle.kmx_verifier.specs.FaultOf.{names_outside, item_fault, spelling_fault, Tells};
 
 use crate::faults::{Fault, StringKind, Target};
@@ -18,8 +18,8 @@ const PLATFORM: u16 = system::PLATFORM as u16 + 1;
 /// The layer as an operand of an item, also counted from 1.
 const LAYER: u16 = system::LAYER as u16 + 1;
 
-fn stands_in_store(item: UnitItem) -> bool
-    ensures { result ≡ stands_in_store item }
+fn is_allowed_in_store(item: UnitItem) -> bool
+    ensures { result ≡ is_allowed_in_store item }
 {
     matches!(
         item,
@@ -27,8 +27,8 @@ fn stands_in_store(item: UnitItem) -> bool
     )
 }
 
-fn stands_in_context(item: UnitItem) -> bool
-    ensures { result ≡ stands_in_context item }
+fn is_allowed_in_context(item: UnitItem) -> bool
+    ensures { result ≡ is_allowed_in_context item }
 {
     match item {
         UnitItem::Char(_)
@@ -44,8 +44,8 @@ fn stands_in_context(item: UnitItem) -> bool
     }
 }
 
-fn stands_in_match(item: UnitItem) -> bool
-    ensures { result ≡ stands_in_match item }
+fn is_allowed_in_match(item: UnitItem) -> bool
+    ensures { result ≡ is_allowed_in_match item }
 {
     match item {
         UnitItem::Char(_)
@@ -62,24 +62,24 @@ fn stands_in_match(item: UnitItem) -> bool
     }
 }
 
-fn stands_in_output(item: UnitItem) -> bool
-    ensures { result ≡ stands_in_output item }
+fn is_allowed_in_output(item: UnitItem) -> bool
+    ensures { result ≡ is_allowed_in_output item }
 {
     match item {
         UnitItem::Index(_, _) | UnitItem::Context | UnitItem::ContextAt(_) => true,
-        _ => stands_in_match(item),
+        _ => is_allowed_in_match(item),
     }
 }
 
 /// Returns whether an item is allowed in a string of a kind.
-fn may_stand(kind: StringKind, item: UnitItem) -> bool
-    ensures { result ≡ may_stand kind item }
+fn is_permitted(kind: StringKind, item: UnitItem) -> bool
+    ensures { result ≡ is_permitted kind item }
 {
     match kind {
-        StringKind::Store => stands_in_store(item),
-        StringKind::Context => stands_in_context(item),
-        StringKind::Output => stands_in_output(item),
-        StringKind::Match => stands_in_match(item),
+        StringKind::Store => is_allowed_in_store(item),
+        StringKind::Context => is_allowed_in_context(item),
+        StringKind::Output => is_allowed_in_output(item),
+        StringKind::Match => is_allowed_in_match(item),
     }
 }
 
@@ -184,7 +184,7 @@ pub(crate) fn check_item(
 ) -> Result<(), Fault>
     ensures { Tells (item_fault bytes.now kind targets.now item at) result }
 {
-    if !may_stand(kind, item) {
+    if !is_permitted(kind, item) {
         return Err(Fault {
             code: Code::V14,
             at,

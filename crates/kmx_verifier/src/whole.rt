@@ -9,7 +9,7 @@
 
 ghost use Rattle.std.specs.Prelude.{◌≡◌, ◌≤◌, length, None, Some};
 ghost use Rattle.kmn_base.specs.declared.limits.TheConstants.{FILE_BYTES};
-ghost use Rattle.kmx_verifier.specs.FaultOf.{fault_of, TellsOf};
+ghost use Rattle.kmx_verifier.specs.FaultOf.{fault_of, ReportsFault};
 
 use crate::faults::VerifyError;
 use crate::groups::check_groups;
@@ -24,7 +24,7 @@ use std::alloc::Global;
 /// Errors: `Refused` with the first fault of the file; `Memory` if an allocation fails.
 #[tactic(auto, using(crate::proofs::Arrays::arrays_stand, crate::proofs::Arrays::size_fits), unfolding(crate::specs::FaultOf::fault_of))]
 pub(crate) fn check_file(alloc: Global, bytes: &[u8]) -> Result<(), VerifyError>
-    ensures { TellsOf (fault_of bytes.now) (length bytes.now ≤ FILE_BYTES) result }
+    ensures { ReportsFault (fault_of bytes.now) (length bytes.now ≤ FILE_BYTES) result }
 {
     check_size(bytes)?;
     check_header(bytes)?;

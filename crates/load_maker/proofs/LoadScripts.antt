@@ -5,7 +5,7 @@ use Rattle.std.specs.Str.{IsAscii}
 use Rattle.std.proofs.lemmas.Str.{IsUtf8-from_ascii}
 use Rattle.std.proofs.lemmas.Str.Ascii.{IsAscii-cons}
 use Rattle.kmn_base.specs.Names.{same_name}
-use Rattle.kmn_base.specs.Texts.{without_mark}
+use Rattle.kmn_base.specs.Texts.{without_bom}
 use Rattle.kmn_base.specs.declared.events.Event.{Event}
 use Rattle.kmn_base.specs.declared.events.Event.TheVariants as event
 use Rattle.kmn_base.specs.declared.limits.TheConstants.{TEXT_BYTES, SCRIPT_EVENTS}
@@ -113,7 +113,7 @@ lines_length : (count : ℕ) → length (lines_of count) ≡ 6 * count + 10
 lines_length zero = refl
 lines_length (suc count) = omega (arith, lines_length count)
 
-unmarked : (count : ℕ) → without_mark (lines_of count) ≡ lines_of count
+unmarked : (count : ℕ) → without_bom (lines_of count) ≡ lines_of count
 unmarked zero = refl
 unmarked (suc count) = refl
 

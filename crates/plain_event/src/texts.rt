@@ -1,7 +1,7 @@
 //! Converts between items and characters, and reads the text before the caret again.
 
 ghost use Rattle.std.specs.Prelude.{◌≡◌, IfOk, map};
-ghost use Rattle.kmn_base.specs.Lists.{characters, without_last, window, still_stands, read_again};
+ghost use Rattle.kmn_base.specs.Lists.{characters, without_last, window, is_still_suffix, read_again};
 
 use kmn_base::limits::WINDOW_ITEMS;
 use kmn_base::slices::{before, behind};
@@ -43,9 +43,9 @@ pub fn window(items: &[Item]) -> &[Item]
 }
 
 /// Returns whether a text ends with the characters of the kept items, and these items fill the window or are the whole text.
-fn still_stands(kept: &[Item], last: &[char], text: &[char]) -> bool
+fn is_still_suffix(kept: &[Item], last: &[char], text: &[char]) -> bool
     requires { last.now ≡ characters kept.now }
-    ensures { result ≡ still_stands kept.now text.now }
+    ensures { result ≡ is_still_suffix kept.now text.now }
 {
     text.ends_with(last) && (kept.len() == WINDOW_ITEMS || text.len() == last.len())
 }
@@ -56,7 +56,7 @@ pub fn read_again(alloc: Global, items: &[Item], text: &[char]) -> Result<Vec<It
 {
     let kept = window(items);
     let last = characters(alloc, kept)?;
-    if !still_stands(kept, last.as_slice(), text) {
+    if !is_still_suffix(kept, last.as_slice(), text) {
         return as_items(alloc, text);
     }
     let mut left = as_items(alloc, &text[..text.len() - last.len()])?;

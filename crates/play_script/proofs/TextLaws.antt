@@ -5,7 +5,7 @@ use Rattle.std.proofs.lemmas.Bool.{cases_Bool, cases_lt}
 use Rattle.std.proofs.lemmas.Str.{is_utf8-from_IsUtf8, IsUtf8-from_is_utf8}
 use Rattle.std.specs.Str.{is_utf8}
 use Rattle.kmn_base.specs.Answers.{and_then}
-use Rattle.kmn_base.specs.Texts.{without_mark}
+use Rattle.kmn_base.specs.Texts.{without_bom}
 use Rattle.kmn_base.specs.declared.codes.Code.TheVariants.{P01}
 use Rattle.kmn_base.specs.declared.limits.TheConstants.{TEXT_BYTES}
 use Rattle.kmn_base.specs.declared.refusals.Refusal.{Refusal}
@@ -64,7 +64,7 @@ line_some text n some within = elim (cases_lt n (length text)) [
 pub ruleset first_steps = (first_line_first, line_some)
 
 -- if a script isn't too long, it has a text if it is UTF-8, and breaks P01 if it isn't
-pub text_kept : (bytes : List ℕ) → nat_lt TEXT_BYTES (length bytes) ≡ false → IsUtf8 bytes → script_text bytes ≡ Ok (without_mark bytes)
+pub text_kept : (bytes : List ℕ) → nat_lt TEXT_BYTES (length bytes) ≡ false → IsUtf8 bytes → script_text bytes ≡ Ok (without_bom bytes)
 text_kept bytes short text = both_hold (nat_lt TEXT_BYTES (length bytes)) (is_utf8 bytes) _ _ _ short (is_utf8-from_IsUtf8 bytes text)
 
 pub text_broken : (bytes : List ℕ) → nat_lt TEXT_BYTES (length bytes) ≡ false → ¬ (IsUtf8 bytes) → script_text bytes ≡ Err (record { line = 1; code = P01 })

@@ -1,6 +1,6 @@
 -- What the readers of a script return.
 use Rattle.std.specs.Prelude.{◌≡◌, ℕ, List, [], ◌∷◌, Option, Some, None, Result, Ok, Err}
-use Rattle.kmn_base.specs.Answers.{AnswersBy, TellsFault}
+use Rattle.kmn_base.specs.Answers.{AnswersBy, IsFaultOf}
 use Rattle.kmn_base.specs.declared.codes.Code.{Code}
 use Rattle.kmn_base.specs.declared.refusals.Refusal.{Refusal}
 use Rattle.play_script.specs.Found.{Found, Breaks}
@@ -19,7 +19,7 @@ Answers stated answer = AnswersBy refusal_of stated answer
 -- a call leaves the specified state, or its error is the specified refusal or `Memory`
 abbrev pub Leaves : {S : Type 0} → Result S Refusal → S → Result (Unit {0}) ScriptError → Type 0
 Leaves stated after (Ok x) = stated ≡ Ok after
-Leaves stated after (Err error) = TellsFault stated (refusal_of error)
+Leaves stated after (Err error) = IsFaultOf stated (refusal_of error)
 
 -- a check succeeds if nothing is found, else it returns the one broken rule that is found; it never returns `Memory`
 abbrev pub Passes : List Found → Result (Unit {0}) ScriptError → Type 0

@@ -3,7 +3,7 @@ use Rattle.std.specs.Prelude.{ℕ, ◌+◌, not, nat_eq, nat_lt, if◌then◌els
 use Rattle.std.specs.List.{slice_split}
 use Rattle.std.specs.Str.{byte, bytes_eq, is_utf8}
 use Rattle.kmn_base.specs.Answers.{and_then}
-use Rattle.kmn_base.specs.Texts.{without_mark}
+use Rattle.kmn_base.specs.Texts.{without_bom}
 use Rattle.kmn_base.specs.declared.codes.Code.{Code}
 use Rattle.kmn_base.specs.declared.codes.Code.TheVariants.{P01, P02, P03, P04, P05, P06, P07, P08}
 use Rattle.kmn_base.specs.declared.refusals.Refusal.{Refusal}
@@ -17,7 +17,7 @@ use Rattle.play_script.specs.Found.{Found, Reads, Breaks}
 use Rattle.play_script.specs.Lines.{text_lines}
 use Rattle.play_script.specs.Presses.{press_with}
 use Rattle.play_script.specs.Strings.{string}
-use Rattle.play_script.specs.Words.{is_closing, without_blanks, first_word, behind_word, words, number, name}
+use Rattle.play_script.specs.Words.{is_closing, without_blanks, first_word, rest_after_word, words, number, name}
 
 -- a rule that a line breaks
 abbrev pub breaks : ℕ → Code → List Found
@@ -30,7 +30,7 @@ unless_broken line code next (Some x) = next x
 
 -- what `next` finds for the number with which a text begins and for the rest; P05 if there is no number
 abbrev pub with_number : ℕ → (ℕ → List ℕ → List Found) → List ℕ → List Found
-with_number line next text = unless_broken line P05 (λ n. next n (behind_word text)) (number (first_word text))
+with_number line next text = unless_broken line P05 (λ n. next n (rest_after_word text)) (number (first_word text))
 
 -- the entry for the string that a text denotes; P04 if the text is not a string
 abbrev pub with_string : ℕ → (List ℕ → Entry) → List ℕ → List Found
@@ -53,7 +53,7 @@ edit_found line =
 -- what is found after `option`: a name and a string
 abbrev pub option_found : ℕ → List ℕ → List Found
 option_found line text =
-    unless_broken line P04 (λ option. with_string line (λ value. Act line (event.Setting option value)) (behind_word text)) (name (first_word text))
+    unless_broken line P04 (λ option. with_string line (λ value. Act line (event.Setting option value)) (rest_after_word text)) (name (first_word text))
 
 -- what is found after `expect`: a string
 abbrev pub expect_found : ℕ → List ℕ → List Found
@@ -101,7 +101,7 @@ text_found dictionary line [] = []
 text_found dictionary line (c ∷ text) =
     if nat_eq c (byte "#") then []
     else if nat_eq c (byte "[") then brackets_found dictionary line (slice_split is_closing (c ∷ text))
-    else kind_found line (kind_of (first_word (c ∷ text))) (behind_word (c ∷ text))
+    else kind_found line (kind_of (first_word (c ∷ text))) (rest_after_word (c ∷ text))
 
 -- what is found in a line
 abbrev pub line_found : List (List ℕ) → ℕ → List ℕ → List Found
@@ -145,7 +145,7 @@ abbrev pub script_text : List ℕ → Result (List ℕ) Refusal
 script_text bytes =
     if nat_lt TEXT_BYTES (length bytes) then Err (record { line = 1; code = P06 })
     else if not (is_utf8 bytes) then Err (record { line = 1; code = P01 })
-    else Ok (without_mark bytes)
+    else Ok (without_bom bytes)
 
 -- the entries of a script for a keyboard with this dictionary of keys, or its first refusal
 unfoldable pub entries : List (List ℕ) → List ℕ → Result (List Entry) Refusal

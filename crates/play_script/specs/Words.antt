@@ -22,8 +22,8 @@ abbrev pub first_word : List ℕ → List ℕ
 first_word text = take (position_or_len is_blank text) text
 
 -- the text after the first word and the blanks that follow it
-abbrev pub behind_word : List ℕ → List ℕ
-behind_word text = without_blanks (drop (position_or_len is_blank text) text)
+abbrev pub rest_after_word : List ℕ → List ℕ
+rest_after_word text = without_blanks (drop (position_or_len is_blank text) text)
 
 -- the words of a text, which are separated by blanks
 abbrev pub words : List ℕ → List (List ℕ)

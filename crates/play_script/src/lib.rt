@@ -23,4 +23,4 @@ pub use transcript::{
     end_line, expect_line, line_of, put_characters, put_counts, refused_event_line, text_line,
     value_line,
 };
-pub use words::{behind_word, first_word, without_blanks};
+pub use words::{first_word, rest_after_word, without_blanks};

@@ -10,10 +10,10 @@ ghost use Rattle.play_script.specs.Answers.{refusal_of, Answers, Leaves};
 use crate::errors::ScriptError;
 use crate::presses::read_brackets;
 use crate::reader::{Reader, read_caret, read_edit, read_expect, read_option, refused};
-use crate::words::{behind_word, first_word, without_blanks};
+use crate::words::{first_word, rest_after_word, without_blanks};
 use kmn_base::limits::TEXT_BYTES;
 use kmn_base::slices::behind;
-use kmn_base::texts::without_mark;
+use kmn_base::texts::without_bom;
 use kmn_base::{Code, Seq};
 use rule_model::Entry;
 use std::alloc::Global;
@@ -81,7 +81,7 @@ fn read_text(
             alloc,
             line,
             kind_of(first_word(text)),
-            behind_word(text),
+            rest_after_word(text),
             reader,
         ),
     }
@@ -177,7 +177,7 @@ pub fn script_text(bytes: &[u8]) -> Result<&[u8], ScriptError>
         return Err(refused(1, Code::P06));
     }
     match str::from_utf8(bytes) {
-        Ok(_) => Ok(without_mark(bytes)),
+        Ok(_) => Ok(without_bom(bytes)),
         Err(_) => Err(refused(1, Code::P01)),
     }
 }

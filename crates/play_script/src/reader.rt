@@ -4,14 +4,14 @@ ghost use Rattle.std.specs.Prelude.{◌≡◌, ◌∷◌, [], Ok, Some, None, Ma
 ghost use Rattle.kmn_base.specs.declared.codes.Code.{Code};
 ghost use Rattle.kmn_base.specs.declared.codes.Code.TheVariants.{P04, P05, P08};
 ghost use Rattle.rule_model.specs.declared.script.Entry.TheVariants as entry;
-ghost use Rattle.play_script.specs.Words.{first_word, behind_word, number, name as some_name};
+ghost use Rattle.play_script.specs.Words.{first_word, rest_after_word, number, name as some_name};
 ghost use Rattle.play_script.specs.Strings.{string};
 ghost use Rattle.play_script.specs.Entries.{first_script, with_entry, with_found, nothing_more, caret_found, edit_found, option_found, expect_found};
 ghost use Rattle.play_script.specs.Answers.{Leaves, Passes, Needs, NeedsMade};
 
 use crate::errors::ScriptError;
 use crate::strings::string;
-use crate::words::{behind_word, first_word, name, number};
+use crate::words::{first_word, name, number, rest_after_word};
 use kmn_base::limits::SCRIPT_EVENTS;
 use kmn_base::{Code, Event, Refusal, Seq};
 use rule_model::Entry;
@@ -157,7 +157,7 @@ pub(crate) fn read_caret(line: u32, text: &[u8], reader: &mut Reader) -> Result<
 {
     let place = needed_number(line, text)?;
     reader.act(line, Event::Caret(place))?;
-    nothing_more(line, behind_word(text))
+    nothing_more(line, rest_after_word(text))
 }
 
 /// Reads the text after `edit`.
@@ -170,9 +170,9 @@ pub(crate) fn read_edit(
     ensures { Leaves (with_found (Ok reader.old) (edit_found line text.now)) reader.new result }
 {
     let from = needed_number(line, text)?;
-    let rest = behind_word(text);
+    let rest = rest_after_word(text);
     let to = needed_number(line, rest)?;
-    let text = needed_string(alloc, line, behind_word(rest))?;
+    let text = needed_string(alloc, line, rest_after_word(rest))?;
     reader.act(line, Event::Edit { from, to, text })
 }
 
@@ -186,7 +186,7 @@ pub(crate) fn read_option(
     ensures { Leaves (with_found (Ok reader.old) (option_found line text.now)) reader.new result }
 {
     let name = needed_name(line, text)?;
-    let value = needed_string(alloc, line, behind_word(text))?;
+    let value = needed_string(alloc, line, rest_after_word(text))?;
     let name = Seq::from_slice(alloc, name)?;
     reader.act(line, Event::Setting { name, value })
 }

@@ -3,7 +3,7 @@
 ghost use Rattle.std.specs.Prelude.{◌≡◌, ◌≤◌, length, option_copied};
 ghost use Rattle.std.specs.List.{position, position_or_len};
 ghost use Rattle.kmn_base.specs.Bytes.{is_blank};
-ghost use Rattle.play_script.specs.Words.{without_blanks, IsTight, first_word, behind_word, has_digits, number, name};
+ghost use Rattle.play_script.specs.Words.{without_blanks, IsTight, first_word, rest_after_word, has_digits, number, name};
 
 use kmn_base::bytes::is_blank;
 use kmn_base::digits::{are_digits, bounded_value};
@@ -51,8 +51,8 @@ pub fn first_word(text: &[u8]) -> &[u8]
 }
 
 /// Returns the text after the first word and the blanks that follow it.
-pub fn behind_word(text: &[u8]) -> &[u8]
-    ensures { result.now ≡ behind_word text.now }
+pub fn rest_after_word(text: &[u8]) -> &[u8]
+    ensures { result.now ≡ rest_after_word text.now }
 {
     without_blanks(behind(text, word_length(text)))
 }

@@ -17,7 +17,7 @@ use Rattle.rule_model.specs.Keyboard.{Numbered, StoreMeaning, stated}
 use Rattle.rule_model.specs.Match.{same_element, same_value}
 use Rattle.rule_model.specs.Tab.{tab}
 use Rattle.rule_model.proofs.PlainOptions.{content_of_option}
-use Rattle.rule_matching.specs.Moment.{saved_of}
+use Rattle.rule_matching.specs.MatchState.{saved_of}
 use Rattle.rule_matching.proofs.StoreContents as contents
 use Rattle.rule_engine.specs.Engine.{EngineState}
 use Rattle.play_session.specs.declared.changes.Change.{Change}

@@ -7,7 +7,7 @@ use Rattle.rule_model.specs.declared.tables.Tables.{Tables}
 use Rattle.rule_engine.specs.Engine.{EngineState, first_engine}
 use Rattle.editor_model.specs.Text.{EditorText}
 use Rattle.play_session.specs.Changes.{option_stores}
-use Rattle.play_session.specs.Session.{AreTogether, HasRoom}
+use Rattle.play_session.specs.Session.{AreTogether, HasCapacity}
 
 abbrev pub no_text : EditorText
 no_text = record { left = []; right = []; spare = 0 }
@@ -16,7 +16,7 @@ begins_together : (tables : Tables) → AreTogether TEXT_CHARS (first_engine tab
 begins_together tables = record { same = refl; sound = All-nil (λ item. is_mark item ≡ false); context = refl; few = omega arith }
 
 pub session_begins : (engine : EngineState) (editor : EditorText) (options : List ℕ) (room : ℕ) → engine ≡ first_engine engine.tables → editor ≡ no_text
-    → options ≡ option_stores engine.tables → 2 * length options ≤ room → AreTogether TEXT_CHARS engine editor × HasRoom engine.tables options room
+    → options ≡ option_stores engine.tables → 2 * length options ≤ room → AreTogether TEXT_CHARS engine editor × HasCapacity engine.tables options room
 session_begins engine editor options room is_engine is_editor are enough = (
   subst (λ (e : EngineState). AreTogether TEXT_CHARS e editor) (sym is_engine)
       (subst (λ (t : EditorText). AreTogether TEXT_CHARS (first_engine engine.tables) t) (sym is_editor) (begins_together engine.tables)),

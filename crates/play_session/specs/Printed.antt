@@ -10,7 +10,7 @@ use Rattle.rule_model.specs.Tab.{tab}
 use Rattle.rule_model.specs.Trace.{options_of, first_state}
 use Rattle.rule_model.specs.Transcript.{value_line, changes}
 use Rattle.rule_engine.specs.Engine.{name_of}
-use Rattle.rule_matching.specs.Moment.{saved_of}
+use Rattle.rule_matching.specs.MatchState.{saved_of}
 use Rattle.play_session.specs.declared.changes.Change.{Change}
 use Rattle.play_session.specs.Session.{SessionState, first_session, after_step}
 

@@ -95,7 +95,7 @@ pub record AreTogether (limit : ℕ) (engine : EngineState) (editor : EditorText
   pub few : length editor.left + length editor.right ≤ limit
 
 -- these stores are the options of tables, and there is capacity for two changes of each
-pub record HasRoom (tables : Tables) (options : List ℕ) (room : ℕ) : Type 0 where
+pub record HasCapacity (tables : Tables) (options : List ℕ) (room : ℕ) : Type 0 where
   pub stores : options ≡ option_stores tables
   pub changes : 2 * length options ≤ room
 

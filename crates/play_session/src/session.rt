@@ -109,14 +109,14 @@ impl Drop for Session<'_> {
 impl<'a> Model for Session<'a> {
     ghost use Rattle.std.specs.Prelude.{vec_capacity};
     ghost use Rattle.kmn_base.specs.declared.limits.TheConstants.{TEXT_CHARS};
-    ghost use Rattle.play_session.specs.Session.{SessionState, AreTogether, HasRoom, session_of};
+    ghost use Rattle.play_session.specs.Session.{SessionState, AreTogether, HasCapacity, session_of};
 
     ghost Value = { SessionState };
 
     ghost view = { λ session. session_of session.engine session.editor session.number session.typed session.changes.items };
 
     ghost invariant = { λ session. AreTogether TEXT_CHARS session.engine session.editor
-        × HasRoom session.engine.tables session.options.items (vec_capacity session.changes) };
+        × HasCapacity session.engine.tables session.options.items (vec_capacity session.changes) };
 }
 
 impl<'a> Session<'a> {

@@ -56,7 +56,7 @@ fn fills() -> bool {
 
 /// Returns whether a cache on the heap reads a text, and a copy of it has the same items.
 fn boxed(alloc: Global) -> Result<bool, Memory> {
-    let mut cache = CacheBox::with_room(alloc)?;
+    let mut cache = CacheBox::with_capacity(alloc)?;
     cache.sync(&['a']);
     let copy = cache.copy(alloc)?;
     Ok(cache.items() == [Char('a')].as_slice() && copy.items() == [Char('a')].as_slice())
@@ -73,6 +73,6 @@ fn items_of_a_cache(rt: HostRuntime) -> Result<(), Fail> {
     assert!(rt; counts());
     assert!(rt; fills());
     assert!(rt; boxed(alloc)?);
-    assert!(rt; CacheBox::without_room().items().is_empty());
+    assert!(rt; CacheBox::without_capacity().items().is_empty());
     Ok(())
 }

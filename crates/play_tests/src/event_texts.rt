@@ -82,8 +82,8 @@ fn left_of(alloc: Global, text: &[char], steps: &str) -> Result<String, Fail> {
     if text.len() >= 0x1_0000_0000 {
         return Err(Fail::from("too long a text"));
     }
-    let inserted = Inserted::with_room(alloc)?;
-    let cache = CacheBox::with_room(alloc)?;
+    let inserted = Inserted::with_capacity(alloc)?;
+    let cache = CacheBox::with_capacity(alloc)?;
     Ok(shown(alloc, &edited(text, inserted, cache, steps))?)
 }
 

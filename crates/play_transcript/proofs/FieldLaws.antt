@@ -25,7 +25,7 @@ use Rattle.play_transcript.proofs.PrintingLaws.{begun_within}
 use Rattle.text_host.specs.Host.{HostState, field_of, with_field}
 use Rattle.text_host.proofs.Alone.{acted}
 use Rattle.play_transcript.specs.declared.host_playing.Play.{Play}
-use Rattle.play_transcript.specs.EachEntry.{AreSessions, told_lines, TellsOfStores, is_text_of}
+use Rattle.play_transcript.specs.EachEntry.{AreSessions, told_lines, ReportsStoreFault, is_text_of}
 use Rattle.play_transcript.specs.HostText.{front, preview_line, event_text, preview_text, expect_text, text_or_refusal, event_lines, preview_lines, field_text, field_texts}
 use Rattle.play_transcript.specs.HostPlaying.{turned_to, refusal_in}
 
@@ -73,8 +73,8 @@ step_lines_told printed field number before after session event step is there le
     ∙ ap (λ (c : Option Code). text_or_refusal c number (event_text field event before)) (sym (done before session event there at))
 
 -- the changes of the session after a step are changes of its stores
-step_tells : (after : Option SessionState) (session : SessionState) (event : Event) → after ≡ Some (after_step session event) → TellsOfStores after
-step_tells after session event left = subst TellsOfStores (sym left) (step_of_stores session (after_step session event) event refl)
+step_tells : (after : Option SessionState) (session : SessionState) (event : Event) → after ≡ Some (after_step session event) → ReportsStoreFault after
+step_tells after session event left = subst ReportsStoreFault (sym left) (step_of_stores session (after_step session event) event refl)
 
 -- ---- a preview that was shown
 
@@ -113,7 +113,7 @@ expect_differs field line text (Some session) is = differs_by (bytes_eq (whole_t
 
 -- a step in the current field, whose lines the session after it determines
 pub record StepTold (before : Play) (after : HostState) (event : Event) (step : Step) : Type 0 where
-  pub stores : TellsOfStores (field_of after before.field)
+  pub stores : ReportsStoreFault (field_of after before.field)
   pub lines : told_lines before.field step (field_of after before.field) ≡ event_lines before event
 
 pub step_told : ChangesArePrinted → (before : Play) (after : HostState) (event : Event) (step : Step) → AreSessions before.host

@@ -23,7 +23,7 @@ use Rattle.text_host.specs.declared.entries.HostEntry.TheVariants.{Open, Field, 
 use Rattle.play_transcript.specs.declared.host_playing.Play.{Play}
 use Rattle.play_transcript.specs.HostPlaying.{first_play, turned_to, refusal_in, shown, stepped, compared, rest_unless, play_unless, after_entries}
 use Rattle.play_transcript.specs.HostText.{step_in}
-use Rattle.play_transcript.specs.HostCalls.{calls_left, calls_of, calls_behind, event_steps, steps_left}
+use Rattle.play_transcript.specs.HostCalls.{calls_left, calls_of, calls_after, event_steps, steps_left}
 use Rattle.play_transcript.specs.Fields.{FieldsAreTraces, calls_since}
 
 -- ---- hosts
@@ -67,7 +67,7 @@ no_room host field opens is few full =
     let room : FIELDS ≤ length host.sessions = leb-true FIELDS (length host.sessions) full in
     omega (arith, is, few, room)
 
-none_behind : (calls : List HostCall) → calls_behind 0 calls ≡ calls
+none_behind : (calls : List HostCall) → calls_after 0 calls ≡ calls
 none_behind [] = refl
 none_behind (call ∷ calls) = refl
 
@@ -149,7 +149,7 @@ open_steps field (Expect line text ∷ entries) play session there = open_expect
 -- the field comes after the last one, and its printed steps are the steps that it returns once it is open
 abbrev WillAnswer : ℕ → Tables → List HostEntry → Play → Type 0
 WillAnswer field tables entries play = (opens : ℕ) → field ≡ suc (length play.host.sessions + opens) → play.host.tables ≡ tables
-    → steps_left field play entries ≡ answered_from field (first_session tables) (calls_behind (suc opens) (calls_left play entries))
+    → steps_left field play entries ≡ answered_from field (first_session tables) (calls_after (suc opens) (calls_left play entries))
 
 module _ (field : ℕ) (tables : Tables) (entries : List HostEntry) (more : (play : Play) → WillAnswer field tables entries play) (play : Play) (over : play.host.tables ≡ tables) where
   begun_there : field ≡ suc (length play.host.sessions + 0) → field_of (with_new_field play.host) field ≡ Some (first_session tables)
@@ -161,7 +161,7 @@ module _ (field : ℕ) (tables : Tables) (entries : List HostEntry) (more : (pla
   wider_count opens is = omega (arith, is, length-append play.host.sessions (first_session play.host.tables ∷ []))
 
   new_opened : (opens : ℕ) → field ≡ suc (length play.host.sessions + opens)
-      → steps_left field (wider play) entries ≡ answered_from field (first_session tables) (calls_behind opens (calls_left (wider play) entries))
+      → steps_left field (wider play) entries ≡ answered_from field (first_session tables) (calls_after opens (calls_left (wider play) entries))
   new_opened zero is =
       open_steps field entries (wider play) (first_session tables) (begun_there is)
       ∙ ap (answered_from field (first_session tables)) (sym (none_behind (calls_left (wider play) entries)))
@@ -169,23 +169,23 @@ module _ (field : ℕ) (tables : Tables) (entries : List HostEntry) (more : (pla
 
   module _ (opens : ℕ) (is : field ≡ suc (length play.host.sessions + opens)) where
     new_add : field ≤ FIELDS → (full : Bool) → nat_le FIELDS (length play.host.sessions) ≡ full → steps_left field (cond full play (wider play)) entries
-        ≡ answered_from field (first_session tables) (calls_behind opens (calls_left (cond full play (wider play)) entries))
+        ≡ answered_from field (first_session tables) (calls_after opens (calls_left (cond full play (wider play)) entries))
     new_add few true full = absurd (no_room play.host field opens is few full)
     new_add few false full = new_opened opens is
 
     new_unless : (refusal : Option Code) (next : Play) → field ≡ suc (length next.host.sessions + opens) → next.host.tables ≡ tables
-        → rest_unless refusal (steps_left field next entries) ≡ answered_from field (first_session tables) (calls_behind (suc opens) (rest_unless refusal (calls_left next entries)))
+        → rest_unless refusal (steps_left field next entries) ≡ answered_from field (first_session tables) (calls_after (suc opens) (rest_unless refusal (calls_left next entries)))
     new_unless None next place same = more next opens place same
     new_unless (Some code) next place same = refl
 
     new_show : (press : KeyPress) (t : Option SessionState) → rest_unless (refusal_in t (event.Key press)) (steps_left field (shown play t) entries)
-        ≡ answered_from field (first_session tables) (calls_behind (suc opens) (rest_unless (refusal_in t (event.Key press)) (calls_left (shown play t) entries)))
+        ≡ answered_from field (first_session tables) (calls_after (suc opens) (rest_unless (refusal_in t (event.Key press)) (calls_left (shown play t) entries)))
     new_show press None = more play opens is over
     new_show press (Some s) = new_unless (event_refusal s.state (event.Key press)) (shown play (Some s)) is over
 
     new_act : (event : Event) (b : Bool) (t : Option SessionState) → (b ≡ true → t ≡ None)
         → rest_unless (refusal_in t event) (cond b (event_steps event t) [] ++ steps_left field (stepped play event t) entries)
-        ≡ answered_from field (first_session tables) (calls_behind (suc opens) (rest_unless (refusal_in t event) (calls_left (stepped play event t) entries)))
+        ≡ answered_from field (first_session tables) (calls_after (suc opens) (rest_unless (refusal_in t event) (calls_left (stepped play event t) entries)))
     new_act event true None none = more play opens is over
     new_act event false None none = more play opens is over
     new_act event true (Some s) none = absurd (some_isnt (none refl))
@@ -197,12 +197,12 @@ module _ (field : ℕ) (tables : Tables) (entries : List HostEntry) (more : (pla
         (is ∙ ap (λ (n : ℕ). suc (n + opens)) (sym (with_field_count play.host play.field (after_step s event)))) (with_field_tables play.host play.field (after_step s event) ∙ over)
 
     new_differ : (same : Bool) → steps_left field (cond same play (record play { failed = play.failed + 1 })) entries
-        ≡ answered_from field (first_session tables) (calls_behind (suc opens) (calls_left (cond same play (record play { failed = play.failed + 1 })) entries))
+        ≡ answered_from field (first_session tables) (calls_after (suc opens) (calls_left (cond same play (record play { failed = play.failed + 1 })) entries))
     new_differ true = more play opens is over
     new_differ false = more (record play { failed = play.failed + 1 }) opens is over
 
     new_expect : (text : List ℕ) (t : Option SessionState) → steps_left field (compared play text t) entries
-        ≡ answered_from field (first_session tables) (calls_behind (suc opens) (calls_left (compared play text t) entries))
+        ≡ answered_from field (first_session tables) (calls_after (suc opens) (calls_left (compared play text t) entries))
     new_expect text None = more play opens is over
     new_expect text (Some s) = new_differ (bytes_eq (whole_text s.state) text)
 
@@ -309,11 +309,11 @@ few_there host place session few there =
 
 abbrev HasSession : ℕ → Tables → List HostCall → Type 0
 HasSession field tables calls = (host : HostState) (opens : ℕ) (session : SessionState) → field ≡ suc (length host.sessions + opens) → host.tables ≡ tables
-    → field_of (after_calls host calls) field ≡ Some session → session ≡ session_after field (first_session tables) (calls_behind (suc opens) calls)
+    → field_of (after_calls host calls) field ≡ Some session → session ≡ session_after field (first_session tables) (calls_after (suc opens) calls)
 
 begins_session : (field : ℕ) (tables : Tables) (calls : List HostCall) → HasSession field tables calls → (host : HostState) (opens : ℕ) (session : SessionState)
     → field ≡ suc (length host.sessions + opens) → host.tables ≡ tables → field_of (after_calls (with_new_field host) calls) field ≡ Some session
-    → session ≡ session_after field (first_session tables) (calls_behind opens calls)
+    → session ≡ session_after field (first_session tables) (calls_after opens calls)
 begins_session field tables calls more host zero session is over there =
     let place : field ≡ length host.sessions + 1 = omega (arith, is) in
     let begins : field_of (with_new_field host) field ≡ Some (first_session tables)
@@ -325,7 +325,7 @@ begins_session field tables calls more host (suc opens) session is over there =
 
 opens_session : (field : ℕ) (tables : Tables) (calls : List HostCall) → HasSession field tables calls → (host : HostState) (opens : ℕ) (session : SessionState)
     → field ≡ suc (length host.sessions + opens) → host.tables ≡ tables → field ≤ FIELDS → (full : Bool) → nat_le FIELDS (length host.sessions) ≡ full
-    → field_of (after_calls (cond full host (with_new_field host)) calls) field ≡ Some session → session ≡ session_after field (first_session tables) (calls_behind opens calls)
+    → field_of (after_calls (cond full host (with_new_field host)) calls) field ≡ Some session → session ≡ session_after field (first_session tables) (calls_after opens calls)
 opens_session field tables calls more host opens session is over few true full there = absurd (no_room host field opens is few full)
 opens_session field tables calls more host opens session is over few false full there = begins_session field tables calls more host opens session is over there
 

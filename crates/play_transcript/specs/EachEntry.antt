@@ -48,9 +48,9 @@ told_lines field step None = []
 told_lines field step (Some session) = happened_lines (front field) session step
 
 -- the changes of the session of a field are changes of its stores, if there is such a field
-abbrev pub TellsOfStores : Option SessionState → Type 0
-TellsOfStores None = Unit {0}
-TellsOfStores (Some session) = AreOfStores session
+abbrev pub ReportsStoreFault : Option SessionState → Type 0
+ReportsStoreFault None = Unit {0}
+ReportsStoreFault (Some session) = AreOfStores session
 
 -- whether a text is the whole text of a field; true if there is no such field
 abbrev pub is_text_of : List ℕ → Option SessionState → Bool

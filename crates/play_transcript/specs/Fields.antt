@@ -9,11 +9,11 @@ use Rattle.text_host.specs.Host.{field_of}
 use Rattle.text_host.specs.Alone.{HostCall, alone_from, session_after, state_behind}
 use Rattle.text_host.specs.declared.entries.HostEntry.{HostEntry}
 use Rattle.play_transcript.specs.HostPlaying.{first_play, after_entries}
-use Rattle.play_transcript.specs.HostCalls.{calls_of, calls_behind, steps_of}
+use Rattle.play_transcript.specs.HostCalls.{calls_of, calls_after, steps_of}
 
 -- the calls of a play after the call that opens a field
 abbrev pub calls_since : ℕ → Tables → List HostEntry → List HostCall
-calls_since field tables entries = calls_behind field (calls_of tables entries)
+calls_since field tables entries = calls_after field (calls_of tables entries)
 
 -- the events of a field that were not refused, in order
 abbrev pub alone : ℕ → Tables → List HostEntry → List Event

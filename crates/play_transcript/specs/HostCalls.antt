@@ -28,11 +28,11 @@ abbrev pub calls_of : Tables → List HostEntry → List HostCall
 calls_of tables entries = calls_left (first_play tables) entries
 
 -- the calls after a number of calls that open a field
-abbrev pub calls_behind : ℕ → List HostCall → List HostCall
-calls_behind opens [] = []
-calls_behind zero (call ∷ calls) = call ∷ calls
-calls_behind (suc opens) (Opens ∷ calls) = calls_behind opens calls
-calls_behind (suc opens) (Turns field event ∷ calls) = calls_behind (suc opens) calls
+abbrev pub calls_after : ℕ → List HostCall → List HostCall
+calls_after opens [] = []
+calls_after zero (call ∷ calls) = call ∷ calls
+calls_after (suc opens) (Opens ∷ calls) = calls_after opens calls
+calls_after (suc opens) (Turns field event ∷ calls) = calls_after (suc opens) calls
 
 -- the steps of a field whose lines an entry prints if it is not refused
 abbrev pub event_steps : Event → Option SessionState → List Step

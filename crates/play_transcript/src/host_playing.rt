@@ -6,7 +6,7 @@ ghost use Rattle.kmn_base.specs.declared.events.Event.TheVariants as event;
 ghost use Rattle.play_transcript.specs.Ends.{end_after};
 ghost use Rattle.play_transcript.specs.Printing.{Prints};
 ghost use Rattle.text_host.specs.Host.{first_host, field_of, refusal_of};
-ghost use Rattle.play_transcript.specs.EachEntry.{AreSessions, Plays, PlaysBy, code_in, played_by, told_lines, TellsOfStores, is_text_of};
+ghost use Rattle.play_transcript.specs.EachEntry.{AreSessions, Plays, PlaysBy, code_in, played_by, told_lines, ReportsStoreFault, is_text_of};
 ghost use Rattle.play_transcript.specs.HostText.{host_text, host_end, entry_lines, event_lines, preview_lines, expect_text, text_or_refusal, field_text, field_texts, end_lines};
 ghost use Rattle.play_transcript.specs.HostPlaying.{first_play, turned_to, refusal_in, opened, shown, stepped, compared};
 
@@ -172,7 +172,7 @@ fn put_field_step<S: Sink>(
     step: Step,
     out: &mut S,
 ) -> Result<(), WriteError>
-    requires { TellsOfStores (field_of host.now field) }
+    requires { ReportsStoreFault (field_of host.now field) }
     ensures counts { WriteCounts (S.faults out.old) (S.faults out.new) result }
     ensures told { S.told out.new ≡ S.told out.old }
     ensures prints { IsTrue (S.told out.old) → Prints (S.written out.old) (S.written out.new) (told_lines field step (field_of host.now field)) result }

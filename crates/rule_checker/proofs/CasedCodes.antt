@@ -20,7 +20,7 @@ use Rattle.rule_model.specs.declared.tables.Store.{Store}
 use Rattle.rule_model.specs.Naming.{SourceNames, names_of, stores_of, stores_onto, store_of, is_dropped, item_elements, elements_named, key_number}
 use Rattle.rule_model.specs.Src.{code_of_element, is_cased_keys, cased_keys, codes_among}
 use Rattle.rule_model.specs.Tab.{store_elements}
-use Rattle.item_checker.specs.Items.{wants_plain_keys}
+use Rattle.item_checker.specs.Items.{needs_plain_keys}
 use Rattle.rule_checker.specs.declared.key_codes.KeyCodes.{KeyCodes}
 use Rattle.rule_checker.specs.declared.cased.StoreCodes.{StoreCodes}
 use Rattle.rule_checker.specs.KeyCodes.{is_table_code, has_mark, has_code, no_codes, with_code, either_marks, joined}
@@ -258,7 +258,7 @@ none_found (s ∷ stores) none = by (is_cased_keys s) none (none_found stores)
     by true h rest = absurd (cc)
     by false h rest = rest h
 
-still_none : (names : SourceNames) (stores : List Store) (store : StoreDef) → list_any is_cased_keys stores ≡ false → wants_plain_keys store ≡ false → list_any is_cased_keys (stores_with names stores store) ≡ false
+still_none : (names : SourceNames) (stores : List Store) (store : StoreDef) → list_any is_cased_keys stores ≡ false → needs_plain_keys store ≡ false → list_any is_cased_keys (stores_with names stores store) ≡ false
 still_none names stores store none other = by (is_dropped store)
   where
     by : (dropped : Bool) → list_any is_cased_keys (if dropped then stores else stores ++ store_of names stores store ∷ []) ≡ false
@@ -266,10 +266,10 @@ still_none names stores store none other = by (is_dropped store)
     by false = list_any-append is_cased_keys stores (store_of names stores store ∷ []) ∙ (λ j. none j || (other j || false))
 
 -- a statement of `&casedkeys` is a store
-kept : (store : StoreDef) → wants_plain_keys store ≡ true → is_dropped store ≡ false
+kept : (store : StoreDef) → needs_plain_keys store ≡ true → is_dropped store ≡ false
 kept store here = grind (arith, nat_tests)
 
-found_here : (names : SourceNames) (stores : List Store) (store : StoreDef) → list_any is_cased_keys stores ≡ false → wants_plain_keys store ≡ true
+found_here : (names : SourceNames) (stores : List Store) (store : StoreDef) → list_any is_cased_keys stores ≡ false → needs_plain_keys store ≡ true
     → find is_cased_keys (stores_with names stores store) ≡ Some (store_of names stores store)
 found_here names stores store none here =
     ap (λ b. find is_cased_keys (if b then stores else stores ++ store_of names stores store ∷ [])) (kept store here)
@@ -281,9 +281,9 @@ codes_from_are : (names : SourceNames) (before : StoreCodes) (stores : List Stor
     → AreCodes (codes_from before defs) (store_elements (find is_cased_keys (stores_onto names stores defs)))
 codes_from_are names before stores [] named none = subst (λ (o : Option Store). AreCodes no_codes (store_elements o)) (sym (none_found stores none)) none_are
 codes_from_are names before stores (store ∷ defs) named none =
-    by (wants_plain_keys store) refl (codes_from_are names (with_store_codes before store) (stores_with names stores store) defs (next_codes names before stores store named))
+    by (needs_plain_keys store) refl (codes_from_are names (with_store_codes before store) (stores_with names stores store) defs (next_codes names before stores store named))
   where
-    by : (here : Bool) → wants_plain_keys store ≡ here
+    by : (here : Bool) → needs_plain_keys store ≡ here
         → (list_any is_cased_keys (stores_with names stores store) ≡ false → AreCodes (codes_from (with_store_codes before store) defs) (store_elements (find is_cased_keys (stores_onto names stores (store ∷ defs)))))
         → AreCodes (if here then with_items_codes before no_codes store.items else codes_from (with_store_codes before store) defs) (store_elements (find is_cased_keys (stores_onto names stores (store ∷ defs))))
     by true here rest =
@@ -292,11 +292,11 @@ codes_from_are names before stores (store ∷ defs) named none =
         (store_codes names before stores store named)
     by false other rest = rest (still_none names stores store none other)
 
-uncased : (before : StoreCodes) (defs : List StoreDef) → list_any wants_plain_keys defs ≡ false → codes_from before defs ≡ no_codes
+uncased : (before : StoreCodes) (defs : List StoreDef) → list_any needs_plain_keys defs ≡ false → codes_from before defs ≡ no_codes
 uncased before [] none = refl
-uncased before (store ∷ defs) none = by (wants_plain_keys store) none (uncased (with_store_codes before store) defs)
+uncased before (store ∷ defs) none = by (needs_plain_keys store) none (uncased (with_store_codes before store) defs)
   where
-    by : (here : Bool) → (here || list_any wants_plain_keys defs) ≡ false → (list_any wants_plain_keys defs ≡ false → codes_from (with_store_codes before store) defs ≡ no_codes)
+    by : (here : Bool) → (here || list_any needs_plain_keys defs) ≡ false → (list_any needs_plain_keys defs ≡ false → codes_from (with_store_codes before store) defs ≡ no_codes)
         → (if here then with_items_codes before no_codes store.items else codes_from (with_store_codes before store) defs) ≡ no_codes
     by true h rest = absurd (cc)
     by false h rest = rest h
@@ -304,9 +304,9 @@ uncased before (store ∷ defs) none = by (wants_plain_keys store) none (uncased
 -- the cased codes of a program are the codes of the keys among the elements of its first `&casedkeys`
 found_for : (program : Program) → AreCodes (codes_of_cased program.stores) (store_elements (find is_cased_keys (stores_of program)))
 unfolding stores_of
-found_for program = by (list_any wants_plain_keys program.stores) refl (codes_from_are (names_of program) no_stores [] program.stores (record { names = refl; each = tt }) refl)
+found_for program = by (list_any needs_plain_keys program.stores) refl (codes_from_are (names_of program) no_stores [] program.stores (record { names = refl; each = tt }) refl)
   where
-    by : (some : Bool) → list_any wants_plain_keys program.stores ≡ some → AreCodes (codes_from no_stores program.stores) (store_elements (find is_cased_keys (stores_of program)))
+    by : (some : Bool) → list_any needs_plain_keys program.stores ≡ some → AreCodes (codes_from no_stores program.stores) (store_elements (find is_cased_keys (stores_of program)))
         → AreCodes (if some then codes_from no_stores program.stores else no_codes) (store_elements (find is_cased_keys (stores_of program)))
     by true some are = are
     by false none are = subst (λ (codes : KeyCodes). AreCodes codes (store_elements (find is_cased_keys (stores_of program)))) (uncased no_stores program.stores none) are

@@ -19,7 +19,7 @@ use Rattle.rule_model.specs.Naming.{stores_of, is_dropped}
 use Rattle.rule_model.specs.Src.{code_of_element, is_cased_keys, cased_keys}
 use Rattle.store_table.specs.First.{first_code}
 use Rattle.store_table.specs.Known.{Known, known, brought, statement_elements}
-use Rattle.item_checker.specs.Items.{is_no_plain_key, puts_option, wants_characters, brings_no_character, wants_plain_keys, brings_no_plain_key, store_item_code, store_head_code, store_code, store_refusal}
+use Rattle.item_checker.specs.Items.{is_no_plain_key, uses_option, needs_characters, brings_no_character, needs_plain_keys, brings_no_plain_key, store_item_code, store_head_code, store_code, store_refusal}
 use Rattle.rule_checker.specs.Limits.{cased_codes}
 use Rattle.rule_checker.specs.Refused.{IsRead}
 use Rattle.rule_checker.proofs.Unrefused.{none_at_line, none_broken, none_first, Stands}
@@ -41,17 +41,17 @@ items_plain facts characters [] h = refl
 items_plain facts characters (item ∷ items) h =
     let plain = (C25, brings_no_plain_key facts item) ∷ [] in
     let both = option_or-none (store_item_code facts characters true item) (first_code (store_item_code facts characters true) items) h in
-    let one = none_broken C13 (puts_option facts item) ((C14, characters && brings_no_character facts item) ∷ plain) both.0 in
+    let one = none_broken C13 (uses_option facts item) ((C14, characters && brings_no_character facts item) ∷ plain) both.0 in
     let two = none_broken C14 (characters && brings_no_character facts item) plain one.1 in
     let three = none_broken C25 (brings_no_plain_key facts item) [] two.1 in
     list_any-append is_no_plain_key (brought facts item) (flat_map (brought facts) items)
     ∙ (λ j. three.0 j || items_plain facts characters items both.1 j)
 
-statement_plain : (facts : Known) (store : StoreDef) → store_code facts store ≡ None → wants_plain_keys store ≡ true → list_any is_no_plain_key (statement_elements facts store) ≡ false
+statement_plain : (facts : Known) (store : StoreDef) → store_code facts store ≡ None → needs_plain_keys store ≡ true → list_any is_no_plain_key (statement_elements facts store) ≡ false
 statement_plain facts store h wanted =
-    let codes = option_or-none (store_head_code facts store) (first_code (store_item_code facts (wants_characters facts store) (wants_plain_keys store)) store.items) h in
-    items_plain facts (wants_characters facts store) store.items
-    (subst (λ (keys : Bool). first_code (store_item_code facts (wants_characters facts store) keys) store.items ≡ None) wanted codes.1)
+    let codes = option_or-none (store_head_code facts store) (first_code (store_item_code facts (needs_characters facts store) (needs_plain_keys store)) store.items) h in
+    items_plain facts (needs_characters facts store) store.items
+    (subst (λ (keys : Bool). first_code (store_item_code facts (needs_characters facts store) keys) store.items ≡ None) wanted codes.1)
 
 kept_plain : (facts : Known) (stores : List StoreDef) → AllByRecursion (Stands (store_refusal facts)) stores → All HasPlainKeys (flat_map (kept_store facts) stores)
 kept_plain facts [] h = All-nil HasPlainKeys

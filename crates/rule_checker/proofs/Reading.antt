@@ -20,7 +20,7 @@ use Rattle.rule_model.specs.declared.program.Program.{Program}
 use Rattle.rule_model.specs.Naming.{names_of, rule_items, all_rules, store_items, stores_before, stores_after, items_from, source_items, key_names}
 use Rattle.compile_laws.specs.WellNamed.{is_word}
 use Rattle.compile_laws.specs.Numbers.{item_values}
-use Rattle.kmn_parser.specs.ProgramLaws.{IsCharacter, IsName, IsOwnKey, IsReadItem, StandsAsKey, IsReadStore, IsReadRule, IsReadGroup, IsReadProgram}
+use Rattle.kmn_parser.specs.ProgramLaws.{IsCharacter, IsName, IsOwnKey, IsReadItem, IsRuleKey, IsReadStore, IsReadRule, IsReadGroup, IsReadProgram}
 use Rattle.rule_checker.proofs.Lists.{all_pass, none_passes, All-flat_map, All-distinct}
 
 -- a match or nomatch statement has no context and no key; a rule has a key only in a group with keys
@@ -57,7 +57,7 @@ pub no_dictionary_read : (stores : List StoreDef) → All IsReadStore stores →
 no_dictionary_read stores read = none_passes IsReadStore (λ (store : StoreDef). nat_eq store.system 34) (λ store is. ne_eqb store.system 34 is.no_dictionary) stores read
 
 -- the items of rules, and of all statements in the order of their lines
-some_read : (o : Option SrcItem) → IfSome o (λ item. StandsAsKey item × IsReadItem item) → All IsReadItem (option_to_list o)
+some_read : (o : Option SrcItem) → IfSome o (λ item. IsRuleKey item × IsReadItem item) → All IsReadItem (option_to_list o)
 some_read None h = All-nil IsReadItem
 some_read (Some item) h = All-cons IsReadItem item [] h.1 (All-nil IsReadItem)
 

@@ -33,7 +33,7 @@ use Rattle.compile_laws.proofs.Known.{has_values, match_kind, nomatch_kind}
 use Rattle.compile_laws.proofs.Ordered.{in_order_permutes}
 use Rattle.kmx_format.specs.Writable.{IsWritableKey, IsWritableRule, IsWritableMatchOutput, IsWritableGroup}
 use Rattle.kmx_format.proofs.WritableParts.{no_output}
-use Rattle.kmn_parser.specs.ProgramLaws.{IsReadItem, IsReadRule, IsReadGroup, StandsAsKey}
+use Rattle.kmn_parser.specs.ProgramLaws.{IsReadItem, IsReadRule, IsReadGroup, IsRuleKey}
 use Rattle.store_table.specs.First.{first_code}
 use Rattle.store_table.specs.Known.{known}
 use Rattle.item_checker.specs.Items.{is_far, is_unfit_key, are_unfit_keys, is_unfit_store, is_option, context_code, key_code, rule_output_code, match_output_code, plain_code, rule_code}
@@ -165,7 +165,7 @@ module _ (program : Program) (read : IsRead program) (whole : IsUnrefused progra
   fit_elements (e ∷ elements) h = h
 
   keyed_written : (using_keys : Bool) (rule : RuleDef) → IsSoundRule program using_keys rule → plain_code (known program) rule ≡ None → (item : Option SrcItem) → is_some item ≡ using_keys
-      → IfSome item (λ i. StandsAsKey i × IsReadItem i) → list_all (has_keys program) (option_to_list item) ≡ true → key_code (known program) item ≡ None
+      → IfSome item (λ i. IsRuleKey i × IsReadItem i) → list_all (has_keys program) (option_to_list item) ≡ true → key_code (known program) item ≡ None
       → All (IsWritableRule stores groups using_keys) (keyed_records (numbers_of program) rule item)
   unfolding known
   keyed_written true rule sound code None keyed is own fit = absurd (cc)

@@ -26,7 +26,7 @@ use Rattle.compile_laws.proofs.Dictionary.{space_text}
 use Rattle.kmn_parser.specs.ProgramLaws.{IsOwnKey}
 use Rattle.store_table.specs.First.{broken, first_code, first_of}
 use Rattle.store_table.specs.declared.stating.Stated.{Stated}
-use Rattle.store_table.specs.Names.{stated, is_named, kept_name, store_names, store_refusal, store_code, store_item_code, is_store_again, names_no_store, puts_later_store}
+use Rattle.store_table.specs.Names.{stated, is_named, kept_name, store_names, store_refusal, store_code, store_item_code, is_store_again, names_no_store, uses_later_store}
 use Rattle.store_table.specs.Known.{Known, known, brought, statement_elements}
 use Rattle.virtual_keys.proofs.NamePlaces.{some_place}
 use Rattle.rule_checker.specs.Limits.{Statement, OfStore, OfRule, in_line_order, items_of, values_of_statement, statement_size, store_size, names_size, dictionary_size, sizes}
@@ -97,7 +97,7 @@ kept_store facts store = if is_dropped store then [] else store_with store (stat
 
 module _ (facts : Known) (names_stated : Stated) where
   -- the elements of an item that does not output a later store
-  item_before : (before more : List Store) (item : SrcItem) → facts.stores ≡ before ++ more → puts_later_store (map (λ (s : Store). s.name) before) item ≡ false
+  item_before : (before more : List Store) (item : SrcItem) → facts.stores ≡ before ++ more → uses_later_store (map (λ (s : Store). s.name) before) item ≡ false
       → brought facts item ≡ item_elements facts.names before item
   item_before before more (source.Outs name) all later =
       ap (λ stores. elements_named stores name) all
@@ -114,8 +114,8 @@ module _ (facts : Known) (names_stated : Stated) where
   items_before before more [] all h = refl
   items_before before more (item ∷ items) all h =
       let both = option_or-none (store_item_code names_stated (map (λ (s : Store). s.name) before) item) (first_code (store_item_code names_stated (map (λ (s : Store). s.name) before)) items) h in
-      let one = none_broken C05 (names_no_store names_stated item) ((C07, puts_later_store (map (λ (s : Store). s.name) before) item) ∷ []) both.0 in
-      let two = none_broken C07 (puts_later_store (map (λ (s : Store). s.name) before) item) [] one.1 in
+      let one = none_broken C05 (names_no_store names_stated item) ((C07, uses_later_store (map (λ (s : Store). s.name) before) item) ∷ []) both.0 in
+      let two = none_broken C07 (uses_later_store (map (λ (s : Store). s.name) before) item) [] one.1 in
       λ j. item_before before more item all two.0 j ++ items_before before more items all both.1 j
 
   -- stores that are appended to others

@@ -6,7 +6,7 @@ use Rattle.rule_model.specs.declared.program.SrcItem.{SrcItem}
 use Rattle.rule_model.specs.declared.program.SrcItem.TheVariants as source
 use Rattle.rule_model.specs.declared.program.StoreDef.{StoreDef}
 use Rattle.rule_model.specs.Naming.{is_dropped}
-use Rattle.item_checker.specs.Items.{wants_plain_keys}
+use Rattle.item_checker.specs.Items.{needs_plain_keys}
 use Rattle.rule_checker.specs.declared.key_codes.KeyCodes.{KeyCodes}
 use Rattle.rule_checker.specs.declared.cased.StoreCodes.{StoreCodes}
 use Rattle.rule_checker.specs.KeyCodes.{no_codes, with_code, joined}
@@ -39,11 +39,11 @@ with_store_codes before store =
 abbrev pub codes_from : StoreCodes → List StoreDef → KeyCodes
 codes_from before [] = no_codes
 codes_from before (store ∷ stores) =
-    if wants_plain_keys store then with_items_codes before no_codes store.items else codes_from (with_store_codes before store) stores
+    if needs_plain_keys store then with_items_codes before no_codes store.items else codes_from (with_store_codes before store) stores
 
 abbrev pub no_stores : StoreCodes
 no_stores = record { names = []; codes = [] }
 
 -- the codes of the cased keys of these stores
 abbrev pub codes_of_cased : List StoreDef → KeyCodes
-codes_of_cased stores = if list_any wants_plain_keys stores then codes_from no_stores stores else no_codes
+codes_of_cased stores = if list_any needs_plain_keys stores then codes_from no_stores stores else no_codes

@@ -2,7 +2,7 @@
 
 ghost use Rattle.std.specs.Prelude.{◌≡◌, IfOk, OnOk};
 ghost use Rattle.std.specs.List.{list_any};
-ghost use Rattle.item_checker.specs.Items.{wants_plain_keys};
+ghost use Rattle.item_checker.specs.Items.{needs_plain_keys};
 ghost use Rattle.rule_checker.specs.Cased.{codes_from, codes_named, codes_of_cased, no_stores, with_item_codes, with_items_codes, with_store_codes};
 ghost use Rattle.rule_checker.specs.KeyCodes.{no_codes};
 
@@ -87,7 +87,7 @@ fn first_codes(alloc: Global, stores: &[StoreDef]) -> Result<KeyCodes, Memory>
 
 /// Returns whether a statement of `&casedkeys` is among stores.
 fn has_cased(stores: &[StoreDef]) -> bool
-    ensures { result ≡ list_any wants_plain_keys stores.now }
+    ensures { result ≡ list_any needs_plain_keys stores.now }
 {
     stores.iter().any(|store| store.system == CASED_KEYS)
 }

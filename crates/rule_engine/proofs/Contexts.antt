@@ -22,7 +22,7 @@ use Rattle.rule_model.specs.Hold.{is_true, is_at_start, pattern_count, has_room,
 use Rattle.rule_model.proofs.CaughtParts.{fitting_place}
 use Rattle.rule_model.specs.Tab.{tab_pattern, tab_rule}
 use Rattle.rule_index.proofs.ContextCounts.{few_patterns}
-use Rattle.rule_matching.specs.Moment.{AreShort}
+use Rattle.rule_matching.specs.MatchState.{AreShort}
 use Rattle.rule_engine.specs.Event.{GroupChangesOwn, HasShortContexts, PlatformStays}
 
 same_eq : (len n : ℕ) → n ≤ 63 → eqb len n ≡ eqb (min 64 len) n

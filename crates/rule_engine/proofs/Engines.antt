@@ -24,9 +24,9 @@ use Rattle.option_store.proofs.Meaning.{calls_follow, first_option_values, first
 use Rattle.event_text.specs.Boxed.{CacheValue}
 use Rattle.event_text.specs.Texts.{InsertedValue}
 use Rattle.rule_engine.specs.Engine.{EngineState, IsEngine, IsRunnable, IsAtWork, engine_with, first_engine, option_named, with_option, set_by_host}
-use Rattle.rule_engine.specs.Event.{HasPlaces, HoldTheSame, moment_with}
+use Rattle.rule_engine.specs.Event.{HasPlaces, HoldTheSame, match_state_with}
 use Rattle.rule_engine.proofs.OtherStores.{others_at_first}
-use Rattle.rule_matching.specs.Moment.{truths_at}
+use Rattle.rule_matching.specs.MatchState.{truths_at}
 
 -- there are as many values of options as options
 module _ {X : Type 0} where
@@ -60,7 +60,7 @@ abbrev pub nothing_at_hand : CacheValue
 nothing_at_hand = record { items = []; room = WINDOW_ITEMS }
 
 pub first_is_at_work : (tables : Tables) (cache : CacheValue) (cells : List Cell) (truths : List Bool) (inserted : InsertedValue) (lines : ℕ) (places : ℕ × ℕ) → IsRunnable tables
-    → cache ≡ nothing_at_hand → cells ≡ first_cells 0 (length (tab tables).stores) → truths ≡ truths_at (moment_with tables cells)
+    → cache ≡ nothing_at_hand → cells ≡ first_cells 0 (length (tab tables).stores) → truths ≡ truths_at (match_state_with tables cells)
     → inserted ≡ nothing_inserted → lines ≡ EVENT_ENTRIES → HasPlaces tables places → IsAtWork tables cache cells truths inserted lines places
 first_is_at_work tables cache cells truths inserted lines places can empty are right nothing noted has = record {
   runnable = can;

@@ -14,7 +14,7 @@ use Rattle.rule_model.specs.declared.tables.Tables.{Tables}
 use Rattle.kmx_format.specs.File.{rules_of}
 use Rattle.kmx_format.specs.Playable.{IsPlayable, IsPlayableGroup}
 use Rattle.kmx_format.specs.Writable.{IsWritableOutput, IsWritableRule, sets_system_id, stores_of_output}
-use Rattle.rule_matching.specs.Moment.{AreShort}
+use Rattle.rule_matching.specs.MatchState.{AreShort}
 use Rattle.rule_engine.specs.Event.{AllChangeOwn, ChangesOwn, GroupChangesOwn, RuleChangesOwn}
 use Rattle.rule_engine.specs.Engine.{IsRunnable}
 

@@ -19,8 +19,8 @@ use Rattle.option_store.specs.Cells.{cell_at, changed, current_value, first_cell
 use Rattle.option_store.specs.Meaning.{option_values}
 use Rattle.option_store.proofs.FirstCells.{first_cells_count}
 use Rattle.option_store.proofs.Meaning.{option_value_found, stated_at}
-use Rattle.rule_matching.specs.Moment.{content_at, truths_at}
-use Rattle.rule_engine.specs.Event.{CanAct, moment_with}
+use Rattle.rule_matching.specs.MatchState.{content_at, truths_at}
+use Rattle.rule_engine.specs.Event.{CanAct, match_state_with}
 use Rattle.rule_index.proofs.StoreIndexes.{count_of_all}
 use Rattle.rule_matching.proofs.StoreContents.{elements_held}
 use Rattle.rule_engine.proofs.OtherStores.{Keeps, cell_at_first, cell_elsewhere, cell_there, others_kept, save_keeps}
@@ -45,7 +45,7 @@ module _ (tables : Tables) where
   stores = (tab tables).stores
 
   platform_content : (cells : List Cell) → length cells ≡ length (tab tables).stores
-      → content_at (moment_with tables cells) Platform ≡ current_value (stated (tab tables).stores) (platform_cell tables cells)
+      → content_at (match_state_with tables cells) Platform ≡ current_value (stated (tab tables).stores) (platform_cell tables cells)
   platform_content cells count =
       let option = platform_is_option tables in
       content_by_option stores (option_values stores cells) Platform _ option
@@ -53,14 +53,14 @@ module _ (tables : Tables) where
       (option_value_found stores cells (length stores - 1) (omega (arith, count, count_of_all tables)) _ option)
 
   truths_told : (cells : List Cell) (content : List Element) → length cells ≡ length (tab tables).stores
-      → current_value (stated (tab tables).stores) (platform_cell tables cells) ≡ content → truths_at (moment_with tables cells) ≡ truths_by tables content
+      → current_value (stated (tab tables).stores) (platform_cell tables cells) ≡ content → truths_at (match_state_with tables cells) ≡ truths_by tables content
   truths_told cells content count is = ap (truths_by tables) (platform_content cells count ∙ is)
 
 -- ---- what changes the truths
 
 -- if a cell that is not the last one changes, the truths stay
 pub truths_kept : (tables : Tables) (cells after : List Cell) (n : ℕ) (change : Cell → Cell) → length cells ≡ length (tab tables).stores → n + 1 < length (tab tables).stores
-    → after ≡ changed n change cells → truths_at (moment_with tables cells) ≡ truths_at (moment_with tables after)
+    → after ≡ changed n change cells → truths_at (match_state_with tables cells) ≡ truths_at (match_state_with tables after)
 truths_kept tables cells after n change count before is =
     let last : ℕ = length (tab tables).stores - 1 in
     let other : last ≢ n = omega (arith, before) in
@@ -74,10 +74,10 @@ truths_kept tables cells after n change count before is =
 pub truths_kept_or_left : {A E : Type 0} (tables : Tables) (cells after : List Cell) (n : ℕ) (change : Cell → Cell) (result : Result A E)
     → length cells ≡ length (tab tables).stores → n < length (tab tables).stores → n ≢ length (tab tables).stores - 1
     → MatchResult result (λ _. after ≡ changed n change cells) (λ _. after ≡ cells)
-    → truths_at (moment_with tables cells) ≡ truths_at (moment_with tables after)
+    → truths_at (match_state_with tables cells) ≡ truths_at (match_state_with tables after)
 truths_kept_or_left tables cells after n change (Ok x) count within other done =
     truths_kept tables cells after n change count (omega (arith, within, other)) done
-truths_kept_or_left tables cells after n change (Err e) count within other done = ap (λ (these : List Cell). truths_at (moment_with tables these)) (sym done)
+truths_kept_or_left tables cells after n change (Err e) count within other done = ap (λ (these : List Cell). truths_at (match_state_with tables these)) (sym done)
 
 -- so an event can act on the changed cells
 pub acts_on : (tables : Tables) (cells after : List Cell) (truths : List Bool) (places : ℕ × ℕ) (n : ℕ) (change : Cell → Cell) → CanAct tables cells truths places → n + 1 < length (tab tables).stores → Keeps (tab tables).stores change
@@ -118,7 +118,7 @@ acts_on_saved tables cells after truths places n can few option is =
 -- if the host sets the last cell to a text, the truths are those of the text
 pub truths_given : (tables : Tables) (cells after : List Cell) (n : ℕ) (text : List ℕ) → length cells ≡ length (tab tables).stores → n ≡ length (tab tables).stores - 1
     → after ≡ changed n (host_cell text) cells
-    → truths_by tables (map Char text) ≡ truths_at (moment_with tables after)
+    → truths_by tables (map Char text) ≡ truths_at (match_state_with tables after)
 truths_given tables cells after n text count last is =
     let counted : length after ≡ length (tab tables).stores = ap length is ∙ (length-set cells n (host_cell text (cell_at cells n)) ∙ count) in
     let few : n < length cells = omega (arith, count, last, count_of_all tables) in
@@ -128,7 +128,7 @@ truths_given tables cells after n text count last is =
 
 -- at the start the truths are those of the elements that the platform is stated with
 pub truths_at_first : (tables : Tables) (cells : List Cell) (n : ℕ) → cells ≡ first_cells 0 (length (tab tables).stores) → n ≡ length (tab tables).stores - 1
-    → truths_by tables (elements_at (tab tables).stores (Some n)) ≡ truths_at (moment_with tables cells)
+    → truths_by tables (elements_at (tab tables).stores (Some n)) ≡ truths_at (match_state_with tables cells)
 truths_at_first tables cells n are last =
     let all : List StoreMeaning = (tab tables).stores in
     let cell : platform_cell tables cells ≡ first_cell n
@@ -147,13 +147,13 @@ module _ (tables : Tables) (cells after : List Cell) (n value : ℕ) (count : le
   first_counted = length-set cells n (set_cell value (cell_at cells n)) ∙ count
 
   -- if the store is not the last one, the truths stay
-  pub truths_kept_held : n < length (tab tables).stores → n ≢ length (tab tables).stores - 1 → truths_at (moment_with tables cells) ≡ truths_at (moment_with tables after)
+  pub truths_kept_held : n < length (tab tables).stores → n ≢ length (tab tables).stores - 1 → truths_at (match_state_with tables cells) ≡ truths_at (match_state_with tables after)
   truths_kept_held within other =
       let before : n + 1 < length (tab tables).stores = omega (arith, within, other) in
       truths_kept tables cells first n (set_cell value) count before refl ∙ truths_kept tables first after n save_cell first_counted before is
 
   -- if the store is the last one, the truths are those of the elements of the store that it holds
-  pub truths_held : n ≡ length (tab tables).stores - 1 → truths_by tables (elements_at (tab tables).stores (Some value)) ≡ truths_at (moment_with tables after)
+  pub truths_held : n ≡ length (tab tables).stores - 1 → truths_by tables (elements_at (tab tables).stores (Some value)) ≡ truths_at (match_state_with tables after)
   truths_held last =
       let all : List StoreMeaning = (tab tables).stores in
       let few : n < length cells = omega (arith, count, last, count_of_all tables) in
@@ -175,5 +175,5 @@ written_over n before new count same =
 pub truths_counted : (tables : Tables) (truths : List Bool) (content : List Element) → truths ≡ truths_by tables content → length truths ≡ length (tab tables).stores
 truths_counted tables truths content are = ap length are ∙ length-map (tab tables).stores (λ (store : StoreMeaning). has_words content store.elements)
 
-pub truths_at_counted : (tables : Tables) (truths : List Bool) (cells : List Cell) → truths ≡ truths_at (moment_with tables cells) → length truths ≡ length (tab tables).stores
-truths_at_counted tables truths cells are = truths_counted tables truths (content_at (moment_with tables cells) Platform) are
+pub truths_at_counted : (tables : Tables) (truths : List Bool) (cells : List Cell) → truths ≡ truths_at (match_state_with tables cells) → length truths ≡ length (tab tables).stores
+truths_at_counted tables truths cells are = truths_counted tables truths (content_at (match_state_with tables cells) Platform) are

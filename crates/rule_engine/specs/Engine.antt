@@ -20,8 +20,8 @@ use Rattle.option_store.specs.Meaning.{option_values, option_saves}
 use Rattle.rule_index.specs.Stores.{HaveFewElements}
 use Rattle.event_text.specs.Boxed.{CacheValue}
 use Rattle.event_text.specs.Texts.{InsertedValue}
-use Rattle.rule_matching.specs.Moment.{truths_at}
-use Rattle.rule_engine.specs.Event.{HasPlaces, HasRoom, HasShortContexts, HaveFewRecords, OthersHoldThemselves, PlatformStays, moment_with}
+use Rattle.rule_matching.specs.MatchState.{truths_at}
+use Rattle.rule_engine.specs.Event.{HasPlaces, HasCapacity, HasShortContexts, HaveFewRecords, OthersHoldThemselves, PlatformStays, match_state_with}
 
 -- the state of an engine: its tables, the last items before the caret, the current and the saved value of each option in order, what the
 -- last press inserted, and the lines of the rules that were chosen for it
@@ -82,9 +82,9 @@ pub record IsAtWork (tables : Tables) (cache : CacheValue) (cells : List Cell) (
   pub few : length cache.items ≤ WINDOW_ITEMS
   pub stores : length cells ≡ length (tab tables).stores
   pub others : OthersHoldThemselves tables cells
-  pub right : truths ≡ truths_at (moment_with tables cells)
+  pub right : truths ≡ truths_at (match_state_with tables cells)
   pub text : length inserted.text ≤ EVENT_PUTS
-  pub room : HasRoom cache inserted lines
+  pub room : HasCapacity cache inserted lines
   pub places : HasPlaces tables rooms
 
 -- the state in which a press begins, after the text before the caret is read again, and the state that the press leaves

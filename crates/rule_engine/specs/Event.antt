@@ -19,7 +19,7 @@ use Rattle.option_store.specs.Cells.{cell_at, first_cell}
 use Rattle.option_store.specs.Meaning.{option_values, option_saves}
 use Rattle.event_text.specs.Boxed.{CacheValue}
 use Rattle.event_text.specs.Texts.{InsertedValue}
-use Rattle.rule_matching.specs.Moment.{AreApart, MomentValue, AreShort, truths_at}
+use Rattle.rule_matching.specs.MatchState.{AreApart, MatchStateValue, AreShort, truths_at}
 use Rattle.rule_engine.specs.declared.entering.Entering.{Entering}
 
 -- an event on tables and on a borrowed text, with its state and the lines of the rules that it selected
@@ -37,12 +37,12 @@ abbrev pub content_in : EventValue → Content
 content_in event = content_now (keyboard_of event) event.state
 
 -- the keyboard of an event in its state
-abbrev pub moment_of : EventValue → MomentValue
-moment_of event = record { tables = event.tables; current = event.state.current }
+abbrev pub match_state_of : EventValue → MatchStateValue
+match_state_of event = record { tables = event.tables; current = event.state.current }
 
 -- tables with the option values that cells represent
-abbrev pub moment_with : Tables → List Cell → MomentValue
-moment_with tables cells = record { tables = tables; current = option_values (tab tables).stores cells }
+abbrev pub match_state_with : Tables → List Cell → MatchStateValue
+match_state_with tables cells = record { tables = tables; current = option_values (tab tables).stores cells }
 
 -- how an entering enters a group
 abbrev pub enters : EventValue → Entering → Ref → EventState → EventState
@@ -60,7 +60,7 @@ pub record HasNoted (lines : List ℕ) (entered room : ℕ) : Type 0 where
   pub places : room ≡ EVENT_ENTRIES
 
 -- the space of an event: for the last items, for what it inserts and for the lines that it notes
-pub record HasRoom (cache : CacheValue) (inserted : InsertedValue) (lines : ℕ) : Type 0 where
+pub record HasCapacity (cache : CacheValue) (inserted : InsertedValue) (lines : ℕ) : Type 0 where
   pub items : cache.room ≡ WINDOW_ITEMS
   pub text : inserted.room ≡ EVENT_PUTS
   pub noted : lines ≡ EVENT_ENTRIES
@@ -121,5 +121,5 @@ pub record CanAct (tables : Tables) (cells : List Cell) (truths : List Bool) (ro
   pub platform : PlatformStays tables
   pub stores : length cells ≡ length (tab tables).stores
   pub others : OthersHoldThemselves tables cells
-  pub right : truths ≡ truths_at (moment_with tables cells)
+  pub right : truths ≡ truths_at (match_state_with tables cells)
   pub places : HasPlaces tables rooms

@@ -79,7 +79,7 @@ fn keyboard_stores(file: &FileTables<'_>) -> u32
 
 impl<'a> Engine<'a> {
     ghost use Rattle.rule_engine.specs.Engine.{IsEngine, first_engine, name_of, option_named, set_by_host, synced};
-    ghost use Rattle.rule_matching.specs.Moment.{saved_of};
+    ghost use Rattle.rule_matching.specs.MatchState.{saved_of};
 
     /// Creates the engine of a file: an empty text, each option with its elements, and no saved value. Errors: `Memory` if an
     /// allocation fails.
@@ -139,7 +139,7 @@ impl<'a> Engine<'a> {
         ensures outcome { result ≡ press_outcome left.now press self.old }
         ensures engine { self.new ≡ press_leaves left.now press self.old }
     {
-        let none = Workspace::without_room(self.indexed.alloc());
+        let none = Workspace::without_capacity(self.indexed.alloc());
         let workspace = mem::replace(&mut self.workspace, none);
         let done = pressed(&self.indexed, left, press, workspace);
         self.workspace = done.workspace;

@@ -16,7 +16,7 @@ ghost use Rattle.rule_model.specs.KeyEvent.{after_key};
 ghost use Rattle.rule_model.specs.ChosenLines.{lines_of_one, lines_of, lines_if_any, lines_of_group, lines_in_group, lines_of_press};
 ghost use Rattle.rule_model.specs.Tab.{tab_output, tab_rule, tab_group};
 ghost use Rattle.rule_index.specs.Groups.{IsRuleIndexOf};
-ghost use Rattle.rule_matching.specs.Moment.{AreShort};
+ghost use Rattle.rule_matching.specs.MatchState.{AreShort};
 ghost use Rattle.rule_engine.specs.Event.{AllChangeOwn, ChangesOwn, GroupChangesOwn, RuleChangesOwn, keyboard_of, enters, adds};
 
 use crate::defaults::by_default;

@@ -12,9 +12,9 @@ ghost use Rattle.rule_model.specs.Keyboard.{Numbered};
 ghost use Rattle.rule_model.specs.KeyEvent.{begin_event, deleted, inserted, outcome_of};
 ghost use Rattle.rule_model.specs.Tab.{tab, elements_of, tab_group, tab_rule};
 ghost use Rattle.rule_index.specs.Groups.{IsRuleIndexOf};
-ghost use Rattle.rule_matching.specs.Moment.{AreShort};
+ghost use Rattle.rule_matching.specs.MatchState.{AreShort};
 ghost use Rattle.rule_matching.specs.PlaceMemory.{rooms};
-ghost use Rattle.rule_engine.specs.Event.{CanAct, HasRoom, HasShortContexts, PlatformStays, keyboard_of, moment_of};
+ghost use Rattle.rule_engine.specs.Event.{CanAct, HasCapacity, HasShortContexts, PlatformStays, keyboard_of, match_state_of};
 
 use crate::workspace::Workspace;
 use event_text::Left;
@@ -23,7 +23,7 @@ use kmn_base::{Item, KeyPress, Outcome};
 use kmx_parts::{FileGroup, FileRule};
 use option_store::Options;
 use rule_index::{IndexedKeyboard, RuleIndex};
-use rule_matching::{EnteredGroup, MatchedItems, Moment, PlaceMemory, first_held};
+use rule_matching::{EnteredGroup, MatchState, MatchedItems, PlaceMemory, first_held};
 use std::marker::Model;
 use virtual_keys::codes::K_BKSP;
 use virtual_keys::is_plain;
@@ -91,7 +91,7 @@ impl<'a> PressEvent<'a> {
         workspace: Workspace,
     ) -> PressEvent<'a>
         requires few { length lent.now < 2 ^ 32 }
-        requires room { HasRoom workspace.cache workspace.inserted (vec_capacity workspace.chosen) }
+        requires room { HasCapacity workspace.cache workspace.inserted (vec_capacity workspace.chosen) }
         requires can { CanAct indexed.now workspace.options workspace.truths.items (rooms workspace.places) }
         ensures { result ≡ record {
           tables = indexed.now;
@@ -127,7 +127,7 @@ impl<'a> PressEvent<'a> {
         ensures saved { option_saves (keyboard_of self.entry).stores result.workspace.options ≡ self.entry.state.saved }
         ensures can { CanAct self.entry.tables result.workspace.options result.workspace.truths.items (rooms result.workspace.places) }
         ensures chosen { result.workspace.chosen.items ≡ self.entry.lines }
-        ensures room { HasRoom result.workspace.cache result.workspace.inserted (vec_capacity result.workspace.chosen) }
+        ensures room { HasCapacity result.workspace.cache result.workspace.inserted (vec_capacity result.workspace.chosen) }
         ensures few { length result.workspace.inserted.text ≤ EVENT_PUTS }
     {
         let put = self.left.puts();
@@ -162,10 +162,10 @@ impl<'a> PressEvent<'a> {
     }
 
     /// Returns the keyboard in its current state.
-    pub fn moment(&self) -> Moment<'_>
-        ensures { result ≡ moment_of self.now }
+    pub fn moment(&self) -> MatchState<'_>
+        ensures { result ≡ match_state_of self.now }
     {
-        Moment::of(self.indexed, &self.options, self.truths.as_slice())
+        MatchState::of(self.indexed, &self.options, self.truths.as_slice())
     }
 
     /// Returns whether the remaining effects of the event are stopped.
@@ -233,7 +233,7 @@ impl<'a> PressEvent<'a> {
         ensures same { self.new ≡ self.old }
     {
         self.left.fill();
-        let moment = Moment::of(self.indexed, &self.options, self.truths.as_slice());
+        let moment = MatchState::of(self.indexed, &self.options, self.truths.as_slice());
         let entered = EnteredGroup {
             press,
             group,

@@ -7,9 +7,9 @@ ghost use Rattle.option_store.specs.Cells.{changed, first_cells, host_cell, save
 ghost use Rattle.rule_model.specs.Content.{option_number};
 ghost use Rattle.rule_model.specs.Keyboard.{Numbered};
 ghost use Rattle.rule_model.specs.Tab.{tab};
-ghost use Rattle.rule_matching.specs.Moment.{truths_at};
+ghost use Rattle.rule_matching.specs.MatchState.{truths_at};
 ghost use Rattle.rule_matching.specs.PlaceMemory.{rooms};
-ghost use Rattle.rule_engine.specs.Event.{HoldTheSame, OthersHoldThemselves, moment_with};
+ghost use Rattle.rule_engine.specs.Event.{HoldTheSame, OthersHoldThemselves, match_state_with};
 
 use event_text::{CacheBox, Inserted};
 use kmn_base::Memory;
@@ -63,8 +63,8 @@ impl Workspace {
         let options = Options::new(alloc, stores)?;
         let truths = vec![in alloc; false; stores as usize]?;
         let places = PlaceMemory::new(alloc, stores as usize)?;
-        let inserted = Inserted::with_room(alloc)?;
-        let cache = CacheBox::with_room(alloc)?;
+        let inserted = Inserted::with_capacity(alloc)?;
+        let cache = CacheBox::with_capacity(alloc)?;
         let chosen = Vec::with_capacity(alloc, EVENT_ENTRIES as usize)?;
         Ok(Workspace {
             cache,
@@ -81,7 +81,7 @@ impl Workspace {
     pub fn begin(&mut self, indexed: &IndexedKeyboard<'_>)
         requires cells { self.old.options ≡ first_cells 0 (length (tab indexed.now).stores) }
         requires truths { length self.old.truths.items ≡ length (tab indexed.now).stores }
-        ensures truths { self.new.truths.items ≡ truths_at (moment_with indexed.now self.new.options) }
+        ensures truths { self.new.truths.items ≡ truths_at (match_state_with indexed.now self.new.options) }
         ensures cache { self.new.cache ≡ self.old.cache }
         ensures options { self.new.options ≡ self.old.options }
         ensures inserted { self.new.inserted ≡ self.old.inserted }
@@ -93,7 +93,7 @@ impl Workspace {
     }
 
     /// Creates a placeholder for the time in which an event owns the workspace. It has no space and does not allocate.
-    pub fn without_room(alloc: Global) -> Workspace
+    pub fn without_capacity(alloc: Global) -> Workspace
         ensures cache { result.cache ≡ record { items = []; room = 0 } }
         ensures options { result.options ≡ [] }
         ensures truths { result.truths.items ≡ [] }
@@ -102,12 +102,12 @@ impl Workspace {
         ensures places { rooms result.places ≡ (0, 0) }
     {
         Workspace {
-            cache: CacheBox::without_room(),
+            cache: CacheBox::without_capacity(),
             options: Options::none(alloc),
             truths: Vec::new(alloc),
-            inserted: Inserted::without_room(alloc),
+            inserted: Inserted::without_capacity(alloc),
             chosen: Vec::new(alloc),
-            places: PlaceMemory::without_room(alloc),
+            places: PlaceMemory::without_capacity(alloc),
         }
     }
 
@@ -153,9 +153,9 @@ impl Workspace {
     ) -> Result<(), Memory>
         requires store { store < length (tab indexed.now).stores }
         requires cells { length self.old.options ≡ length (tab indexed.now).stores }
-        requires truths { self.old.truths.items ≡ truths_at (moment_with indexed.now self.old.options) }
+        requires truths { self.old.truths.items ≡ truths_at (match_state_with indexed.now self.old.options) }
         ensures options { MatchResult result (λ _. self.new.options ≡ changed store (host_cell text.now) self.old.options) (λ _. self.new.options ≡ self.old.options) }
-        ensures truths { self.new.truths.items ≡ truths_at (moment_with indexed.now self.new.options) }
+        ensures truths { self.new.truths.items ≡ truths_at (match_state_with indexed.now self.new.options) }
         ensures cache { self.new.cache ≡ self.old.cache }
         ensures inserted { self.new.inserted ≡ self.old.inserted }
         ensures chosen { self.new.chosen ≡ self.old.chosen }
@@ -175,9 +175,9 @@ impl Workspace {
     pub fn hold_store(&mut self, indexed: &IndexedKeyboard<'_>, store: u32, value: u32)
         requires store { store < length (tab indexed.now).stores }
         requires cells { length self.old.options ≡ length (tab indexed.now).stores }
-        requires truths { self.old.truths.items ≡ truths_at (moment_with indexed.now self.old.options) }
+        requires truths { self.old.truths.items ≡ truths_at (match_state_with indexed.now self.old.options) }
         ensures options { self.new.options ≡ changed store save_cell (changed store (set_cell value) self.old.options) }
-        ensures truths { self.new.truths.items ≡ truths_at (moment_with indexed.now self.new.options) }
+        ensures truths { self.new.truths.items ≡ truths_at (match_state_with indexed.now self.new.options) }
         ensures cache { self.new.cache ≡ self.old.cache }
         ensures inserted { self.new.inserted ≡ self.old.inserted }
         ensures chosen { self.new.chosen ≡ self.old.chosen }
@@ -203,12 +203,12 @@ impl Workspace {
     ) -> Result<(), Memory>
         requires store { store < length (tab indexed.now).stores }
         requires cells { length self.old.options ≡ length (tab indexed.now).stores }
-        requires truths { self.old.truths.items ≡ truths_at (moment_with indexed.now self.old.options) }
+        requires truths { self.old.truths.items ≡ truths_at (match_state_with indexed.now self.old.options) }
         requires option { is_some (option_number (tab indexed.now).stores (Numbered store)) ≡ true }
         requires others { OthersHoldThemselves indexed.now self.old.options }
         ensures options { MatchResult result (λ _. HoldTheSame (tab indexed.now).stores self.new.options (changed store (host_cell text.now) self.old.options)) (λ _. self.new.options ≡ self.old.options) }
         ensures others { OthersHoldThemselves indexed.now self.new.options }
-        ensures truths { self.new.truths.items ≡ truths_at (moment_with indexed.now self.new.options) }
+        ensures truths { self.new.truths.items ≡ truths_at (match_state_with indexed.now self.new.options) }
         ensures cache { self.new.cache ≡ self.old.cache }
         ensures inserted { self.new.inserted ≡ self.old.inserted }
         ensures chosen { self.new.chosen ≡ self.old.chosen }

@@ -12,7 +12,7 @@ use Rattle.rule_model.specs.Match.{place_of}
 use Rattle.rule_index.specs.declared.holding.Holding.{Holding}
 use Rattle.rule_index.specs.declared.row.Row.{Row}
 use Rattle.rule_index.specs.Elements.{element_number, item_number}
-use Rattle.rule_index.specs.Holdings.{holding_rank, content_at, holding_of, IsHeld, IsSmall, StandOnce, AreGathered}
+use Rattle.rule_index.specs.Holdings.{holding_rank, content_at, holding_of, IsHeld, IsSmall, HaveDistinctRanks, AreGathered}
 use Rattle.rule_index.proofs.Firsts.{IsFirstOf, FirstOf}
 use Rattle.rule_index.specs.Rows.{rank, IsIndexOf}
 use Rattle.rule_index.proofs.Places.{first_is_place, place_has_number}
@@ -69,7 +69,7 @@ still rows more item store has = record {
 pub record ArePassed (stores : List (List Element)) (store : ℕ) (places : List Row) (rows : List Holding) (count last : ℕ) : Type 0 where
   small : All IsSmall rows
   right : All (IsHeld stores) rows
-  once : StandOnce rows
+  once : HaveDistinctRanks rows
   within : All (λ row. row.store < store + 1) rows
   of_store : All (λ row. row.store ≡ store → row.item ≤ last) rows
   complete : (x : Item) (other place : ℕ) → other < store → place_of x (content_at stores other) ≡ Some place → Contains rows (holding_of x other place)

@@ -9,10 +9,10 @@ use Rattle.kmn_base.specs.declared.items.Element.{Element}
 use Rattle.rule_model.specs.Match.{place_of}
 use Rattle.rule_index.specs.declared.holding.Holding.{Holding}
 use Rattle.rule_index.specs.Elements.{item_number}
-use Rattle.rule_index.specs.Holdings.{holding_start, holding_rank, content_at, holding_of, IsSmall, StandOnce, AreHoldings, AreHoldersOf, EndsAt}
+use Rattle.rule_index.specs.Holdings.{holding_start, holding_rank, content_at, holding_of, IsSmall, HaveDistinctRanks, AreHoldings, AreHoldersOf, EndsAt}
 
 -- if rows are sorted and no two have the same rank, their ranks increase
-ranks_rise : (rows : List Holding) → IsNonDecreasingBy holding_rank rows → StandOnce rows → (i j : ℕ) (d : Holding) → i < j → j < length rows
+ranks_rise : (rows : List Holding) → IsNonDecreasingBy holding_rank rows → HaveDistinctRanks rows → (i j : ℕ) (d : Holding) → i < j → j < length rows
     → holding_rank (slice_index_or rows i d) < holding_rank (slice_index_or rows j d)
 ranks_rise rows sorted once i j d less below =
     let up : holding_rank (slice_index_or rows i d) ≤ holding_rank (slice_index_or rows j d) = sorted i j d (omega (arith, less)) below in

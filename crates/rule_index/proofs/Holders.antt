@@ -13,7 +13,7 @@ use Rattle.kmn_base.specs.declared.items.Element.{Element}
 use Rattle.rule_model.specs.Match.{place_of}
 use Rattle.rule_index.specs.declared.holding.Holding.{Holding}
 use Rattle.rule_index.specs.Elements.{item_number}
-use Rattle.rule_index.specs.Holdings.{holding_start, holding_rank, content_at, holding_of, IsHeld, IsSmall, StandOnce, AreGathered, AreHoldings, EndsAt, place_if}
+use Rattle.rule_index.specs.Holdings.{holding_start, holding_rank, content_at, holding_of, IsHeld, IsSmall, HaveDistinctRanks, AreGathered, AreHoldings, EndsAt, place_if}
 
 -- if a store has an item, its number is less than the count of stores
 store_within : (stores : List (List Element)) (x : Item) (store place : ℕ) → place_of x (content_at stores store) ≡ Some place → store < length stores
@@ -35,7 +35,7 @@ either_way m n = elim (cases_Bool (eqb m n)) [
   | inr other ↦ other ∙ sym (ne_eqb n m (λ same. eqb-false m n other (sym same)))
 ]
 
-once_moved : (before rows : List Holding) → IsPermutation before rows → StandOnce before → StandOnce rows
+once_moved : (before rows : List Holding) → IsPermutation before rows → HaveDistinctRanks before → HaveDistinctRanks rows
 once_moved before rows moved once i j d less below =
     eqb-false (holding_rank (slice_index_or rows i d)) (holding_rank (slice_index_or rows j d))
     (apart_from_distinct same_rank rows i j d (IsDistinct-IsPermutation same_rank flips before rows moved (IsDistinct-from_apart same_rank before apart)) less below)

@@ -11,7 +11,7 @@ use Rattle.rule_model.specs.Match.{Content, takes_item}
 use Rattle.rule_model.specs.Hold.{holds}
 use Rattle.rule_model.specs.Choose.{Chosen, first_with}
 use Rattle.rule_model.specs.Tab.{tab_pattern, tab_rule}
-use Rattle.rule_index.specs.Classes.{key_part, pattern_class, last_class, class_of, rule_class, wanted_classes}
+use Rattle.rule_index.specs.Classes.{key_part, pattern_class, last_class, class_of, rule_class, matching_classes}
 use Rattle.rule_index.specs.Laws.{ClassIsOfTheRecord, FirstIsCandidate}
 use Rattle.rule_index.proofs.Meeting.{holding_is_wanted}
 
@@ -43,7 +43,7 @@ class_is_of_the_record stores using_keys rule =
 
 -- if a record has no matching class, it does not hold
 not_wanted : (content : Content) (left : List Item) (press : KeyPress) (stores : List Store) (using_keys : Bool) (rule : Rule)
-    → ((j : ℕ) → j < 6 → rule_class (tab_rule [] using_keys rule) ≢ slice_index_or (wanted_classes press left) j 0)
+    → ((j : ℕ) → j < 6 → rule_class (tab_rule [] using_keys rule) ≢ slice_index_or (matching_classes press left) j 0)
     → (o : Option Caught) → holds content left press (tab_rule stores using_keys rule) ≡ o → (others : Option Chosen)
     → first_with (tab_rule stores using_keys rule) o others ≡ others
 not_wanted content left press stores using_keys rule none None e others = refl

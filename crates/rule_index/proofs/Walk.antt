@@ -7,12 +7,12 @@ use Rattle.std.proofs.lemmas.Bool.{cases_lt, cases_Bool, eqb-true, cond-true, co
 use Rattle.std.proofs.lemmas.List.{get_or-map, length-map}
 use Rattle.std.proofs.lemmas.List.Elements.{All-nil, All-cons, All-set}
 use Rattle.std.proofs.lemmas.Option.{get_or_from_slice_get}
-use Rattle.rule_index.specs.declared.head.Head.{Head}
-use Rattle.rule_index.specs.declared.lead.ClassLead.{ClassLead}
+use Rattle.rule_index.specs.declared.cursor.Cursor.{Cursor}
+use Rattle.rule_index.specs.declared.current_run.CurrentRun.{CurrentRun}
 use Rattle.rule_index.specs.declared.row.Row.{Row}
 use Rattle.rule_index.specs.Next.{IsNext, IsTheNext}
 use Rattle.rule_index.specs.Rows.{rank, ranked, number_if, AreBefore, IsIndexOf, StartsAt}
-use Rattle.rule_index.specs.Walk.{HeadStands, HeadsStand, LeadStands}
+use Rattle.rule_index.specs.Walk.{CursorIsValid, CursorsAreValid, RunIsValid}
 use Rattle.rule_index.proofs.Finding.{first_found}
 use Rattle.rule_index.proofs.Next.{IsLeast, IsFirstNumber, first_number, next_behind, none_yet, goes_first, goes_second, goes_last, least_is_next, none_is_next}
 
@@ -77,7 +77,7 @@ first_at class from place rows classes starts index =
     first_number class from classes (number_if class (slice_get rows place)) (omega (arith, index.few)) (first_found class from place rows classes starts index)
 
 -- if a lead finds a number below its limit, the number is the next candidate
-pub led_is_next : (rows : List Row) (wanted classes : List ℕ) (from number : ℕ) (lead : ClassLead) → IsIndexOf classes rows → LeadStands rows wanted from lead
+pub led_is_next : (rows : List Row) (wanted classes : List ℕ) (from number : ℕ) (lead : CurrentRun) → IsIndexOf classes rows → RunIsValid rows wanted from lead
     → unwrap_or (number_if lead.head.class (slice_get rows lead.head.place)) 131072 ≡ number → from ≤ number → number < lead.limit
     → IsNext wanted (length wanted) classes from (Some number)
 led_is_next rows wanted classes from number lead index stands is up below =
@@ -94,47 +94,47 @@ led_is_next rows wanted classes from number lead index stands is up below =
     IsTheNext number up at.1 (one.0, one.1, at.2 ∙ one.2) (λ n j a b h e. first.skipped n a b (omega (arith, at.1)) (stands.alone classes index n j a (omega arith) (omega (arith, at.1)) h e))
 
 -- if each of six cursors is valid from number 0 on, all of them are
-pub six_stand : (rows : List Row) (a b c d e f : Head) → HeadStands rows 0 a → HeadStands rows 0 b → HeadStands rows 0 c → HeadStands rows 0 d → HeadStands rows 0 e
-    → HeadStands rows 0 f → HeadsStand rows 0 (a ∷ b ∷ c ∷ d ∷ e ∷ f ∷ [])
+pub six_stand : (rows : List Row) (a b c d e f : Cursor) → CursorIsValid rows 0 a → CursorIsValid rows 0 b → CursorIsValid rows 0 c → CursorIsValid rows 0 d → CursorIsValid rows 0 e
+    → CursorIsValid rows 0 f → CursorsAreValid rows 0 (a ∷ b ∷ c ∷ d ∷ e ∷ f ∷ [])
 six_stand rows a b c d e f ha hb hc hd he hf =
-    let one = All-cons (HeadStands rows 0) in
-    one a (b ∷ c ∷ d ∷ e ∷ f ∷ []) ha (one b (c ∷ d ∷ e ∷ f ∷ []) hb (one c (d ∷ e ∷ f ∷ []) hc (one d (e ∷ f ∷ []) hd (one e (f ∷ []) he (one f [] hf (All-nil (HeadStands rows 0)))))))
+    let one = All-cons (CursorIsValid rows 0) in
+    one a (b ∷ c ∷ d ∷ e ∷ f ∷ []) ha (one b (c ∷ d ∷ e ∷ f ∷ []) hb (one c (d ∷ e ∷ f ∷ []) hc (one d (e ∷ f ∷ []) hd (one e (f ∷ []) he (one f [] hf (All-nil (CursorIsValid rows 0)))))))
 
 -- if cursors are valid from a number on, they are valid after the next candidate
-pub heads_behind : (rows : List Row) (wanted : List ℕ) (from count number : ℕ) (heads : List Head) → HeadsStand rows from heads
-    → ((classes : List ℕ) → IsIndexOf classes rows → IsNext wanted count classes from (Some number)) → HeadsStand rows (number + 1) heads
+pub heads_behind : (rows : List Row) (wanted : List ℕ) (from count number : ℕ) (heads : List Cursor) → CursorsAreValid rows from heads
+    → ((classes : List ℕ) → IsIndexOf classes rows → IsNext wanted count classes from (Some number)) → CursorsAreValid rows (number + 1) heads
 heads_behind rows wanted from count number heads stand next k d within classes index place row below inside =
     let up : from ≤ number = next_behind wanted classes from count number (next classes index) in
     let less = stand k d within classes index place row below inside in
     omega (arith, less, up)
 
 -- the class of a cursor
-abbrev pub class_of_head : Head → ℕ
+abbrev pub class_of_head : Cursor → ℕ
 class_of_head head = head.class
 
 -- one more cursor moves to its first row from a number on, and finds a number there
-pub record GoesOn (rows : List Row) (from k number : ℕ) (olds heads : List Head) (d moved : Head) : Type 0 where
+pub record GoesOn (rows : List Row) (from k number : ℕ) (olds heads : List Cursor) (d moved : Cursor) : Type 0 where
   pub within : k < length heads
   pub same : map class_of_head heads ≡ map class_of_head olds
-  pub stand : HeadsStand rows from olds → HeadsStand rows from heads
+  pub stand : CursorsAreValid rows from olds → CursorsAreValid rows from heads
   pub class : moved.class ≡ (slice_index_or heads k d).class
-  pub starts : (classes : List ℕ) → IsIndexOf classes rows → HeadStands rows from (slice_index_or heads k d)
+  pub starts : (classes : List ℕ) → IsIndexOf classes rows → CursorIsValid rows from (slice_index_or heads k d)
       → StartsAt (ranked (slice_index_or heads k d).class from) rows moved.place
   pub found : number ≡ unwrap_or (number_if moved.class (slice_get rows moved.place)) 131072
   pub small : number ≤ 131072
   pub inside : number < 131072 → moved.place < length rows
 
 -- of the first `count` cursors, `first` has the least number, and those of another class have no number below the limit
-pub record IsFirst (rows : List Row) (olds : List Head) (from count least limit : ℕ) (first : Head) : Type 0 where
+pub record IsFirst (rows : List Row) (olds : List Cursor) (from count least limit : ℕ) (first : Cursor) : Type 0 where
   pub few : (least ≤ 131072) × (limit ≤ 131072)
-  pub leads : (classes : List ℕ) → IsIndexOf classes rows → HeadsStand rows from olds
+  pub leads : (classes : List ℕ) → IsIndexOf classes rows → CursorsAreValid rows from olds
       → IsLeast (map class_of_head olds) classes from count least first.class limit
   pub among : least < 131072 → (j : ℕ) × (j < count) × (first.class ≡ slice_index_or (map class_of_head olds) j 0)
-  pub passed : least < 131072 → HeadsStand rows from olds → (classes : List ℕ) → IsIndexOf classes rows
+  pub passed : least < 131072 → CursorsAreValid rows from olds → (classes : List ℕ) → IsIndexOf classes rows
       → AreBefore (ranked first.class (least + 1)) rows (first.place + 1)
   pub within : least < 131072 → first.place < length rows
 
-pub no_first : (rows : List Row) (olds : List Head) (from : ℕ) (first : Head) → IsFirst rows olds from 0 131072 131072 first
+pub no_first : (rows : List Row) (olds : List Cursor) (from : ℕ) (first : Cursor) → IsFirst rows olds from 0 131072 131072 first
 no_first rows olds from first = record {
   few = (omega arith, omega arith);
   leads = λ classes index stand. none_yet (map class_of_head olds) classes from first.class;
@@ -143,25 +143,25 @@ no_first rows olds from first = record {
   within = λ h. absurd (omega arith);
 }
 
-module _ (rows : List Row) (from k number : ℕ) (olds heads : List Head) (d moved : Head) (step : GoesOn rows from k number olds heads d moved) where
+module _ (rows : List Row) (from k number : ℕ) (olds heads : List Cursor) (d moved : Cursor) (step : GoesOn rows from k number olds heads d moved) where
   pub wanted_after : map class_of_head (slice_set heads k moved) ≡ map class_of_head olds
   wanted_after = map-set_same class_of_head heads k moved d step.class ∙ step.same
 
-  starts_moved : HeadsStand rows from olds → (classes : List ℕ) → IsIndexOf classes rows → StartsAt (ranked moved.class from) rows moved.place
+  starts_moved : CursorsAreValid rows from olds → (classes : List ℕ) → IsIndexOf classes rows → StartsAt (ranked moved.class from) rows moved.place
   starts_moved before classes index =
       subst (λ (n : ℕ). StartsAt (ranked n from) rows moved.place) (sym step.class) (step.starts classes index (step.stand before k d step.within))
 
-  pub stand_after : HeadsStand rows from olds → HeadsStand rows from (slice_set heads k moved)
-  stand_after before = All-set (HeadStands rows from) heads k moved (λ classes index. (starts_moved before classes index).before) (step.stand before)
+  pub stand_after : CursorsAreValid rows from olds → CursorsAreValid rows from (slice_set heads k moved)
+  stand_after before = All-set (CursorIsValid rows from) heads k moved (λ classes index. (starts_moved before classes index).before) (step.stand before)
 
-  found_first : HeadsStand rows from olds → (classes : List ℕ) → IsIndexOf classes rows → IsFirstNumber moved.class classes from number
+  found_first : CursorsAreValid rows from olds → (classes : List ℕ) → IsIndexOf classes rows → IsFirstNumber moved.class classes from number
   found_first before classes index = subst (IsFirstNumber moved.class classes from) (sym step.found)
       (first_at moved.class from moved.place rows classes (starts_moved before classes index) index)
 
   wanted_there : moved.class ≡ slice_index_or (map class_of_head olds) k 0
   wanted_there = step.class ∙ (sym (get_or-map class_of_head heads k d 0 step.within) ∙ ap (λ (classes : List ℕ). slice_index_or classes k 0) step.same)
 
-  module _ (least limit : ℕ) (first : Head) (so_far : IsFirst rows olds from k least limit first) where
+  module _ (least limit : ℕ) (first : Cursor) (so_far : IsFirst rows olds from k least limit first) where
     pub first_is_moved : number < least → IsFirst rows olds from (k + 1) number least moved
     first_is_moved less = record {
       few = (step.small, so_far.few.0);
@@ -173,7 +173,7 @@ module _ (rows : List Row) (from k number : ℕ) (olds heads : List Head) (d mov
       within = step.inside;
     }
 
-    stays : (bound : ℕ) → bound ≤ 131072 → ((classes : List ℕ) → IsIndexOf classes rows → HeadsStand rows from olds
+    stays : (bound : ℕ) → bound ≤ 131072 → ((classes : List ℕ) → IsIndexOf classes rows → CursorsAreValid rows from olds
         → IsLeast (map class_of_head olds) classes from (k + 1) least first.class bound) → IsFirst rows olds from (k + 1) least bound first
     stays bound few leads = record {
       few = (so_far.few.0, few);
@@ -194,8 +194,8 @@ module _ (rows : List Row) (from k number : ℕ) (olds heads : List Head) (d mov
         (found_first stand classes index) behind beyond (omega (arith, index.few)))
 
 -- the first of all cursors is at the next candidate, and the lead is the cursor after it
-module _ (rows : List Row) (olds : List Head) (from least limit : ℕ) (first : Head) (is : IsFirst rows olds from (length olds) least limit first)
-    (stand : HeadsStand rows from olds) where
+module _ (rows : List Row) (olds : List Cursor) (from least limit : ℕ) (first : Cursor) (is : IsFirst rows olds from (length olds) least limit first)
+    (stand : CursorsAreValid rows from olds) where
   pub first_is_next : least < 131072 → (classes : List ℕ) → IsIndexOf classes rows → IsNext (map class_of_head olds) (length olds) classes from (Some least)
   first_is_next less classes index =
       least_is_next (map class_of_head olds) classes from (length olds) least first.class limit (is.leads classes index stand) (is.among less) less
@@ -204,8 +204,8 @@ module _ (rows : List Row) (olds : List Head) (from least limit : ℕ) (first : 
   first_is_none none classes index =
       none_is_next (map class_of_head olds) classes from (length olds) least first.class limit (omega (arith, index.few)) (is.leads classes index stand) (omega arith)
 
-  pub lead_stands : (lead : ClassLead) → lead.head.class ≡ first.class → lead.head.place ≡ first.place + 1 → lead.limit ≡ limit → least < 131072
-      → LeadStands rows (map class_of_head olds) (least + 1) lead
+  pub lead_stands : (lead : CurrentRun) → lead.head.class ≡ first.class → lead.head.place ≡ first.place + 1 → lead.limit ≡ limit → least < 131072
+      → RunIsValid rows (map class_of_head olds) (least + 1) lead
   lead_stands lead class_is place_is limit_is less = record {
     among = let j = is.among less in (j.0, rw (length-map olds class_of_head) j.1, class_is ∙ j.2);
     stands = λ classes index. rw class_is (rw place_is (is.passed less stand classes index));

@@ -57,8 +57,8 @@ last_item before [] = before
 last_item before (x ∷ xs) = last_item (Some x) xs
 
 -- the six classes of records that a press and a left list can match
-abbrev pub wanted_classes : KeyPress → List Item → List ℕ
-wanted_classes press left =
+abbrev pub matching_classes : KeyPress → List Item → List ℕ
+matching_classes press left =
     let given = given_class press (char_of_press press) in
     let last = item_class (last_item None left) in
     class_of 0 last ∷ class_of 0 0 ∷ class_of given last ∷ class_of given 0 ∷ class_of (FIRST_CODE + press.code) last ∷ class_of (FIRST_CODE + press.code) 0 ∷ []

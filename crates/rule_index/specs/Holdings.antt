@@ -33,21 +33,21 @@ abbrev pub IsSmall : Holding → Type 0
 IsSmall row = (row.store < 65536) × (row.place < 65536)
 
 -- no two rows have the same rank
-abbrev pub StandOnce : List Holding → Type 0
-StandOnce rows = AllPairs (λ a b. holding_rank a ≢ holding_rank b) rows
+abbrev pub HaveDistinctRanks : List Holding → Type 0
+HaveDistinctRanks rows = AllPairs (λ a b. holding_rank a ≢ holding_rank b) rows
 
 -- the rows of the first `count` stores, in any order, each once
 pub record AreGathered (stores : List (List Element)) (rows : List Holding) (count : ℕ) : Type 0 where
   pub small : All IsSmall rows
   pub right : All (IsHeld stores) rows
-  pub once : StandOnce rows
+  pub once : HaveDistinctRanks rows
   pub within : All (λ row. row.store < count) rows
   pub complete : (x : Item) (store place : ℕ) → store < count → place_of x (content_at stores store) ≡ Some place → Contains rows (holding_of x store place)
 
 -- the rows of all stores, sorted, each once
 pub record AreHoldings (stores : List (List Element)) (rows : List Holding) : Type 0 where
   pub sorted : IsNonDecreasingBy holding_rank rows
-  pub once : StandOnce rows
+  pub once : HaveDistinctRanks rows
   pub small : All IsSmall rows
   pub right : All (IsHeld stores) rows
   pub complete : (x : Item) (store place : ℕ) → place_of x (content_at stores store) ≡ Some place → Contains rows (holding_of x store place)

@@ -1,10 +1,10 @@
 //! Merges six sorted runs: the rows of a group's index that have one of the six classes of a key press, in file order.
 //!
 //! The rows are sorted by class and then by record number, so the rows of one class are a run with rising numbers. Each of the
-//! six classes has a cursor (`Head`). The next candidate is the lowest number at a cursor, so candidates come in file order,
+//! six classes has a cursor (`Cursor`). The next candidate is the lowest number at a cursor, so candidates come in file order,
 //! and a cursor never skips a row that can still be returned. After each result all cursors skip the numbers up to it, so a
 //! record is returned once even if two of the six classes are equal. While one class has the next numbers, only its cursor is
-//! read (`ClassLead`).
+//! read (`CurrentRun`).
 //!
 //! Creating the iterator costs six binary searches. Since no cursor moves back, a walk then costs a constant number of steps
 //! for each candidate on average.
@@ -14,11 +14,11 @@ ghost use Rattle.kmn_base.specs.declared.limits.TheConstants.{RECORDS};
 ghost use Rattle.rule_index.specs.declared.row.TheConstants.{NO_ROW};
 ghost use Rattle.rule_index.specs.Rows.{IsIndexOf};
 ghost use Rattle.rule_index.specs.Next.{IsNext};
-ghost use Rattle.rule_index.specs.Walk.{behind, HeadsStand, LeadStands};
+ghost use Rattle.rule_index.specs.Walk.{behind, CursorsAreValid, RunIsValid};
 
 use crate::class::Class;
-use crate::head::Head;
-use crate::lead::ClassLead;
+use crate::current_run::CurrentRun;
+use crate::cursor::Cursor;
 use crate::row::{NO_ROW, Row};
 use std::marker::Model;
 
@@ -29,15 +29,15 @@ use std::marker::Model;
 #[derive(Drop)]
 pub struct Candidates<'i> {
     rows: &'i [Row],
-    heads: [Head; 6],
-    lead: ClassLead,
+    heads: [Cursor; 6],
+    lead: CurrentRun,
     from: u32,
 }
 
 impl<'i> Model for Candidates<'i> {
     ghost use Rattle.std.specs.Prelude.{◌≤◌, map};
     ghost use Rattle.rule_index.specs.declared.row.TheConstants.{NO_ROW};
-    ghost use Rattle.rule_index.specs.Walk.{CandidatesValue, HeadsStand, LeadStands};
+    ghost use Rattle.rule_index.specs.Walk.{CandidatesValue, CursorsAreValid, RunIsValid};
 
     ghost Value = { CandidatesValue };
 
@@ -47,22 +47,22 @@ impl<'i> Model for Candidates<'i> {
       from = candidates.from;
     } };
 
-    ghost invariant = { λ candidates. (candidates.from ≤ NO_ROW) × HeadsStand candidates.rows.now candidates.from candidates.heads
-        × LeadStands candidates.rows.now (map (λ head. head.class) candidates.heads) candidates.from candidates.lead };
+    ghost invariant = { λ candidates. (candidates.from ≤ NO_ROW) × CursorsAreValid candidates.rows.now candidates.from candidates.heads
+        × RunIsValid candidates.rows.now (map (λ head. head.class) candidates.heads) candidates.from candidates.lead };
 }
 
 /// Returns the lowest record number, from `from` on, that has one of the classes of `heads`, or `None` if there is none. Moves each
 /// cursor to the first row of its class from `from` on. If there is a record, sets `lead` to the cursor after it and to the limit below
 /// which no other class has a record.
 #[inline(never)]
-fn next_of(rows: &[Row], heads: &mut [Head], lead: &mut ClassLead, from: u32) -> Option<u32>
+fn next_of(rows: &[Row], heads: &mut [Cursor], lead: &mut CurrentRun, from: u32) -> Option<u32>
     requires { from ≤ NO_ROW }
     ensures wanted { map (λ head. head.class) heads.new ≡ map (λ head. head.class) heads.old }
-    ensures stand { HeadsStand rows.now from heads.old → HeadsStand rows.now from heads.new }
-    ensures next { (classes : List ℕ) → IsIndexOf classes rows.now → HeadsStand rows.now from heads.old
+    ensures stand { CursorsAreValid rows.now from heads.old → CursorsAreValid rows.now from heads.new }
+    ensures next { (classes : List ℕ) → IsIndexOf classes rows.now → CursorsAreValid rows.now from heads.old
         → IsNext (map (λ head. head.class) heads.old) (length heads.old) classes from result }
-    ensures lead { let wanted = map (λ head. head.class) heads.old in HeadsStand rows.now from heads.old
-        → LeadStands rows.now wanted from lead.old → LeadStands rows.now wanted (behind from result) lead.new }
+    ensures lead { let wanted = map (λ head. head.class) heads.old in CursorsAreValid rows.now from heads.old
+        → RunIsValid rows.now wanted from lead.old → RunIsValid rows.now wanted (behind from result) lead.new }
     ensures small { IfSome result (λ number. number < NO_ROW) }
 {
     let (mut first, mut least, mut limit) = (lead.head, NO_ROW, NO_ROW);
@@ -82,7 +82,7 @@ fn next_of(rows: &[Row], heads: &mut [Head], lead: &mut ClassLead, from: u32) ->
         return None;
     }
     first.place += 1;
-    *lead = ClassLead { head: first, limit };
+    *lead = CurrentRun { head: first, limit };
     Some(least)
 }
 
@@ -94,21 +94,21 @@ impl<'i> Candidates<'i> {
         ensures { result ≡ record { rows = rows.now; wanted = wanted.now; from = 0 } }
     {
         let heads = [
-            Head::of(rows, wanted[0]),
-            Head::of(rows, wanted[1]),
-            Head::of(rows, wanted[2]),
-            Head::of(rows, wanted[3]),
-            Head::of(rows, wanted[4]),
-            Head::of(rows, wanted[5]),
+            Cursor::of(rows, wanted[0]),
+            Cursor::of(rows, wanted[1]),
+            Cursor::of(rows, wanted[2]),
+            Cursor::of(rows, wanted[3]),
+            Cursor::of(rows, wanted[4]),
+            Cursor::of(rows, wanted[5]),
         ];
-        let head = Head {
+        let head = Cursor {
             class: wanted[0],
             place: 0,
         };
         Candidates {
             rows,
             heads,
-            lead: ClassLead { head, limit: 0 },
+            lead: CurrentRun { head, limit: 0 },
             from: 0,
         }
     }

@@ -10,7 +10,7 @@ ghost use Rattle.std.specs.Prelude.{◌≡◌, ◌<◌, [], map, None, IfOk};
 ghost use Rattle.virtual_keys.specs.Fits.{char_of_press};
 ghost use Rattle.rule_model.specs.Tab.{tab_pattern, tab_rule};
 ghost use Rattle.kmx_parts.specs.ContextItems.{pattern_of};
-ghost use Rattle.rule_index.specs.Classes.{key_class, pattern_class, last_class, given_class, item_class, class_of, rule_class, wanted_classes};
+ghost use Rattle.rule_index.specs.Classes.{key_class, pattern_class, last_class, given_class, item_class, class_of, rule_class, matching_classes};
 ghost use Rattle.rule_index.specs.declared.class.TheConstants.{PARTS};
 ghost use Rattle.rule_index.specs.Groups.{record_classes};
 
@@ -112,8 +112,8 @@ fn given_class(press: KeyPress) -> u64
 
 /// Returns the classes of records of a group that a press and a left list can match.
 #[tactic(auto, using(crate::proofs::Meeting::last_at))]
-pub fn wanted_classes(press: KeyPress, left: &[Item]) -> [Class; 6]
-    ensures { result ≡ wanted_classes press left.now }
+pub fn matching_classes(press: KeyPress, left: &[Item]) -> [Class; 6]
+    ensures { result ≡ matching_classes press left.now }
 {
     let given = given_class(press);
     let code = FIRST_CODE + u64::from(press.code);

@@ -15,7 +15,7 @@
 //! - a store for each text that a store is stated with (`specs/Texts`): `stated_with` returns it;
 //! - the option number of each store (`indexed_tables`), and the names of custom keys (`specs/OwnNames`).
 //!
-//! For a press, call `wanted_classes` with the press and the left list. Then test the records that the `Candidates` of a group's
+//! For a press, call `matching_classes` with the press and the left list. Then test the records that the `Candidates` of a group's
 //! `RuleIndex` return, in file order. The iterator searches the rows when it is created, and then moves over them one by one. To test
 //! conditions on the platform, call `find_truths` each time the platform changes: it sets a flag for each store whose words the
 //! platform has.
@@ -28,13 +28,13 @@ mod candidates;
 mod class;
 mod classes;
 mod contexts;
+mod current_run;
+mod cursor;
 mod elements;
-mod head;
 mod holding;
 mod holdings;
 mod indexed_keyboard;
 pub mod laws;
-mod lead;
 mod options;
 mod own_names;
 mod row;
@@ -45,7 +45,7 @@ mod values;
 
 pub use candidates::Candidates;
 pub use class::Class;
-pub use classes::wanted_classes;
+pub use classes::matching_classes;
 pub use holding::Holding;
 pub use indexed_keyboard::IndexedKeyboard;
 pub use rule_index::RuleIndex;

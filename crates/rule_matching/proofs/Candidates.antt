@@ -13,12 +13,12 @@ use Rattle.rule_model.specs.Match.{Content}
 use Rattle.rule_model.specs.Hold.{holds}
 use Rattle.rule_model.specs.Tab.{tab_rule}
 use Rattle.rule_index.specs.declared.row.Row.{Row}
-use Rattle.rule_index.specs.Classes.{rule_class, wanted_classes}
+use Rattle.rule_index.specs.Classes.{rule_class, matching_classes}
 use Rattle.rule_index.specs.Next.{IsNext, IsTheNext, NoneIsLeft}
 use Rattle.rule_index.specs.Rows.{IsIndexOf}
 use Rattle.rule_index.specs.Walk.{CandidatesValue}
 use Rattle.rule_index.proofs.Skipping.{first_is_candidate}
-use Rattle.rule_matching.specs.Moment.{held_record}
+use Rattle.rule_matching.specs.MatchState.{held_record}
 
 -- the class of each record, by which it can match
 abbrev pub classes_of : Bool → List Rule → List ℕ
@@ -26,9 +26,9 @@ classes_of using_keys rules = map (λ (rule : Rule). rule_class (tab_rule [] usi
 
 -- if an iterator over the records of a group returns a result for the classes of a press, the result is the next candidate
 pub walked : (walk : CandidatesValue) (records : List Row) (press : KeyPress) (left : List Item) (using_keys : Bool) (rules : List Rule) (result : Option ℕ)
-    → walk.rows ≡ records → walk.wanted ≡ wanted_classes press left → IsIndexOf (classes_of using_keys rules) records
+    → walk.rows ≡ records → walk.wanted ≡ matching_classes press left → IsIndexOf (classes_of using_keys rules) records
     → ((classes : List ℕ) → IsIndexOf classes walk.rows → IsNext walk.wanted (length walk.wanted) classes walk.from result)
-    → IsNext (wanted_classes press left) 6 (classes_of using_keys rules) walk.from result
+    → IsNext (matching_classes press left) 6 (classes_of using_keys rules) walk.from result
 walked walk records press left using_keys rules result rows wanted index next =
     subst (λ (classes : List ℕ). IsNext classes (length classes) (classes_of using_keys rules) walk.from result) wanted
     (next (classes_of using_keys rules) (subst (IsIndexOf (classes_of using_keys rules)) (sym rows) index))
@@ -39,20 +39,20 @@ first_from content left press stores using_keys rules from = first (holds conten
 
 -- if a record is the next candidate from a number on, it is one of the records and not before that number
 pub candidate_within : (press : KeyPress) (left : List Item) (using_keys : Bool) (rules : List Rule) (from number : ℕ)
-    → IsNext (wanted_classes press left) 6 (classes_of using_keys rules) from (Some number) → (from ≤ number) × (number < length rules)
+    → IsNext (matching_classes press left) 6 (classes_of using_keys rules) from (Some number) → (from ≤ number) × (number < length rules)
 candidate_within press left using_keys rules from number (IsTheNext m behind within met skipped) =
     (behind, omega (arith, within, length-map rules (λ (rule : Rule). rule_class (tab_rule [] using_keys rule))))
 
 -- if a number is the next candidate from another number on, no record between them holds
 to_candidate : (content : Content) (left : List Item) (press : KeyPress) (stores : List Store) (using_keys : Bool) (rules : List Rule) (from number : ℕ)
-    → IsNext (wanted_classes press left) 6 (classes_of using_keys rules) from (Some number)
+    → IsNext (matching_classes press left) 6 (classes_of using_keys rules) from (Some number)
     → first_from content left press stores using_keys rules from ≡ first_from content left press stores using_keys rules number
 to_candidate content left press stores using_keys rules from number (IsTheNext m behind within met skipped) =
     first_is_candidate content left press stores using_keys rules from number behind (λ n j up less inside few. skipped n j up less few)
 
 -- if no candidate is left, no record holds
 pub none_left : (content : Content) (left : List Item) (press : KeyPress) (stores : List Store) (using_keys : Bool) (rules : List Rule) (from : ℕ)
-    → from ≤ length rules → IsNext (wanted_classes press left) 6 (classes_of using_keys rules) from None
+    → from ≤ length rules → IsNext (matching_classes press left) 6 (classes_of using_keys rules) from None
     → first_from content left press stores using_keys rules from ≡ None
 none_left content left press stores using_keys rules from up (NoneIsLeft none) =
     let count : length (classes_of using_keys rules) ≡ length rules = length-map rules (λ (rule : Rule). rule_class (tab_rule [] using_keys rule)) in
@@ -90,7 +90,7 @@ passed_first rule None others is = refl
 passed_first rule (Some caught) others is = absurd (cc)
 
 module _ (content : Content) (left : List Item) (press : KeyPress) (stores : List Store) (using_keys : Bool) (rules : List Rule) (from number : ℕ)
-    (next : IsNext (wanted_classes press left) 6 (classes_of using_keys rules) from (Some number)) where
+    (next : IsNext (matching_classes press left) 6 (classes_of using_keys rules) from (Some number)) where
   -- if the candidate holds, it is the first record that holds
   pub candidate_holds : (chosen : Chosen) → held_record content left press (option_map (tab_rule stores using_keys) (slice_get rules number)) ≡ Some chosen
       → first_from content left press stores using_keys rules from ≡ Some chosen

@@ -4,7 +4,7 @@ use Rattle.std.specs.Prelude.{slice_get}
 use Rattle.std.proofs.lemmas.List.Elements.{All-head, All-tail}
 use Rattle.kmn_base.specs.declared.limits.TheConstants.{CONTEXT_ITEMS}
 use Rattle.rule_model.specs.declared.tables.Rule.{Rule}
-use Rattle.rule_matching.specs.Moment.{AreShort}
+use Rattle.rule_matching.specs.MatchState.{AreShort}
 
 pub short_in_rules : (rules : List Rule) (n : ℕ) (rule : Rule) → AreShort rules → slice_get rules n ≡ Some rule → length rule.context ≤ CONTEXT_ITEMS
 short_in_rules [] n rule short is = absurd (cc)

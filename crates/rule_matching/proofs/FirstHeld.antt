@@ -14,11 +14,11 @@ use Rattle.rule_model.specs.Choose.{Chosen}
 use Rattle.rule_model.specs.Match.{Content}
 use Rattle.rule_model.specs.Hold.{holds}
 use Rattle.rule_model.specs.Tab.{tab_rule}
-use Rattle.rule_index.specs.Classes.{rule_class, wanted_classes}
+use Rattle.rule_index.specs.Classes.{rule_class, matching_classes}
 use Rattle.rule_index.specs.Next.{IsNext, IsTheNext, NoneIsLeft}
 use Rattle.rule_index.proofs.Meeting.{holding_is_wanted}
 use Rattle.rule_index.proofs.Skipping.{class_is_of_the_record}
-use Rattle.rule_matching.specs.Moment.{content_at, held_record, is_held, MomentValue}
+use Rattle.rule_matching.specs.MatchState.{content_at, held_record, is_held, MatchStateValue}
 use Rattle.rule_matching.proofs.Candidates.{classes_of, there}
 
 -- the records before a number are passed over: a test is false for each of them
@@ -60,9 +60,9 @@ held_not content left press rule = by (holds content left press rule)
     by None is = refl
     by (Some caught) is = absurd (cc)
 
-module _ (moment : MomentValue) (group : Group) (left : List Item) (press : KeyPress) where
+module _ (moment : MatchStateValue) (group : Group) (left : List Item) (press : KeyPress) where
   -- if the class of a record is not a class of the press and the list, the record does not hold
-  unwanted : (rule : Rule) → ((j : ℕ) → j < 6 → rule_class (tab_rule [] group.using_keys rule) ≢ slice_index_or (wanted_classes press left) j 0)
+  unwanted : (rule : Rule) → ((j : ℕ) → j < 6 → rule_class (tab_rule [] group.using_keys rule) ≢ slice_index_or (matching_classes press left) j 0)
       → is_held moment group left press rule ≡ false
   unwanted rule none = by (holds (content_at moment) left press (tab_rule moment.tables.stores group.using_keys rule)) refl
     where
@@ -77,14 +77,14 @@ module _ (moment : MomentValue) (group : Group) (left : List Item) (press : KeyP
   class_at n d within = get_or-map (λ (rule : Rule). rule_class (tab_rule [] group.using_keys rule)) group.rules n d 0 within
 
   -- if the records before a number are passed over, so are the records before the next candidate, or all records if no candidate is left
-  pub passed_to : (from number : ℕ) → IsNext (wanted_classes press left) 6 (classes_of group.using_keys group.rules) from (Some number)
+  pub passed_to : (from number : ℕ) → IsNext (matching_classes press left) 6 (classes_of group.using_keys group.rules) from (Some number)
       → ArePassed (is_held moment group left press) group.rules from → ArePassed (is_held moment group left press) group.rules number
   passed_to from number (IsTheNext m behind inside met skipped) passed n d below within = elim (cases_lt n from) [
     | inl early ↦ passed n d early within
     | inr late ↦ unwanted (slice_index_or group.rules n d) (λ j few same. skipped n j late below few (class_at n d within ∙ same))
   ]
 
-  pub passed_all : (from : ℕ) → IsNext (wanted_classes press left) 6 (classes_of group.using_keys group.rules) from None
+  pub passed_all : (from : ℕ) → IsNext (matching_classes press left) 6 (classes_of group.using_keys group.rules) from None
       → ArePassed (is_held moment group left press) group.rules from → ArePassed (is_held moment group left press) group.rules (length group.rules)
   passed_all from (NoneIsLeft none) passed n d below within = elim (cases_lt n from) [
     | inl early ↦ passed n d early within

@@ -25,7 +25,7 @@ use Rattle.kmx_parts.specs.ContextItems.{pattern_of}
 use Rattle.rule_index.specs.Groups.{RuleIndexValue, IsRuleIndexOf}
 use Rattle.rule_index.proofs.ContextCounts.{context_found, count_found}
 use Rattle.rule_matching.specs.Matching.{allowed_catches, item_meaning}
-use Rattle.rule_matching.specs.Moment.{held_record, AreShort}
+use Rattle.rule_matching.specs.MatchState.{held_record, AreShort}
 use Rattle.rule_matching.proofs.AllowedContexts.{allowed_holds, short_holds_not, unfitting_holds_not}
 use Rattle.rule_matching.proofs.Contexts.{short_in_rules}
 

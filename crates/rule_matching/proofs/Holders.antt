@@ -14,7 +14,7 @@ use Rattle.rule_model.specs.Tab.{tab}
 use Rattle.rule_index.specs.declared.holding.Holding.{Holding}
 use Rattle.rule_index.specs.Holdings.{AreHoldersOf}
 use Rattle.rule_matching.specs.Matching.{item_before, place_before, place_in_stated, IsMarkedRight}
-use Rattle.rule_matching.specs.StoreMarks.{Marking, has_holder, is_known, is_marked, marked_room}
+use Rattle.rule_matching.specs.StoreMarks.{Marking, has_holder, is_known, is_marked, marked_len}
 use Rattle.rule_matching.proofs.Remembering.{same_or_other}
 
 -- an optional place is some place or none
@@ -64,14 +64,14 @@ stated_in tables store = elements_at (tab tables).stores (Some store)
 pub marked_right : (tables : Tables) (left : List Item) (distance : ℕ) (item : Item) (holders : List Holding) (before after : Marking)
     → Some item ≡ item_before left distance → AreHoldersOf item (stated_in tables) holders
     → ((d : ℕ) → d ≢ distance → is_known after d ≡ is_known before d)
-    → ((s : ℕ) → s < marked_room before → is_marked after s distance ≡ has_holder holders s)
+    → ((s : ℕ) → s < marked_len before → is_marked after s distance ≡ has_holder holders s)
     → ((s d : ℕ) → d ≢ distance → is_marked after s d ≡ is_marked before s d)
-    → marked_room after ≡ marked_room before
+    → marked_len after ≡ marked_len before
     → IsMarkedRight tables left before → IsMarkedRight tables left after
 marked_right tables left distance item holders before after is are known_others here others room right =
     record {
       right = λ s d known within.
-          let inside : s < marked_room before = subst (λ (n : ℕ). s < n) room within in
+          let inside : s < marked_len before = subst (λ (n : ℕ). s < n) room within in
           elim (same_or_other d distance) [
             | inl this ↦
                 ap (is_marked after s) this ∙ here s inside ∙ holders_are_those item (stated_in tables) holders s are

@@ -11,10 +11,10 @@ use Rattle.rule_model.specs.Match.{Content, takes_item, catch_item, catches_from
 use Rattle.rule_matching.specs.declared.place_memory.PlaceMemory.{PlaceMemory}
 use Rattle.rule_matching.specs.KnownPlaces.{known_place}
 use Rattle.rule_matching.specs.Matching.{catch_of, item_before, place_before, IsMarkedRight, RemembersRight}
-use Rattle.rule_matching.specs.Moment.{MomentValue, content_at}
+use Rattle.rule_matching.specs.MatchState.{MatchStateValue, content_at}
 
 -- if a right place is remembered, what is known remains right
-pub still_right : (moment : MomentValue) (left : List Item) (store distance : ℕ) (place : Option ℕ) (before after : PlaceMemory)
+pub still_right : (moment : MatchStateValue) (left : List Item) (store distance : ℕ) (place : Option ℕ) (before after : PlaceMemory)
     → ((s d : ℕ) (p : Option ℕ) → known_place after.found s d ≡ Some p → (known_place before.found s d ≡ Some p) ⊎ ((s ≡ store) × (d ≡ distance) × (p ≡ place)))
     → before.marks ≡ after.marks
     → place ≡ place_before (content_at moment) left store distance → RemembersRight moment left before → RemembersRight moment left after

@@ -16,7 +16,7 @@ use Rattle.option_store.specs.Cells.{cell_at, held_value}
 use Rattle.option_store.specs.Meaning.{option_values, option_saves}
 use Rattle.option_store.proofs.Meaning.{stated_at, option_value_found, option_save_found}
 use Rattle.rule_index.proofs.StoreIndexes.{count_of_all}
-use Rattle.rule_matching.specs.Moment.{saved_of}
+use Rattle.rule_matching.specs.MatchState.{saved_of}
 
 -- the elements of a store of the tables are the elements that it is defined with
 pub elements_meant : (tables : Tables) (n : ℕ) → n < length tables.stores → elements_at (tab tables).stores (Some n) ≡ elements_of tables.stores n

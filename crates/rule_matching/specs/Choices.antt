@@ -13,7 +13,7 @@ use Rattle.rule_matching.specs.declared.choice.Choice.{Choice}
 use Rattle.rule_matching.specs.declared.place_memory.PlaceMemory.{PlaceMemory}
 use Rattle.rule_matching.specs.declared.taken.TakenItem.{TakenItem}
 use Rattle.rule_matching.specs.Matching.{caught_by_all, caught_by_taken, item_meaning, RemembersRight}
-use Rattle.rule_matching.specs.Moment.{content_at}
+use Rattle.rule_matching.specs.MatchState.{content_at}
 
 -- the content of each store
 abbrev pub content_of : Choice → Content

@@ -1,7 +1,7 @@
 pub mod Choices
 pub mod KnownPlaces
 pub mod Matching
-pub mod Moment
+pub mod MatchState
 pub mod PlaceMemory
 pub mod StoreMarks
 pub mod StoreValues

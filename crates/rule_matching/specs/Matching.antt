@@ -19,8 +19,8 @@ use Rattle.kmx_parts.specs.ContextItems.{pattern_of}
 use Rattle.rule_matching.specs.declared.place_memory.PlaceMemory.{PlaceMemory}
 use Rattle.rule_matching.specs.declared.taken.TakenItem.{TakenItem}
 use Rattle.rule_matching.specs.KnownPlaces.{known_place}
-use Rattle.rule_matching.specs.Moment.{MomentValue, content_at}
-use Rattle.rule_matching.specs.StoreMarks.{Marking, is_known, is_marked, marked_room}
+use Rattle.rule_matching.specs.MatchState.{MatchStateValue, content_at}
+use Rattle.rule_matching.specs.StoreMarks.{Marking, is_known, is_marked, marked_len}
 
 -- the item that is followed by `distance` items, or None if the list is not longer than that
 abbrev pub item_before : List Item → ℕ → Option Item
@@ -36,11 +36,11 @@ place_in_stated tables left store distance = option_and_then (λ item. place_of 
 
 -- if the stores of an item are known, a store with space for marks is marked exactly where it is defined with the item
 pub record IsMarkedRight (tables : Tables) (left : List Item) (marking : Marking) : Type 0 where
-  pub right : (store distance : ℕ) → is_known marking distance ≡ true → store < marked_room marking
+  pub right : (store distance : ℕ) → is_known marking distance ≡ true → store < marked_len marking
       → is_marked marking store distance ≡ is_some (place_in_stated tables left store distance)
 
 -- each known place of an item is its first place in the current content of the store, and the stores are marked right
-pub record RemembersRight (moment : MomentValue) (left : List Item) (memory : PlaceMemory) : Type 0 where
+pub record RemembersRight (moment : MatchStateValue) (left : List Item) (memory : PlaceMemory) : Type 0 where
   pub right : (store distance : ℕ) (place : Option ℕ) → known_place memory.found store distance ≡ Some place → place ≡ place_before (content_at moment) left store distance
   pub marks : IsMarkedRight moment.tables left memory.marks
 

@@ -33,8 +33,8 @@ abbrev pub is_marked : Marking → ℕ → ℕ → Bool
 is_marked marking store distance = is_marked_among marking.choice marking.marks store distance
 
 -- the number of stores with marks
-abbrev pub marked_room : Marking → ℕ
-marked_room marking = length marking.marks
+abbrev pub marked_len : Marking → ℕ
+marked_len marking = length marking.marks
 
 -- whether a store is among the holders of an item
 abbrev pub has_holder : List Holding → ℕ → Bool

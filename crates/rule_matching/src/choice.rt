@@ -1,6 +1,6 @@
 //! What the tests of all candidates of one choice share.
 
-use crate::moment::Moment;
+use crate::match_state::MatchState;
 use kmn_base::Item;
 use virtual_keys::Pressed;
 
@@ -8,7 +8,7 @@ use virtual_keys::Pressed;
 /// not change during one choice.
 #[derive(Drop)]
 pub struct Choice<'c> {
-    pub moment: &'c Moment<'c>,
+    pub moment: &'c MatchState<'c>,
     pub pressed: Pressed,
     pub left: &'c [Item],
 }

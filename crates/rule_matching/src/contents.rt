@@ -7,7 +7,7 @@ ghost use Rattle.option_store.specs.declared.options.Held.TheVariants.{Host, Sto
 ghost use Rattle.rule_model.specs.Content.{content, option_number};
 ghost use Rattle.rule_model.specs.Keyboard.{Numbered, stated};
 ghost use Rattle.rule_model.specs.Tab.{tab};
-ghost use Rattle.rule_matching.specs.Moment.{saved_of};
+ghost use Rattle.rule_matching.specs.MatchState.{saved_of};
 ghost use Rattle.rule_matching.specs.StoreValues.{elements_in};
 
 use crate::store_value::StoreValue;

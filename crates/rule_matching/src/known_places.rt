@@ -101,7 +101,7 @@ impl KnownPlaces {
     }
 
     /// Creates a memory without space for any store. Does not allocate.
-    pub fn without_room(alloc: Global) -> KnownPlaces
+    pub fn without_capacity(alloc: Global) -> KnownPlaces
         ensures unknown { (store distance : ℕ) → known_place result store distance ≡ None }
         ensures room { room result ≡ 0 }
     {

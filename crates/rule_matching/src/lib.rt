@@ -3,11 +3,11 @@
 //!
 //! Depends on `rule_model`, whose `specs` define when a rule holds; `kmx_parts`, which returns references to the parts of the
 //! file in place; `rule_index`, which looks up what the tables contain; and `option_store`, which holds the values of options.
-//! The layer above passes a `Moment` (the keyboard with the content of its stores), an `EnteredGroup` (a group with its index
+//! The layer above passes a `MatchState` (the keyboard with the content of its stores), an `EnteredGroup` (a group with its index
 //! and the key press), the last items before the caret, a `PlaceMemory`, and a `MatchedItems`. `first_held` returns the first
 //! record of the group that holds in this state, and writes what the record has caught to the `MatchedItems`.
 //!
-//! Contracts model a `Moment` as a `MomentValue`; `content_at` is the content of each store. A `Moment` contains for each store
+//! Contracts model a `MatchState` as a `MatchStateValue`; `content_at` is the content of each store. A `MatchState` contains for each store
 //! whether the platform has its words (`truths_at`), so that no condition scans words. No store is defined with a text that an
 //! option holds as a text of the host (`AreApart`), so that a condition on the elements of a store is one comparison. The
 //! memory knows which stores contain the items before the caret, with a mark for each store and distance (`specs/StoreMarks`),
@@ -28,8 +28,8 @@ mod entered_group;
 mod host_text;
 mod known_places;
 mod marked;
+mod match_state;
 mod matching;
-mod moment;
 mod place_memory;
 mod places;
 mod store_marks;
@@ -40,7 +40,7 @@ pub use caught::{MatchedItem, MatchedItems};
 pub use contents::{content, saved_of};
 pub use elements::item_caught;
 pub use entered_group::EnteredGroup;
+pub use match_state::MatchState;
 pub use matching::first_held;
-pub use moment::Moment;
 pub use place_memory::PlaceMemory;
 pub use store_value::StoreValue;

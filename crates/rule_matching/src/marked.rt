@@ -5,7 +5,7 @@ ghost use Rattle.kmn_base.specs.declared.limits.TheConstants.{WINDOW_ITEMS};
 ghost use Rattle.rule_matching.specs.Choices.{RemembersFor};
 ghost use Rattle.rule_matching.specs.Matching.{place_in_stated, IsMarkedRight};
 ghost use Rattle.rule_matching.specs.PlaceMemory.{rooms};
-ghost use Rattle.rule_matching.specs.StoreMarks.{is_known, marked_room};
+ghost use Rattle.rule_matching.specs.StoreMarks.{is_known, marked_len};
 
 use crate::choice::Choice;
 use crate::place_memory::PlaceMemory;
@@ -20,7 +20,7 @@ fn mark_distance(choice: &Choice<'_>, distance: usize, marks: &mut StoreMarks)
     requires near { distance < WINDOW_ITEMS }
     requires right { IsMarkedRight choice.now.moment.now.tables choice.now.left.now marks.old }
     ensures known { is_known marks.new distance ≡ true }
-    ensures room { marked_room marks.new ≡ marked_room marks.old }
+    ensures room { marked_len marks.new ≡ marked_len marks.old }
     ensures right { IsMarkedRight choice.now.moment.now.tables choice.now.left.now marks.new }
 {
     if marks.is_known(distance) {
@@ -37,7 +37,7 @@ fn mark_distance(choice: &Choice<'_>, distance: usize, marks: &mut StoreMarks)
 pub fn is_marked(choice: &Choice<'_>, distance: usize, store: u32, places: &mut PlaceMemory) -> bool
     requires within { distance < length choice.now.left.now }
     requires near { distance < WINDOW_ITEMS }
-    requires room { store < marked_room places.old.marks }
+    requires room { store < marked_len places.old.marks }
     requires right { RemembersFor choice.now places.old }
     ensures value { result ≡ is_some (place_in_stated choice.now.moment.now.tables choice.now.left.now store distance) }
     ensures right { RemembersFor choice.now places.new }

@@ -20,13 +20,13 @@ ghost use Rattle.kmx_parts.specs.ContextItems.{pattern_of};
 ghost use Rattle.rule_index.specs.Groups.{IsRuleIndexOf};
 ghost use Rattle.rule_matching.specs.Choices.{all_caught, caught_in, content_of, meaning_in, record_in, RemembersFor};
 ghost use Rattle.rule_matching.specs.Matching.{allowed_catches, catch_of, compares_store, is_allowed, item_before, item_meaning, looks_at_store, RemembersRight};
-ghost use Rattle.rule_matching.specs.Moment.{content_at, held_record, is_held, AreShort};
+ghost use Rattle.rule_matching.specs.MatchState.{content_at, held_record, is_held, AreShort};
 ghost use Rattle.rule_matching.specs.PlaceMemory.{rooms};
 
 use crate::caught::MatchedItems;
 use crate::choice::Choice;
 use crate::entered_group::EnteredGroup;
-use crate::moment::Moment;
+use crate::match_state::MatchState;
 use crate::place_memory::PlaceMemory;
 use crate::places::{catch_taken, is_in_store, item_before, place_taken};
 use crate::taken::{TakenItem, item_taken};
@@ -34,7 +34,7 @@ use arrayvec::ArrayVec;
 use kmn_base::limits::CONTEXT_ITEMS;
 use kmn_base::{Element, Item, RuleKey};
 use kmx_parts::{ContextItem, FileRule};
-use rule_index::wanted_classes;
+use rule_index::matching_classes;
 use rule_model::{is_element, is_item, is_same};
 use virtual_keys::Pressed;
 
@@ -120,7 +120,7 @@ fn taken_by(
 
 /// Returns whether a condition on a system option is true. The function is not inlined, so that `stands` keeps few arms.
 #[inline(never)]
-fn stands_in_system(moment: &Moment<'_>, item: ContextItem) -> bool
+fn stands_in_system(moment: &MatchState<'_>, item: ContextItem) -> bool
     requires { compares_store item ≡ false }
     ensures { result ≡ is_true (content_at moment.now) (item_meaning moment.now.tables.stores item) }
 {
@@ -137,7 +137,7 @@ fn stands_in_system(moment: &Moment<'_>, item: ContextItem) -> bool
 
 /// Returns whether a condition or `nul` of a context is satisfied. A `nul` is satisfied if the list has no more items than the
 /// context takes.
-fn stands(moment: &Moment<'_>, item: ContextItem, is_whole: bool) -> bool
+fn stands(moment: &MatchState<'_>, item: ContextItem, is_whole: bool) -> bool
     ensures { result ≡ is_allowed (content_at moment.now) is_whole (item_meaning moment.now.tables.stores item) }
 {
     match item {
@@ -245,7 +245,7 @@ fn held_record<'g>(
 /// record holds. A position that was looked up is remembered during the choice. What was known about positions before is forgotten
 /// first, so the content of `places` does not matter to the caller. Its capacity is unchanged.
 pub fn first_held<'g>(
-    moment: &Moment<'_>,
+    moment: &MatchState<'_>,
     entered: &EnteredGroup<'_, 'g>,
     left: &[Item],
     places: &mut PlaceMemory,
@@ -268,7 +268,7 @@ pub fn first_held<'g>(
         left,
     };
     let mut taken = ArrayVec::new();
-    let wanted = wanted_classes(entered.press, left);
+    let wanted = matching_classes(entered.press, left);
     let mut candidates = entered.records.candidates(&wanted);
     while let Some(number) = candidates.next() {
         if let Some(rule) = held_record(&choice, entered, number, places, &mut taken) {

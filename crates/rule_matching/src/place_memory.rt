@@ -32,13 +32,13 @@ impl PlaceMemory {
     }
 
     /// Creates a memory without space for any store. Does not allocate.
-    pub fn without_room(alloc: Global) -> PlaceMemory
+    pub fn without_capacity(alloc: Global) -> PlaceMemory
         ensures unknown { KnowsNothing result }
         ensures rooms { rooms result ≡ (0, 0) }
     {
         PlaceMemory {
-            found: KnownPlaces::without_room(alloc),
-            marks: StoreMarks::without_room(alloc),
+            found: KnownPlaces::without_capacity(alloc),
+            marks: StoreMarks::without_capacity(alloc),
         }
     }
 

@@ -5,7 +5,7 @@
 
 ghost use Rattle.std.specs.Prelude.{◌≡◌, ◌+◌, ◌≢◌, ◌⊎◌, ◌≤◌, ◌<◌, ◌||◌, ℕ, true, false, length, IfOk, nat_lt};
 ghost use Rattle.kmn_base.specs.declared.limits.TheConstants.{STORES, WINDOW_ITEMS};
-ghost use Rattle.rule_matching.specs.StoreMarks.{has_distance, has_holder, is_known, is_marked, is_marked_among, is_marked_by, marked_room, AreMarkedUntil};
+ghost use Rattle.rule_matching.specs.StoreMarks.{has_distance, has_holder, is_known, is_marked, is_marked_among, is_marked_by, marked_len, AreMarkedUntil};
 
 use kmn_base::Memory;
 use kmn_base::limits::WINDOW_ITEMS;
@@ -122,7 +122,7 @@ impl StoreMarks {
     pub fn new(alloc: Global, stores: usize) -> Result<StoreMarks, Memory>
         requires { stores ≤ STORES + 2 }
         ensures unknown { IfOk result (λ marks. (distance : ℕ) → is_known marks distance ≡ false) }
-        ensures room { IfOk result (λ marks. marked_room marks ≡ stores) }
+        ensures room { IfOk result (λ marks. marked_len marks ≡ stores) }
     {
         Ok(StoreMarks {
             choice: 0,
@@ -132,9 +132,9 @@ impl StoreMarks {
     }
 
     /// Creates marks without space for any store. Does not allocate.
-    pub fn without_room(alloc: Global) -> StoreMarks
+    pub fn without_capacity(alloc: Global) -> StoreMarks
         ensures unknown { (distance : ℕ) → is_known result distance ≡ false }
-        ensures room { marked_room result ≡ 0 }
+        ensures room { marked_len result ≡ 0 }
     {
         StoreMarks {
             choice: 0,
@@ -146,7 +146,7 @@ impl StoreMarks {
     /// Resets to the first choice, at which no store has a mark.
     fn begin_anew(&mut self)
         ensures unknown { (distance : ℕ) → is_known self.new distance ≡ false }
-        ensures room { marked_room self.new ≡ marked_room self.old }
+        ensures room { marked_len self.new ≡ marked_len self.old }
     {
         self.known = 0;
         self.choice = 0;
@@ -156,7 +156,7 @@ impl StoreMarks {
     /// Begins the next choice, at which nothing is known. After the last choice number, begins again with the first.
     pub fn forget(&mut self)
         ensures unknown { (distance : ℕ) → is_known self.new distance ≡ false }
-        ensures room { marked_room self.new ≡ marked_room self.old }
+        ensures room { marked_len self.new ≡ marked_len self.old }
     {
         match self.choice.checked_add(1) {
             Some(choice) => {
@@ -169,7 +169,7 @@ impl StoreMarks {
 
     /// Returns whether there are marks for a store.
     pub fn has_room(&self, store: u32) -> bool
-        ensures { result ≡ nat_lt store (marked_room self.now) }
+        ensures { result ≡ nat_lt store (marked_len self.now) }
     {
         (store as usize) < self.marks.len()
     }
@@ -200,9 +200,9 @@ impl StoreMarks {
         requires unknown { is_known self.old distance ≡ false }
         ensures known { is_known self.new distance ≡ true }
         ensures others_known { (d : ℕ) → d ≢ distance → is_known self.new d ≡ is_known self.old d }
-        ensures marked { (store : ℕ) → store < marked_room self.old → is_marked self.new store distance ≡ has_holder holders.now store }
+        ensures marked { (store : ℕ) → store < marked_len self.old → is_marked self.new store distance ≡ has_holder holders.now store }
         ensures others_marked { (store d : ℕ) → d ≢ distance → is_marked self.new store d ≡ is_marked self.old store d }
-        ensures room { marked_room self.new ≡ marked_room self.old }
+        ensures room { marked_len self.new ≡ marked_len self.old }
     {
         mark_holders(self.marks.as_mut_slice(), self.choice, distance, holders);
         self.known = with_distance(self.known, distance);

@@ -6,7 +6,7 @@
 //! (`program_has_its_tables` of `compile_laws`). Sorting the n records of a group costs O(n log n) and does not allocate.
 
 ghost use Rattle.std.specs.List.Sorted.{IsPermutation, IsSortedBy};
-ghost use Rattle.compile_laws.specs.Compiles.{stands_before, IsOrderedGroup, AreOrderedGroups};
+ghost use Rattle.compile_laws.specs.Compiles.{precedes, IsOrderedGroup, AreOrderedGroups};
 ghost use Rattle.rule_order.specs.Order.{IsOrdered};
 
 use rule_model::{Group, Rule, Tables};
@@ -15,7 +15,7 @@ use std::cmp::Reverse;
 /// Sorts records.
 fn order_records(records: &mut [Rule])
     ensures records { IsPermutation records.old records.new }
-    ensures in_order { IsSortedBy stands_before records.new }
+    ensures in_order { IsSortedBy precedes records.new }
 {
     records.sort_unstable_by_key(|record| {
         (Reverse(record.context.len()), record.line, record.place)

@@ -11,7 +11,7 @@ use Rattle.rule_model.specs.System.{system_options}
 use Rattle.rule_model.specs.Tab.{tab, tab_options, with_options}
 use Rattle.indexed_tables.specs.OptionFlags.{with_flags}
 use Rattle.indexed_tables.proofs.OptionFlags.{flag_is}
-use Rattle.rule_shadow.specs.Flags.{TellOptions}
+use Rattle.rule_shadow.specs.Flags.{AreOptionFlags}
 use Rattle.rule_shadow.specs.Places.{is_fixed}
 
 -- a store is an option exactly where it is listed
@@ -34,7 +34,7 @@ behind_listed options k (suc (suc n)) (suc (suc m)) o [] h = let e : true ≡ na
 behind_listed options k zero m o (s ∷ ss) h = absurd (omega (arith, h))
 behind_listed options k (suc n) m o (s ∷ ss) h = behind_listed options (k + 1) n m o ss (omega (arith, h))
 
-pub fixed_below : (tables : Tables) (flags : List Bool) (store : ℕ) → TellOptions tables flags → store < length tables.stores
+pub fixed_below : (tables : Tables) (flags : List Bool) (store : ℕ) → AreOptionFlags tables flags → store < length tables.stores
     → not (unwrap_or (slice_get flags store) false) ≡ is_fixed tables store
 unfolding tab
 fixed_below tables flags store told below =
@@ -46,5 +46,5 @@ unfolding tab
 fixed_behind tables store past = sym (behind_listed (tab_options tables) 0 store (store - length tables.stores) (options_before store (tab tables).stores) tables.stores (omega (arith, past)))
 
 -- setting the flags of the options in a list of `false` produces option flags
-pub marked_tell : (tables : Tables) (count : ℕ) → length tables.stores ≤ count → TellOptions tables (with_flags (replicate count false) (tab_options tables))
+pub marked_tell : (tables : Tables) (count : ℕ) → length tables.stores ≤ count → AreOptionFlags tables (with_flags (replicate count false) (tab_options tables))
 marked_tell tables count enough store below = flag_is (tab_options tables) count store (omega (arith, enough, below))

@@ -5,5 +5,5 @@ use Rattle.rule_model.specs.declared.tables.Tables.{Tables}
 use Rattle.rule_model.specs.Tab.{tab_options}
 
 -- the flag of each store is set exactly where some item uses the store as an option
-abbrev pub TellOptions : Tables → List Bool → Type 0
-TellOptions tables flags = (store : ℕ) → store < length tables.stores → unwrap_or (slice_get flags store) false ≡ list_any (nat_eq store) (tab_options tables)
+abbrev pub AreOptionFlags : Tables → List Bool → Type 0
+AreOptionFlags tables flags = (store : ℕ) → store < length tables.stores → unwrap_or (slice_get flags store) false ≡ list_any (nat_eq store) (tab_options tables)

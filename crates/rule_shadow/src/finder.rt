@@ -73,7 +73,7 @@ impl<'a> Model for Finder<'a> {
     ghost use Rattle.rule_model.specs.declared.tables.Tables.{Tables};
     ghost use Rattle.kmx_format.specs.Writable.{IsWritable};
     ghost use Rattle.indexed_tables.specs.Numbers.{AreSetsOf};
-    ghost use Rattle.rule_shadow.specs.Flags.{TellOptions};
+    ghost use Rattle.rule_shadow.specs.Flags.{AreOptionFlags};
 
     ghost Value = { Tables };
 
@@ -81,7 +81,7 @@ impl<'a> Model for Finder<'a> {
 
     ghost invariant = { λ finder.
         IsWritable finder.tables.now
-        × TellOptions finder.tables.now finder.flags.items
+        × AreOptionFlags finder.tables.now finder.flags.items
         × AreSetsOf finder.tables.now.stores finder.sets };
 }
 

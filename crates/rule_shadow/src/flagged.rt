@@ -4,7 +4,7 @@ ghost use Rattle.std.specs.Prelude.{◌≡◌, option_copied, slice_get, is_some
 ghost use Rattle.rule_model.specs.Match.{place_of};
 ghost use Rattle.rule_model.specs.Tab.{elements_of};
 ghost use Rattle.indexed_tables.specs.Numbers.{AreSetsOf};
-ghost use Rattle.rule_shadow.specs.Flags.{TellOptions};
+ghost use Rattle.rule_shadow.specs.Flags.{AreOptionFlags};
 ghost use Rattle.rule_shadow.specs.Places.{is_fixed};
 
 use indexed_tables::{StoreSets, flag_at, is_among};
@@ -25,14 +25,14 @@ impl<'a> Model for FlaggedTables<'a> {
     ghost use Rattle.std.specs.Prelude.{IfSome};
     ghost use Rattle.rule_model.specs.declared.tables.Tables.{Tables};
     ghost use Rattle.indexed_tables.specs.Numbers.{AreSetsOf};
-    ghost use Rattle.rule_shadow.specs.Flags.{TellOptions};
+    ghost use Rattle.rule_shadow.specs.Flags.{AreOptionFlags};
 
     ghost Value = { Tables };
 
     ghost view = { λ flagged. flagged.tables.now };
 
     ghost invariant = { λ flagged.
-        TellOptions flagged.tables.now flagged.flags.now
+        AreOptionFlags flagged.tables.now flagged.flags.now
         × IfSome flagged.sets (λ sets. AreSetsOf flagged.tables.now.stores sets.now) };
 }
 
@@ -43,7 +43,7 @@ impl<'a> FlaggedTables<'a> {
         flags: &'a [bool],
         sets: &'a StoreSets,
     ) -> FlaggedTables<'a>
-        requires flags { TellOptions tables.now flags.now }
+        requires flags { AreOptionFlags tables.now flags.now }
         requires sets { AreSetsOf tables.now.stores sets.now }
         ensures { result ≡ tables.now }
     {
@@ -56,7 +56,7 @@ impl<'a> FlaggedTables<'a> {
 
     /// Creates tables with only their flags.
     pub(crate) fn without_sets(tables: &'a Tables, flags: &'a [bool]) -> FlaggedTables<'a>
-        requires { TellOptions tables.now flags.now }
+        requires { AreOptionFlags tables.now flags.now }
         ensures { result ≡ tables.now }
     {
         FlaggedTables {

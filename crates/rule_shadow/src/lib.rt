@@ -33,4 +33,4 @@ mod subject;
 pub use cert::Cert;
 pub use finder::{Finder, covers, find};
 pub use finding::Found;
-pub use law::{covered_records_never_go_first, covered_rules_are_dead, found_records_hold_before};
+pub use law::{covered_records_never_fire, covered_rules_are_dead, found_records_hold_before};

@@ -94,8 +94,8 @@ abbrev pub begins_no_group : Stated → BeginDef → Bool
 begins_no_group stated start = not (is_named stated.groups start.group)
 
 -- C07: `outs` or `$` in a store statement names a store that no earlier statement defines
-abbrev pub puts_later_store : List (List ℕ) → SrcItem → Bool
-puts_later_store before item = lacks before (store_put item)
+abbrev pub uses_later_store : List (List ℕ) → SrcItem → Bool
+uses_later_store before item = lacks before (store_put item)
 
 -- whether a statement is the second match or nomatch, given whether there is a match and whether there is a nomatch before it
 abbrev pub is_second : Bool → Bool → RuleKind → Bool
@@ -117,7 +117,7 @@ begin_refusal stated before start = at_line start.line (begin_code stated (is_be
 -- the code of a store statement after stores with these names: its name is checked first, then its items
 abbrev pub store_item_code : Stated → List (List ℕ) → SrcItem → Option Code
 store_item_code stated before item =
-    broken ((C05, names_no_store stated item) ∷ (C07, puts_later_store before item) ∷ [])
+    broken ((C05, names_no_store stated item) ∷ (C07, uses_later_store before item) ∷ [])
 
 abbrev pub store_code : Stated → List (List ℕ) → StoreDef → Option Code
 store_code stated before store =

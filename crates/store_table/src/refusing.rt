@@ -3,7 +3,7 @@
 ghost use Rattle.std.specs.Prelude.{◌≡◌, IfOk, [], ◌||◌, option_to_list, if◌then◌else◌};
 ghost use Rattle.rule_model.specs.Src.{is_on_match, is_on_nomatch};
 ghost use Rattle.store_table.specs.First.{first_code, first_of};
-ghost use Rattle.store_table.specs.Names.{begin_code, begin_refusal, group_code, group_refusal, is_second, is_store_again, lacks, names_refusal, puts_later_store, rule_code, rule_item_code, rule_refusal, rules_refusal, stated, store_code, store_item_code, store_named, store_refusal, group_named};
+ghost use Rattle.store_table.specs.Names.{begin_code, begin_refusal, group_code, group_refusal, is_second, is_store_again, lacks, names_refusal, uses_later_store, rule_code, rule_item_code, rule_refusal, rules_refusal, stated, store_code, store_item_code, store_named, store_refusal, group_named};
 
 use crate::first::{at_line, earlier};
 use crate::name_table::NameTable;
@@ -31,8 +31,8 @@ fn names_no_store(stores: &NameTable, item: &SrcItem) -> bool
 }
 
 /// Returns whether an `outs` or `$` item names a store that isn't among these.
-fn puts_later_store(before: &NameTable, item: &SrcItem) -> bool
-    ensures { result ≡ puts_later_store before.now item.now }
+fn uses_later_store(before: &NameTable, item: &SrcItem) -> bool
+    ensures { result ≡ uses_later_store before.now item.now }
 {
     match item {
         SrcItem::Outs(name) => !before.has(name.as_slice()),
@@ -55,7 +55,7 @@ fn store_item_code(stated: &Stated, before: &NameTable, item: &SrcItem) -> Optio
     ensures { result ≡ store_item_code stated.now before.now item.now }
 {
     let nowhere = names_no_store(&stated.stores, item);
-    let later = puts_later_store(before, item);
+    let later = uses_later_store(before, item);
     if nowhere {
         Some(Code::C05)
     } else if later {

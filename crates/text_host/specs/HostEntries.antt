@@ -11,7 +11,7 @@ use Rattle.rule_model.specs.declared.script.Entry.TheVariants as one_field
 use Rattle.play_script.specs.Entries.{script_text, with_found, line_found}
 use Rattle.play_script.specs.Lines.{text_lines}
 use Rattle.play_script.specs.Presses.{press_with}
-use Rattle.play_script.specs.Words.{is_closing, without_blanks, first_word, behind_word, words, number}
+use Rattle.play_script.specs.Words.{is_closing, without_blanks, first_word, rest_after_word, words, number}
 use Rattle.text_host.specs.declared.entries.HostEntry.{HostEntry}
 use Rattle.text_host.specs.declared.entries.HostEntry.TheVariants.{Open, Field, Preview, Act, Expect}
 use Rattle.text_host.specs.declared.lines.HostLineKind.{HostLineKind}
@@ -36,7 +36,7 @@ complete line entry events (c ∷ rest) = breaks line P08
 -- the rest of a line after `field`: a number
 abbrev pub field_part : ℕ → ℕ → List ℕ → Result LinePart Refusal
 field_part line events text =
-    and_then (needed line P05 (number (first_word text))) (λ field. complete line (Field line field) events (behind_word text))
+    and_then (needed line P05 (number (first_word text))) (λ field. complete line (Field line field) events (rest_after_word text))
 
 -- the bracket with which a text begins: its content up to the first ], and the text after that ]
 abbrev pub bracket : List ℕ → Option (List ℕ × List ℕ)
@@ -76,9 +76,9 @@ kind_of word =
 -- a line without leading blanks, after a number of events and previews: its content, or the first P code that it breaks
 abbrev pub kind_part : List (List ℕ) → ℕ → ℕ → Option HostLineKind → List ℕ → Result LinePart Refusal
 kind_part dictionary line events None text = other_part dictionary line events text
-kind_part dictionary line events (Some kind.Open) text = complete line (Open line) events (behind_word text)
-kind_part dictionary line events (Some kind.Field) text = field_part line events (behind_word text)
-kind_part dictionary line events (Some kind.Preview) text = preview_part dictionary line events (behind_word text)
+kind_part dictionary line events (Some kind.Open) text = complete line (Open line) events (rest_after_word text)
+kind_part dictionary line events (Some kind.Field) text = field_part line events (rest_after_word text)
+kind_part dictionary line events (Some kind.Preview) text = preview_part dictionary line events (rest_after_word text)
 
 -- a line with or without leading blanks: its content, or the first P code that it breaks
 abbrev pub line_part : List (List ℕ) → ℕ → ℕ → List ℕ → Result LinePart Refusal
@@ -95,13 +95,13 @@ one_more line fields = if nat_lt fields FIELDS then Ok (fields + 1) else breaks 
 
 -- the number of open fields after a line with these entries, or H1 or H2: all entries of a line are of the same kind, so the first
 -- entry decides; if any field is open, field 1 is open
-abbrev pub fields_behind : ℕ → List HostEntry → Result ℕ Refusal
-fields_behind fields [] = Ok fields
-fields_behind fields (Open line ∷ more) = one_more line fields
-fields_behind fields (Field line field ∷ more) = if_open line field fields
-fields_behind fields (Preview line press ∷ more) = if_open line 1 fields
-fields_behind fields (Act line event ∷ more) = if_open line 1 fields
-fields_behind fields (Expect line text ∷ more) = if_open line 1 fields
+abbrev pub fields_after : ℕ → List HostEntry → Result ℕ Refusal
+fields_after fields [] = Ok fields
+fields_after fields (Open line ∷ more) = one_more line fields
+fields_after fields (Field line field ∷ more) = if_open line field fields
+fields_after fields (Preview line press ∷ more) = if_open line 1 fields
+fields_after fields (Act line event ∷ more) = if_open line 1 fields
+fields_after fields (Expect line text ∷ more) = if_open line 1 fields
 
 -- the script before its first line: no entries, no events and no open fields
 abbrev pub first_script : HostScript
@@ -110,7 +110,7 @@ first_script = record { entries = []; events = 0; fields = 0 }
 -- a script with the content of a line appended, if the open fields allow the line
 abbrev pub with_part : HostScript → LinePart → Result HostScript Refusal
 with_part s part =
-    and_then (fields_behind s.fields part.entries) (λ fields. Ok (record { entries = s.entries ++ part.entries; events = part.events; fields = fields }))
+    and_then (fields_after s.fields part.entries) (λ fields. Ok (record { entries = s.entries ++ part.entries; events = part.events; fields = fields }))
 
 -- a script after the next line is read
 abbrev pub with_line : List (List ℕ) → ℕ → List ℕ → HostScript → Result HostScript Refusal

@@ -9,8 +9,8 @@ use crate::entries::HostEntry;
 use kmn_base::limits::SCRIPT_EVENTS;
 use kmn_base::{Code, Memory, Seq};
 use play_script::{
-    Reader, ScriptError, behind_word, first_piece, first_word, needed_number, needed_press,
-    nothing_more, read_line, refused, without_blanks,
+    Reader, ScriptError, first_piece, first_word, needed_number, needed_press, nothing_more,
+    read_line, refused, rest_after_word, without_blanks,
 };
 use rule_model::Entry;
 use std::alloc::Global;
@@ -70,7 +70,7 @@ fn field_part(alloc: Global, line: u32, events: usize, text: &[u8]) -> Result<Li
 {
     let field = needed_number(line, text)?;
     let entry = HostEntry::Field { line, field };
-    complete(alloc, line, entry, events, behind_word(text))
+    complete(alloc, line, entry, events, rest_after_word(text))
 }
 
 /// Returns the content of the bracket with which a text begins, and the text after the bracket, or `None` without a bracket.
@@ -169,7 +169,7 @@ pub(crate) fn line_part(
     ensures { Answers (line_part names.now line events text.now) result }
 {
     let text = without_blanks(text);
-    let rest = behind_word(text);
+    let rest = rest_after_word(text);
     match kind_of(first_word(text)) {
         None => other_part(alloc, names, line, events, text),
         Some(HostLineKind::Open) => complete(alloc, line, HostEntry::Open { line }, events, rest),

@@ -5,7 +5,7 @@ ghost use Rattle.kmn_base.specs.Answers.{and_then};
 ghost use Rattle.kmn_base.specs.declared.limits.TheConstants.{TEXT_BYTES};
 ghost use Rattle.play_script.specs.Lines.{text_lines};
 ghost use Rattle.play_script.specs.Answers.{Answers, Leaves};
-ghost use Rattle.text_host.specs.HostEntries.{if_open, one_more, fields_behind, first_script, with_part, with_line, with_lines, host_entries};
+ghost use Rattle.text_host.specs.HostEntries.{if_open, one_more, fields_after, first_script, with_part, with_line, with_lines, host_entries};
 
 use crate::entries::HostEntry;
 use crate::lines::{LinePart, line_part};
@@ -47,8 +47,8 @@ fn one_more(line: u32, fields: u32) -> Result<u32, ScriptError>
 }
 
 /// Returns the number of open fields after a line, if `fields` are open before it. Errors: H1 or H2 if they do not allow the line.
-fn fields_behind(fields: u32, entries: &[HostEntry]) -> Result<u32, ScriptError>
-    ensures { Answers (fields_behind fields entries.now) result }
+fn fields_after(fields: u32, entries: &[HostEntry]) -> Result<u32, ScriptError>
+    ensures { Answers (fields_after fields entries.now) result }
 {
     match entries {
         [] => Ok(fields),
@@ -76,7 +76,7 @@ impl HostScript {
     fn take(&mut self, part: LinePart) -> Result<(), ScriptError>
         ensures { Leaves (with_part self.old part) self.new result }
     {
-        self.fields = fields_behind(self.fields, part.entries.as_slice())?;
+        self.fields = fields_after(self.fields, part.entries.as_slice())?;
         self.events = part.events;
         self.entries.append(part.entries)?;
         Ok(())

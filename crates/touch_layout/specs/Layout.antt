@@ -7,7 +7,7 @@ use Rattle.kmn_base.specs.declared.codes.Code.{Code}
 use Rattle.kmn_base.specs.declared.codes.Code.TheVariants.{T1, T2, T3, T4, T5, T6, T7}
 use Rattle.kmn_base.specs.declared.limits.TheConstants.{TEXT_BYTES}
 use Rattle.kmn_base.specs.Names.{same_name}
-use Rattle.kmn_base.specs.Texts.{without_mark}
+use Rattle.kmn_base.specs.Texts.{without_bom}
 use Rattle.serde_json.specs.Data.{Data}
 use Rattle.serde_json.specs.Read.{read}
 use Rattle.rule_model.specs.declared.tables.Tables.{Tables}
@@ -84,7 +84,7 @@ read_layout (Some root) = shaped_layout (layout_of root)
 abbrev pub layout_in : List ℕ → Result Layout LayoutFault
 layout_in bytes =
     if nat_lt TEXT_BYTES (length bytes) then Err (fault T7 whole_layout)
-    else read_layout (value_of (without_mark bytes))
+    else read_layout (value_of (without_bom bytes))
 
 -- the first rule that a layout breaks: the rule of layers precedes the rules of keys
 abbrev pub rules_fault : (List ℕ → Bool) → Result Layout LayoutFault → Option LayoutFault

@@ -26,7 +26,7 @@ use crate::ruled::recorded_names;
 use indexed_tables::IndexedTables;
 use indexmap::IndexSet;
 use kmn_base::limits::TEXT_BYTES;
-use kmn_base::texts::without_mark;
+use kmn_base::texts::without_bom;
 use kmn_base::{Code, Memory};
 use rule_model::{Group, Tables};
 use serde_json::Value;
@@ -189,7 +189,7 @@ pub fn check_layout(alloc: Global, bytes: &[u8], tables: &Tables) -> Result<u32,
             place: whole_layout(),
         }));
     }
-    let Some(root) = read_value(alloc, without_mark(bytes))? else {
+    let Some(root) = read_value(alloc, without_bom(bytes))? else {
         return Err(LayoutError::Refused(LayoutFault {
             code: Code::T1,
             place: whole_layout(),

@@ -19,10 +19,10 @@ rest tables entries = Give (host_ending tables entries)
 pub returns-in-Ok : goal.returns-in-Ok
 returns-in-Ok g c =
     let tables : Tables = tables_of c.args.file.now in
-    does_behind itself (host_script_work (tab tables).dictionary c.args.keys.now) (rest tables) g.F.Folder _ _ _ c.in-Ok.entries g.S.Sink _ _ c.tell_hosted.result c.in-Ok.ensures
-    (hosts_entries tables c.as_slice.result.now c.in-Ok.entries g.F.Folder _ g.S.Sink _ _ c.tell_hosted.result c.as_slice.ensures c.tell_hosted.ensures)
+    does_behind itself (host_script_work (tab tables).dictionary c.args.keys.now) (rest tables) g.F.Folder _ _ _ c.in-Ok.entries g.S.Sink _ _ c.print_host_play.result c.in-Ok.ensures
+    (hosts_entries tables c.as_slice.result.now c.in-Ok.entries g.F.Folder _ g.S.Sink _ _ c.print_host_play.result c.as_slice.ensures c.print_host_play.ensures)
 
 pub returns-in-Err : goal.returns-in-Err
 returns-in-Err g c =
     let tables : Tables = tables_of c.args.file.now in
-    does_stopped itself (host_script_work (tab tables).dictionary c.args.keys.now) (rest tables) g.F.Folder _ _ c.in-Err.stop g.S.Sink _ _ c.tell_stop.result c.in-Err.ensures c.tell_stop.ensures
+    does_stopped itself (host_script_work (tab tables).dictionary c.args.keys.now) (rest tables) g.F.Folder _ _ c.in-Err.stop g.S.Sink _ _ c.print_stop.result c.in-Err.ensures c.print_stop.ensures

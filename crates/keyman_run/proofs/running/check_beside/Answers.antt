@@ -7,9 +7,9 @@ use Rattle.keyman_run.proofs.running.check_beside.Goals as goal
 
 pub returns-in-Ok : goal.returns-in-Ok
 returns-in-Ok g c =
-    does_behind itself (keys_work c.args.tables.now c.args.layout.now) count_behind g.F.Folder _ _ _ c.in-Ok.count g.S.Sink _ _ c.tell_made.result c.in-Ok.ensures
-    (does_sound c.in-Ok.count g.F.Folder _ g.S.Sink _ _ c.tell_made.result (tells_made _ _ _ _ _ _ _ c.tell_made.ensures c.sound_line.ensures))
+    does_behind itself (keys_work c.args.tables.now c.args.layout.now) count_behind g.F.Folder _ _ _ c.in-Ok.count g.S.Sink _ _ c.print_result.result c.in-Ok.ensures
+    (does_sound c.in-Ok.count g.F.Folder _ g.S.Sink _ _ c.print_result.result (tells_made _ _ _ _ _ _ _ c.print_result.ensures c.sound_line.ensures))
 
 pub returns-in-Err : goal.returns-in-Err
 returns-in-Err g c =
-    does_stopped itself (keys_work c.args.tables.now c.args.layout.now) count_behind g.F.Folder _ _ c.in-Err.stop g.S.Sink _ _ c.tell_stop.result c.in-Err.ensures c.tell_stop.ensures
+    does_stopped itself (keys_work c.args.tables.now c.args.layout.now) count_behind g.F.Folder _ _ c.in-Err.stop g.S.Sink _ _ c.print_stop.result c.in-Err.ensures c.print_stop.ensures

@@ -13,5 +13,5 @@ returns-in-Ok g c =
 
 pub returns-in-Err : goal.returns-in-Err
 returns-in-Err g c =
-    does_as (and_then (compiled_work c.args.source.now) (check_behind c.args.layout.now)) (layout_work c.args.source.now c.args.layout.now) g.F.Folder _ _ g.S.Sink _ _ c.tell_stop.result (layout_in_steps c.args.source.now c.args.layout.now)
-    (does_stopped itself (compiled_work c.args.source.now) (check_behind c.args.layout.now) g.F.Folder _ _ c.in-Err.stop g.S.Sink _ _ c.tell_stop.result c.in-Err.ensures.gives c.tell_stop.ensures)
+    does_as (and_then (compiled_work c.args.source.now) (check_behind c.args.layout.now)) (layout_work c.args.source.now c.args.layout.now) g.F.Folder _ _ g.S.Sink _ _ c.print_stop.result (layout_in_steps c.args.source.now c.args.layout.now)
+    (does_stopped itself (compiled_work c.args.source.now) (check_behind c.args.layout.now) g.F.Folder _ _ c.in-Err.stop g.S.Sink _ _ c.print_stop.result c.in-Err.ensures.gives c.print_stop.ensures)

@@ -21,10 +21,10 @@ pub returns-in-Ok-write : goal.returns-in-Ok-write
 returns-in-Ok-write g c =
     let line : List ℕ = compiled_line c.in-Ok.compiled in
     let bytes : List ℕ = c.in-Ok.compiled.bytes in
-    does_as (and_then (compiled_work c.args.source.now) (rest c.args.file.now)) (compile_work c.args.source.now c.args.file.now) g.F.Folder _ _ g.S.Sink _ _ c.tell_made.result (file_behind c.args.source.now (rest c.args.file.now))
-    (does_behind itself (compiled_work c.args.source.now) (rest c.args.file.now) g.F.Folder _ _ _ c.in-Ok.compiled g.S.Sink _ _ c.tell_made.result c.in-Ok.ensures.gives
-    (does_written status.Done line c.args.file.now bytes c.as_slice.result.now g.F.Folder _ _ g.S.Sink _ _ c.tell_made.result _
-    c.as_slice.ensures c.in-Ok-write.ensures.counts c.in-Ok-write.ensures.told c.in-Ok-write.ensures.writes (tells_made _ _ _ _ _ _ _ c.tell_made.ensures c.compiled_line.ensures)))
+    does_as (and_then (compiled_work c.args.source.now) (rest c.args.file.now)) (compile_work c.args.source.now c.args.file.now) g.F.Folder _ _ g.S.Sink _ _ c.print_result.result (file_behind c.args.source.now (rest c.args.file.now))
+    (does_behind itself (compiled_work c.args.source.now) (rest c.args.file.now) g.F.Folder _ _ _ c.in-Ok.compiled g.S.Sink _ _ c.print_result.result c.in-Ok.ensures.gives
+    (does_written status.Done line c.args.file.now bytes c.as_slice.result.now g.F.Folder _ _ g.S.Sink _ _ c.print_result.result _
+    c.as_slice.ensures c.in-Ok-write.ensures.counts c.in-Ok-write.ensures.told c.in-Ok-write.ensures.writes (tells_made _ _ _ _ _ _ _ c.print_result.ensures c.compiled_line.ensures)))
 
 pub returns-in-Ok : goal.returns-in-Ok
 returns-in-Ok g c =
@@ -38,5 +38,5 @@ returns-in-Ok g c =
 
 pub returns : goal.returns
 returns g c =
-    does_as (and_then (compiled_work c.args.source.now) (rest c.args.file.now)) (compile_work c.args.source.now c.args.file.now) g.F.Folder _ _ g.S.Sink _ _ c.tell_stop.result (file_behind c.args.source.now (rest c.args.file.now))
-    (does_stopped itself (compiled_work c.args.source.now) (rest c.args.file.now) g.F.Folder _ _ c.in-Err.stop g.S.Sink _ _ c.tell_stop.result c.in-Err.ensures.gives c.tell_stop.ensures)
+    does_as (and_then (compiled_work c.args.source.now) (rest c.args.file.now)) (compile_work c.args.source.now c.args.file.now) g.F.Folder _ _ g.S.Sink _ _ c.print_stop.result (file_behind c.args.source.now (rest c.args.file.now))
+    (does_stopped itself (compiled_work c.args.source.now) (rest c.args.file.now) g.F.Folder _ _ c.in-Err.stop g.S.Sink _ _ c.print_stop.result c.in-Err.ensures.gives c.print_stop.ensures)

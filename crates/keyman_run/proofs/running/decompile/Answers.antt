@@ -20,9 +20,9 @@ rest source text = Give (decompile_ending source text)
 
 pub returns-in-Ok-write-clause-does : goal.returns-in-Ok-write-clause-does
 returns-in-Ok-write-clause-does g c =
-    does_behind itself (text_work c.args.file.now) (rest c.args.source.now) g.F.Folder _ _ _ c.in-Ok.text g.S.Sink _ _ c.tell_made.result c.in-Ok.ensures.gives
-    (does_written status.Done (decompiled_line c.in-Ok.text) c.args.source.now c.in-Ok.text c.as_slice.result.now g.F.Folder _ _ g.S.Sink _ _ c.tell_made.result _
-    c.as_slice.ensures c.in-Ok-write.ensures.counts c.in-Ok-write.ensures.told c.in-Ok-write.ensures.writes (tells_made _ _ _ _ _ _ _ c.tell_made.ensures c.decompiled_line.ensures))
+    does_behind itself (text_work c.args.file.now) (rest c.args.source.now) g.F.Folder _ _ _ c.in-Ok.text g.S.Sink _ _ c.print_result.result c.in-Ok.ensures.gives
+    (does_written status.Done (decompiled_line c.in-Ok.text) c.args.source.now c.in-Ok.text c.as_slice.result.now g.F.Folder _ _ g.S.Sink _ _ c.print_result.result _
+    c.as_slice.ensures c.in-Ok-write.ensures.counts c.in-Ok-write.ensures.told c.in-Ok-write.ensures.writes (tells_made _ _ _ _ _ _ _ c.print_result.ensures c.decompiled_line.ensures))
 
 pub returns-in-Ok-write-clause-means : goal.returns-in-Ok-write-clause-means
 returns-in-Ok-write-clause-means g c = λ told written.
@@ -43,7 +43,7 @@ returns-in-Ok-clause-means g c = λ told written.
 
 pub returns-clause-does : goal.returns-clause-does
 returns-clause-does g c =
-    does_stopped itself (text_work c.args.file.now) (rest c.args.source.now) g.F.Folder _ _ c.in-Err.stop g.S.Sink _ _ c.tell_stop.result c.in-Err.ensures.gives c.tell_stop.ensures
+    does_stopped itself (text_work c.args.file.now) (rest c.args.source.now) g.F.Folder _ _ c.in-Err.stop g.S.Sink _ _ c.print_stop.result c.in-Err.ensures.gives c.print_stop.ensures
 
 pub returns-clause-means : goal.returns-clause-means
 returns-clause-means g c = λ told written.

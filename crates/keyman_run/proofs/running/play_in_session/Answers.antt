@@ -18,10 +18,10 @@ rest kb entries = Give (play_ending kb entries)
 pub returns-in-Ok : goal.returns-in-Ok
 returns-in-Ok g c =
     let kb : Keyboard = tab c.args.session.tables in
-    does_behind itself (script_work kb.dictionary c.args.keys.now) (rest kb) g.F.Folder _ _ _ c.in-Ok.entries g.S.Sink _ _ c.tell_session.result c.in-Ok.ensures
-    (plays_entries kb c.as_slice.result.now c.in-Ok.entries g.F.Folder _ g.S.Sink _ _ c.tell_session.result c.as_slice.ensures c.tell_session.ensures)
+    does_behind itself (script_work kb.dictionary c.args.keys.now) (rest kb) g.F.Folder _ _ _ c.in-Ok.entries g.S.Sink _ _ c.print_play.result c.in-Ok.ensures
+    (plays_entries kb c.as_slice.result.now c.in-Ok.entries g.F.Folder _ g.S.Sink _ _ c.print_play.result c.as_slice.ensures c.print_play.ensures)
 
 pub returns-in-Err : goal.returns-in-Err
 returns-in-Err g c =
     let kb : Keyboard = tab c.args.session.tables in
-    does_stopped itself (script_work kb.dictionary c.args.keys.now) (rest kb) g.F.Folder _ _ c.in-Err.stop g.S.Sink _ _ c.tell_stop.result c.in-Err.ensures c.tell_stop.ensures
+    does_stopped itself (script_work kb.dictionary c.args.keys.now) (rest kb) g.F.Folder _ _ c.in-Err.stop g.S.Sink _ _ c.print_stop.result c.in-Err.ensures c.print_stop.ensures

@@ -19,4 +19,4 @@ returns-in-Ok g c =
 
 pub returns-in-Err : goal.returns-in-Err
 returns-in-Err g c =
-    does_stopped itself (bytes_work c.args.file.now) (rest c.args.keys.now) g.F.Folder _ _ c.in-Err.stop g.S.Sink _ _ c.tell_stop.result c.in-Err.ensures c.tell_stop.ensures
+    does_stopped itself (bytes_work c.args.file.now) (rest c.args.keys.now) g.F.Folder _ _ c.in-Err.stop g.S.Sink _ _ c.print_stop.result c.in-Err.ensures c.print_stop.ensures

@@ -37,6 +37,6 @@ returns-in-Ok g c =
 
 pub returns : goal.returns
 returns g c =
-    does_as (and_then (job_work c.args.names.now.source c.args.names.now.keys) (play_job c.args.names.now.file)) (test_work c.args.names.now.source c.args.names.now.file c.args.names.now.keys) g.F.Folder _ _ g.S.Sink _ _ c.tell_stop.result
+    does_as (and_then (job_work c.args.names.now.source c.args.names.now.keys) (play_job c.args.names.now.file)) (test_work c.args.names.now.source c.args.names.now.file c.args.names.now.keys) g.F.Folder _ _ g.S.Sink _ _ c.print_stop.result
     (as_meant c.args.names.now.source c.args.names.now.file c.args.names.now.keys)
-    (does_stopped prepared_job (job_work c.args.names.now.source c.args.names.now.keys) (play_job c.args.names.now.file) g.F.Folder _ _ c.in-Err.stop g.S.Sink _ _ c.tell_stop.result c.in-Err.ensures.gives c.tell_stop.ensures)
+    (does_stopped prepared_job (job_work c.args.names.now.source c.args.names.now.keys) (play_job c.args.names.now.file) g.F.Folder _ _ c.in-Err.stop g.S.Sink _ _ c.print_stop.result c.in-Err.ensures.gives c.print_stop.ensures)

@@ -15,9 +15,9 @@ rest bytes = and_then (given (tables_of_file bytes)) (λ tables. Give (verify_en
 
 pub returns-in-Ok : goal.returns-in-Ok
 returns-in-Ok g c =
-    does_behind itself (bytes_work c.args.file.now) rest g.F.Folder _ _ _ c.in-Ok.bytes g.S.Sink _ _ c.tell_file.result c.in-Ok.ensures
-    (does_file c.as_slice.result.now c.in-Ok.bytes g.F.Folder _ g.S.Sink _ _ c.tell_file.result c.as_slice.ensures c.tell_file.ensures)
+    does_behind itself (bytes_work c.args.file.now) rest g.F.Folder _ _ _ c.in-Ok.bytes g.S.Sink _ _ c.print_file_counts.result c.in-Ok.ensures
+    (does_file c.as_slice.result.now c.in-Ok.bytes g.F.Folder _ g.S.Sink _ _ c.print_file_counts.result c.as_slice.ensures c.print_file_counts.ensures)
 
 pub returns-in-Err : goal.returns-in-Err
 returns-in-Err g c =
-    does_stopped itself (bytes_work c.args.file.now) rest g.F.Folder _ _ c.in-Err.stop g.S.Sink _ _ c.tell_stop.result c.in-Err.ensures c.tell_stop.ensures
+    does_stopped itself (bytes_work c.args.file.now) rest g.F.Folder _ _ c.in-Err.stop g.S.Sink _ _ c.print_stop.result c.in-Err.ensures c.print_stop.ensures

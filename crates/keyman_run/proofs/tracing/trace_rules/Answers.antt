@@ -21,6 +21,6 @@ returns-in-Ok g c =
 
 pub returns-in-Err : goal.returns-in-Err
 returns-in-Err g c =
-    does_as (and_then (job_work c.args.source.now c.args.keys.now) trace_job) (trace_work c.args.source.now c.args.keys.now) g.F.Folder _ _ g.S.Sink _ _ c.tell_stop.result
+    does_as (and_then (job_work c.args.source.now c.args.keys.now) trace_job) (trace_work c.args.source.now c.args.keys.now) g.F.Folder _ _ g.S.Sink _ _ c.print_stop.result
     (traced_as_meant c.args.source.now c.args.keys.now)
-    (does_stopped prepared_job (job_work c.args.source.now c.args.keys.now) trace_job g.F.Folder _ _ c.in-Err.stop g.S.Sink _ _ c.tell_stop.result c.in-Err.ensures.gives c.tell_stop.ensures)
+    (does_stopped prepared_job (job_work c.args.source.now c.args.keys.now) trace_job g.F.Folder _ _ c.in-Err.stop g.S.Sink _ _ c.print_stop.result c.in-Err.ensures.gives c.print_stop.ensures)

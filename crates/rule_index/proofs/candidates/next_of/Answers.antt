@@ -1,7 +1,7 @@
 use Rattle.std.proofs.Common.{◌≡◌, ℕ, List, refl, length, subst, arith, rules}
 use Rattle.std.proofs.lemmas.Bool.Decides.{nat_tests}
 use Rattle.std.proofs.lemmas.Grind.{common_steps}
-use Rattle.rule_index.specs.declared.head.Head.{Head}
+use Rattle.rule_index.specs.declared.cursor.Cursor.{Cursor}
 use Rattle.rule_index.specs.declared.row.Row.{Row}
 use Rattle.rule_index.proofs.Walk.{GoesOn, IsFirst, no_first, wanted_after, stand_after, first_is_moved, moved_limits, moved_behind, first_is_next, first_is_none, lead_stands}
 use Rattle.rule_index.proofs.candidates.next_of.Goals.{Joined-number-least, then-number-least, else-number-least+then-least-number+then-number-limit, else-number-least+else-least-number, else-least-number-via-then-least-number+else-number-limit, else-least-number-via-else-least-number}
@@ -26,7 +26,7 @@ step c = record {
   inside = c.number-number.ensures.within;
 }
 
-all : {rows : List Row} {olds : List Head} {from least limit : ℕ} {first : Head} (k : ℕ) → IsFirst rows olds from k least limit first → k ≡ length olds
+all : {rows : List Row} {olds : List Cursor} {from least limit : ℕ} {first : Cursor} (k : ℕ) → IsFirst rows olds from k least limit first → k ≡ length olds
     → IsFirst rows olds from (length olds) least limit first
 all {rows} {olds} {from} {least} {limit} {first} k is same = subst (λ (n : ℕ). IsFirst rows olds from n least limit first) same is
 

@@ -2,7 +2,7 @@ use Rattle.std.proofs.Common.{◌≡◌, ◌+◌, ◌-◌, ◌<◌, ◌≤◌, O
 use Rattle.std.specs.Prelude.{option_map, slice_get}
 use Rattle.std.proofs.lemmas.Grind.{common_steps}
 use Rattle.kmn_base.specs.declared.keys.KeyPress.{KeyPress}
-use Rattle.rule_index.specs.Classes.{wanted_classes}
+use Rattle.rule_index.specs.Classes.{matching_classes}
 use Rattle.rule_index.specs.Next.{IsNext}
 use Rattle.rule_index.specs.Walk.{CandidatesValue}
 use Rattle.rule_model.specs.declared.event_state.Caught.{Caught}
@@ -10,14 +10,14 @@ use Rattle.rule_model.specs.Choose.{Chosen}
 use Rattle.rule_model.specs.Match.{Content}
 use Rattle.rule_model.specs.Tab.{tab_rule}
 use Rattle.rule_matching.specs.Matching.{caught_by_all}
-use Rattle.rule_matching.specs.Moment.{content_at, held_record, is_held}
+use Rattle.rule_matching.specs.MatchState.{content_at, held_record, is_held}
 use Rattle.rule_matching.proofs.Candidates.{classes_of, first_from, walked, candidate_within, candidate_holds, candidate_passed, none_left}
 use Rattle.rule_matching.proofs.FirstHeld.{candidate_found, none_found, passed_all, passed_one, passed_to, ArePassed}
 use Rattle.rule_matching.proofs.matching.first_held.Goals as goal
 use Rattle.rule_matching.proofs.matching.first_held.Goals.{In-Some}
 
 -- the candidate is the next record with a class of the press and the list
-next : (c : In-Some) → IsNext (wanted_classes c.args.entered.now.press c.args.left.now) 6 (classes_of c.args.entered.now.group.now.using_keys c.args.entered.now.group.now.rules)
+next : (c : In-Some) → IsNext (matching_classes c.args.entered.now.press c.args.left.now) 6 (classes_of c.args.entered.now.group.now.using_keys c.args.entered.now.group.now.rules)
     c.loop-number.candidates.from (Some c.in-Some.number)
 next c =
     walked c.loop-number.candidates c.args.entered.now.records.now.rows c.args.entered.now.press c.args.left.now c.args.entered.now.group.now.using_keys c.args.entered.now.group.now.rules (Some c.in-Some.number)

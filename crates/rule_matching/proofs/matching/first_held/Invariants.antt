@@ -1,7 +1,7 @@
 use Rattle.std.proofs.Common.{◌≡◌, ◌≤◌, ◌-◌, length}
-use Rattle.rule_index.specs.Classes.{wanted_classes}
+use Rattle.rule_index.specs.Classes.{matching_classes}
 use Rattle.rule_matching.specs.Matching.{RemembersRight}
-use Rattle.rule_matching.specs.Moment.{content_at, is_held}
+use Rattle.rule_matching.specs.MatchState.{content_at, is_held}
 use Rattle.rule_matching.specs.PlaceMemory.{rooms}
 use Rattle.rule_matching.proofs.Candidates.{first_from}
 use Rattle.rule_matching.proofs.FirstHeld.{ArePassed}
@@ -10,7 +10,7 @@ use Rattle.rule_matching.proofs.matching.first_held.Given as goal
 abbrev pub invariant-loop-number : goal.invariant-loop-number
 invariant-loop-number l = record {
   rows : l.candidates.rows ≡ l.entered.records.now.rows;
-  wanted : l.candidates.wanted ≡ wanted_classes l.entered.press l.choice.left.now;
+  wanted : l.candidates.wanted ≡ matching_classes l.entered.press l.choice.left.now;
   within : l.candidates.from ≤ length l.entered.group.now.rules;
   same : first_from (content_at l.choice.moment.now) l.choice.left.now l.entered.press l.choice.moment.now.tables.stores l.entered.group.now.using_keys l.entered.group.now.rules l.candidates.from
       ≡ first_from (content_at l.choice.moment.now) l.choice.left.now l.entered.press l.choice.moment.now.tables.stores l.entered.group.now.using_keys l.entered.group.now.rules 0;

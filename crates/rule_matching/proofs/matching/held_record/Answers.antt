@@ -5,7 +5,7 @@ use Rattle.kmn_base.specs.declared.keys.RuleKey.TheVariants as key
 use Rattle.virtual_keys.specs.Fits.{key_fits}
 use Rattle.rule_model.specs.declared.event_state.Catch.{Catch}
 use Rattle.rule_matching.specs.Matching.{caught_by_taken}
-use Rattle.rule_matching.specs.Moment.{content_at}
+use Rattle.rule_matching.specs.MatchState.{content_at}
 use Rattle.rule_matching.proofs.HeldRecords.{items_few, items_held, short_not_held, uncaught_not_held, unfitting_not_held}
 use Rattle.rule_matching.proofs.matching.held_record.Goals as goal
 

@@ -9,7 +9,7 @@ use Rattle.rule_model.specs.declared.tables.Store.{Store}
 use Rattle.rule_model.specs.Match.{Content}
 use Rattle.rule_matching.specs.declared.taken.TakenItem.{TakenItem}
 use Rattle.rule_matching.specs.Matching.{catch_of, caught_by_taken, item_before, item_meaning}
-use Rattle.rule_matching.specs.Moment.{content_at}
+use Rattle.rule_matching.specs.MatchState.{content_at}
 use Rattle.rule_matching.proofs.TakenItems.{one_is_taken, none_is_taken, all_is_taken}
 use Rattle.rule_matching.proofs.matching.takes_context.Goals as goal
 

@@ -2,7 +2,7 @@ use Rattle.std.proofs.Common.{◌≡◌, ◌+◌, ◌-◌, ◌≤◌, [], drop, 
 use Rattle.std.specs.Prelude.{nat_eq}
 use Rattle.kmn_base.specs.declared.limits.TheConstants.{CONTEXT_ITEMS}
 use Rattle.rule_matching.specs.Matching.{allowed_catches, caught_by_taken, item_meaning, RemembersRight}
-use Rattle.rule_matching.specs.Moment.{content_at}
+use Rattle.rule_matching.specs.MatchState.{content_at}
 use Rattle.rule_matching.specs.PlaceMemory.{rooms}
 use Rattle.rule_matching.proofs.matching.takes_context.Given as goal
 

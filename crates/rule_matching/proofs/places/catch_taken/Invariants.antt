@@ -1,6 +1,6 @@
 use Rattle.std.proofs.Common.{◌≡◌, take}
 use Rattle.rule_matching.specs.Matching.{caught_by_all, RemembersRight}
-use Rattle.rule_matching.specs.Moment.{content_at}
+use Rattle.rule_matching.specs.MatchState.{content_at}
 use Rattle.rule_matching.specs.PlaceMemory.{rooms}
 use Rattle.rule_matching.proofs.places.catch_taken.Given as goal
 

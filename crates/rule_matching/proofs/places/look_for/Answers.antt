@@ -4,7 +4,7 @@ use Rattle.kmn_base.specs.declared.items.Item.{Item}
 use Rattle.rule_model.specs.Keyboard.{Numbered}
 use Rattle.rule_model.specs.Match.{place_of}
 use Rattle.rule_matching.specs.Matching.{place_before}
-use Rattle.rule_matching.specs.Moment.{content_at}
+use Rattle.rule_matching.specs.MatchState.{content_at}
 use Rattle.rule_matching.proofs.KnownPlaces.{still_right}
 use Rattle.rule_matching.proofs.places.look_for.Goals as goal
 

@@ -4,5 +4,5 @@ use Rattle.touch_layout.proofs.check.check_layout.Goals as goal
 
 pub overflow_cast-result : goal.overflow_cast-result
 overflow_cast-result c =
-    let most = few_keys c.without_mark.result.now c.in_ok-root.field-0 c.in-Some.root c.in_ok-root.ensures c.in-Some.is in
-    omega (arith, c.in_ok-count.ensures.count.1, c.without_mark.ensures.within, c.if-bytes-gt-TEXT_BYTES.false)
+    let most = few_keys c.without_bom.result.now c.in_ok-root.field-0 c.in-Some.root c.in_ok-root.ensures c.in-Some.is in
+    omega (arith, c.in_ok-count.ensures.count.1, c.without_bom.ensures.within, c.if-bytes-gt-TEXT_BYTES.false)

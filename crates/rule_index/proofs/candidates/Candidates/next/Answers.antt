@@ -2,7 +2,7 @@ use Rattle.std.proofs.Common.{◌+◌, Some, length, map, sym, subst, arith}
 use Rattle.std.proofs.lemmas.Grind.{common_steps}
 use Rattle.rule_index.specs.Next.{IsNext}
 use Rattle.rule_index.specs.Rows.{IsIndexOf}
-use Rattle.rule_index.specs.Walk.{CandidatesValue, LeadStands}
+use Rattle.rule_index.specs.Walk.{CandidatesValue, RunIsValid}
 use Rattle.rule_index.proofs.Walk.{class_of_head, heads_behind, led_is_next}
 use Rattle.rule_index.proofs.candidates.Candidates.next.Goals as goal
 
@@ -18,7 +18,7 @@ invariant_of-self-2 c =
       omega (arith, c.in_ok-number.ensures.small),
       heads_behind c.self.inside.rows.now wanted c.self.inside.from _ c.in_ok-number.number c.next_of.new.heads (c.next_of.ensures.stand c.self.invariant.1)
           (λ classes index. c.in_ok-number.ensures.next classes index c.self.invariant.1),
-      subst (λ wanted. LeadStands c.self.inside.rows.now wanted (c.in_ok-number.number + 1) c.next_of.new.lead) (sym c.next_of.ensures.wanted)
+      subst (λ wanted. RunIsValid c.self.inside.rows.now wanted (c.in_ok-number.number + 1) c.next_of.new.lead) (sym c.next_of.ensures.wanted)
           (c.in_ok-number.ensures.lead c.self.invariant.1 c.self.invariant.2),
     )
 
