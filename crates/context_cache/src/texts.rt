@@ -10,18 +10,6 @@ use arrayvec::ArrayVec;
 use kmn_base::Item;
 use kmn_base::limits::WINDOW_ITEMS;
 
-/// Returns the character at a position of one text followed by another.
-fn char_at(older: &[char], newer: &[char], place: usize) -> char
-    requires { place < length older.now + length newer.now }
-    ensures { result ≡ slice_index (older.now ++ newer.now) place }
-{
-    if place < older.len() {
-        older[place]
-    } else {
-        newer[place - older.len()]
-    }
-}
-
 /// Appends `count` characters of one text followed by another, from a position on.
 pub fn push_characters(
     items: &mut ArrayVec<Item, WINDOW_ITEMS>,
@@ -37,6 +25,18 @@ pub fn push_characters(
 {
     for place in from..from + count {
         items.push(Item::Char(char_at(older, newer, place)));
+    }
+}
+
+/// Returns the character at a position of one text followed by another.
+fn char_at(older: &[char], newer: &[char], place: usize) -> char
+    requires { place < length older.now + length newer.now }
+    ensures { result ≡ slice_index (older.now ++ newer.now) place }
+{
+    if place < older.len() {
+        older[place]
+    } else {
+        newer[place - older.len()]
     }
 }
 
@@ -63,6 +63,13 @@ pub fn character_count(items: &[Item]) -> usize
     count
 }
 
+/// Returns whether a text still ends with items, and the text before them is known.
+pub fn is_still_suffix(items: &[Item], text: &[char]) -> bool
+    ensures { result ≡ is_still_suffix items.now text.now }
+{
+    ends_with(text, items) && (items.len() == WINDOW_ITEMS || text.len() == character_count(items))
+}
+
 /// Returns whether a text ends with the characters of items.
 #[tactic(auto, using(crate::proofs::Windows::ends_short))]
 fn ends_with(text: &[char], items: &[Item]) -> bool
@@ -82,11 +89,4 @@ fn ends_with(text: &[char], items: &[Item]) -> bool
         }
     }
     true
-}
-
-/// Returns whether a text still ends with items, and the text before them is known.
-pub fn is_still_suffix(items: &[Item], text: &[char]) -> bool
-    ensures { result ≡ is_still_suffix items.now text.now }
-{
-    ends_with(text, items) && (items.len() == WINDOW_ITEMS || text.len() == character_count(items))
 }

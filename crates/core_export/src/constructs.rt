@@ -17,36 +17,29 @@ use virtual_keys::{has, has_either};
 /// The number of units before the caret that Keyman's own engine keeps.
 const KEPT_UNITS: usize = 63;
 
-/// Returns whether an item of an output is a `use`.
-fn is_use(output: &Out) -> bool
-    ensures { result ≡ is_use output.now }
+/// Returns whether a record has a construct.
+pub(crate) fn has_construct(construct: Construct, group: &Group, rule: &Rule) -> bool
+    ensures { result ≡ has_construct construct group.now rule.now }
 {
-    matches!(output, Out::Enter(_))
-}
-
-/// Returns whether an item of a context names another item by its offset.
-fn has_offset(item: &Pat) -> bool
-    ensures { result ≡ has_offset item.now }
-{
-    matches!(item, Pat::Index(_, _) | Pat::ContextAt(_))
-}
-
-/// Returns whether an item of an output names a context item by its offset.
-fn puts_by_offset(output: &Out) -> bool
-    ensures { result ≡ puts_by_offset output.now }
-{
-    matches!(output, Out::Index(_, _) | Out::ContextAt(_))
-}
-
-/// Returns the most units that an item can take.
-fn units_at_most(item: &Pat) -> usize
-    ensures { result ≡ units_at_most item.now }
-{
-    match item {
-        Pat::Char(c) => { if u32::from(*c) < 0x1_0000 { 1 } else { 2 } }
-        Pat::Mark(_) | Pat::Any(_) | Pat::NotAny(_) | Pat::Index(_, _) | Pat::ContextAt(_) => 3,
-        _ => 0,
+    let context = rule.context.as_slice();
+    let output = rule.output.as_slice();
+    match construct {
+        Construct::Use => continues_after_use(output),
+        Construct::Match => !group.on_match.is_empty() && some_use(output),
+        Construct::Nul => has_late_nul(context),
+        Construct::Offset => has_offset_after_nul(context, output),
+        Construct::Empty => !group.using_keys && context.is_empty(),
+        Construct::Sides => has_both_sides(rule.key),
+        Construct::Right => is_alt_graph(rule.key),
+        Construct::Long => is_long(context),
     }
+}
+
+/// Returns whether an output has an item after a `use`.
+fn continues_after_use(outputs: &[Out]) -> bool
+    ensures { result ≡ continues_after_use outputs.now }
+{
+    some_use(before(outputs, outputs.len().saturating_sub(1)))
 }
 
 /// Returns whether an output has a `use`.
@@ -55,6 +48,25 @@ fn some_use(outputs: &[Out]) -> bool
 {
     for output in outputs {
         if is_use(output) {
+            return true;
+        }
+    }
+    false
+}
+
+/// Returns whether an item of an output is a `use`.
+fn is_use(output: &Out) -> bool
+    ensures { result ≡ is_use output.now }
+{
+    matches!(output, Out::Enter(_))
+}
+
+/// Returns whether a context has a condition before `nul`.
+fn has_late_nul(context: &[Pat]) -> bool
+    ensures { result ≡ has_late_nul context.now }
+{
+    for i in 0..context.len() {
+        if context[i].is_condition() && some_nul(behind(context, i + 1)) {
             return true;
         }
     }
@@ -73,6 +85,13 @@ fn some_nul(context: &[Pat]) -> bool
     false
 }
 
+/// Returns whether a context has `nul`, and the context or the output names an item by its offset.
+fn has_offset_after_nul(context: &[Pat], outputs: &[Out]) -> bool
+    ensures { result ≡ has_offset_after_nul context.now outputs.now }
+{
+    some_nul(context) && (some_offset(context) || some_put_by_offset(outputs))
+}
+
 /// Returns whether a context has an item that names another item by its offset.
 fn some_offset(context: &[Pat]) -> bool
     ensures { result ≡ list_any has_offset context.now }
@@ -83,6 +102,13 @@ fn some_offset(context: &[Pat]) -> bool
         }
     }
     false
+}
+
+/// Returns whether an item of a context names another item by its offset.
+fn has_offset(item: &Pat) -> bool
+    ensures { result ≡ has_offset item.now }
+{
+    matches!(item, Pat::Index(_, _) | Pat::ContextAt(_))
 }
 
 /// Returns whether an output has an item that names a context item by its offset.
@@ -97,30 +123,11 @@ fn some_put_by_offset(outputs: &[Out]) -> bool
     false
 }
 
-/// Returns whether an output has an item after a `use`.
-fn continues_after_use(outputs: &[Out]) -> bool
-    ensures { result ≡ continues_after_use outputs.now }
+/// Returns whether an item of an output names a context item by its offset.
+fn puts_by_offset(output: &Out) -> bool
+    ensures { result ≡ puts_by_offset output.now }
 {
-    some_use(before(outputs, outputs.len().saturating_sub(1)))
-}
-
-/// Returns whether a context has a condition before `nul`.
-fn has_late_nul(context: &[Pat]) -> bool
-    ensures { result ≡ has_late_nul context.now }
-{
-    for i in 0..context.len() {
-        if context[i].is_condition() && some_nul(behind(context, i + 1)) {
-            return true;
-        }
-    }
-    false
-}
-
-/// Returns whether a context has `nul`, and the context or the output names an item by its offset.
-fn has_offset_after_nul(context: &[Pat], outputs: &[Out]) -> bool
-    ensures { result ≡ has_offset_after_nul context.now outputs.now }
-{
-    some_nul(context) && (some_offset(context) || some_put_by_offset(outputs))
+    matches!(output, Out::Index(_, _) | Out::ContextAt(_))
 }
 
 /// Returns whether a key has CTRL together with LCTRL or RCTRL, or ALT together with LALT or RALT.
@@ -162,20 +169,13 @@ fn is_long(context: &[Pat]) -> bool
     false
 }
 
-/// Returns whether a record has a construct.
-pub(crate) fn has_construct(construct: Construct, group: &Group, rule: &Rule) -> bool
-    ensures { result ≡ has_construct construct group.now rule.now }
+/// Returns the most units that an item can take.
+fn units_at_most(item: &Pat) -> usize
+    ensures { result ≡ units_at_most item.now }
 {
-    let context = rule.context.as_slice();
-    let output = rule.output.as_slice();
-    match construct {
-        Construct::Use => continues_after_use(output),
-        Construct::Match => !group.on_match.is_empty() && some_use(output),
-        Construct::Nul => has_late_nul(context),
-        Construct::Offset => has_offset_after_nul(context, output),
-        Construct::Empty => !group.using_keys && context.is_empty(),
-        Construct::Sides => has_both_sides(rule.key),
-        Construct::Right => is_alt_graph(rule.key),
-        Construct::Long => is_long(context),
+    match item {
+        Pat::Char(c) => { if u32::from(*c) < 0x1_0000 { 1 } else { 2 } }
+        Pat::Mark(_) | Pat::Any(_) | Pat::NotAny(_) | Pat::Index(_, _) | Pat::ContextAt(_) => 3,
+        _ => 0,
     }
 }

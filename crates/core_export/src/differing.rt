@@ -21,30 +21,14 @@ struct ConstructLines {
     lines: LineSet,
 }
 
-/// Adds the lines of the records of a group that have a construct.
-fn add_lines(lines: &mut LineSet, construct: Construct, group: &Group) -> Result<(), Memory>
-    ensures { OnOk result (lines.new ≡ fold (insert_key nat_cmp) lines.old (group_lines construct group.now)) }
+/// Returns the lines whose records have a construct, in rising order, each with all constructs of its records.
+pub(crate) fn differences(alloc: Global, tables: &Tables) -> Result<Seq<Difference>, Memory>
+    ensures { IfOk result (λ list. list ≡ differences tables.now) }
 {
-    let rules = group.rules.as_slice();
-    for rule in rules {
-        if has_construct(construct, group, rule) {
-            lines.add(rule.line)?;
-        }
-    }
-    Ok(())
-}
-
-/// Returns the lines of the records that have a construct.
-#[tactic(auto, using(crate::proofs::Sets::folds))]
-fn lines_with(alloc: Global, tables: &Tables, construct: Construct) -> Result<LineSet, Memory>
-    ensures { IfOk result (λ lines. lines ≡ lines_with tables.now construct) }
-{
-    let mut lines = LineSet::new(alloc);
-    let groups = tables.groups.as_slice();
-    for group in groups {
-        add_lines(&mut lines, construct, group)?;
-    }
-    Ok(lines)
+    let all = found_of(alloc, tables, &CONSTRUCTS)?;
+    let lines = all_lines(alloc, all.as_slice())?;
+    let lines = lines.listed(alloc)?;
+    told(alloc, all.as_slice(), lines.as_slice())
 }
 
 /// Returns each construct with the lines of the records that have it.
@@ -66,6 +50,32 @@ fn found_of(
     Ok(all)
 }
 
+/// Returns the lines of the records that have a construct.
+#[tactic(auto, using(crate::proofs::Sets::folds))]
+fn lines_with(alloc: Global, tables: &Tables, construct: Construct) -> Result<LineSet, Memory>
+    ensures { IfOk result (λ lines. lines ≡ lines_with tables.now construct) }
+{
+    let mut lines = LineSet::new(alloc);
+    let groups = tables.groups.as_slice();
+    for group in groups {
+        add_lines(&mut lines, construct, group)?;
+    }
+    Ok(lines)
+}
+
+/// Adds the lines of the records of a group that have a construct.
+fn add_lines(lines: &mut LineSet, construct: Construct, group: &Group) -> Result<(), Memory>
+    ensures { OnOk result (lines.new ≡ fold (insert_key nat_cmp) lines.old (group_lines construct group.now)) }
+{
+    let rules = group.rules.as_slice();
+    for rule in rules {
+        if has_construct(construct, group, rule) {
+            lines.add(rule.line)?;
+        }
+    }
+    Ok(())
+}
+
 /// Returns all lines that some of these constructs have.
 #[tactic(auto, using(crate::proofs::Sets::folds))]
 fn all_lines(alloc: Global, all: &[ConstructLines]) -> Result<LineSet, Memory>
@@ -76,19 +86,6 @@ fn all_lines(alloc: Global, all: &[ConstructLines]) -> Result<LineSet, Memory>
         lines.add_all(&found.lines)?;
     }
     Ok(lines)
-}
-
-/// Returns the constructs that have a line.
-fn constructs_at(alloc: Global, all: &[ConstructLines], line: u32) -> Result<Seq<Construct>, Memory>
-    ensures { IfOk result (λ constructs. constructs ≡ found_at all.now line) }
-{
-    let mut constructs = Seq::new(alloc);
-    for found in all {
-        if found.lines.has(line) {
-            constructs.add(found.construct)?;
-        }
-    }
-    Ok(constructs)
 }
 
 /// Returns each line with the constructs that have it.
@@ -106,12 +103,15 @@ fn told(alloc: Global, all: &[ConstructLines], lines: &[u32]) -> Result<Seq<Diff
     Ok(told)
 }
 
-/// Returns the lines whose records have a construct, in rising order, each with all constructs of its records.
-pub(crate) fn differences(alloc: Global, tables: &Tables) -> Result<Seq<Difference>, Memory>
-    ensures { IfOk result (λ list. list ≡ differences tables.now) }
+/// Returns the constructs that have a line.
+fn constructs_at(alloc: Global, all: &[ConstructLines], line: u32) -> Result<Seq<Construct>, Memory>
+    ensures { IfOk result (λ constructs. constructs ≡ found_at all.now line) }
 {
-    let all = found_of(alloc, tables, &CONSTRUCTS)?;
-    let lines = all_lines(alloc, all.as_slice())?;
-    let lines = lines.listed(alloc)?;
-    told(alloc, all.as_slice(), lines.as_slice())
+    let mut constructs = Seq::new(alloc);
+    for found in all {
+        if found.lines.has(line) {
+            constructs.add(found.construct)?;
+        }
+    }
+    Ok(constructs)
 }

@@ -6,15 +6,16 @@ ghost use Rattle.core_export.specs.Checksum.{bit_behind, byte_behind, checksum};
 /// The polynomial, its lowest power in the highest bit.
 const POLYNOMIAL: u32 = 0xEDB8_8320;
 
-/// Returns a sum after one more bit.
-fn bit_behind(sum: u32) -> u32
-    ensures { result ≡ bit_behind sum }
+/// Returns the checksum of bytes: CRC-32 without its final inversion.
+#[tactic(auto, unfolding(crate::specs::Checksum::checksum))]
+pub fn checksum(bytes: &[u8]) -> u32
+    ensures { result ≡ checksum bytes.now }
 {
-    if sum % 2 == 1 {
-        sum / 2 ^ POLYNOMIAL
-    } else {
-        sum / 2
+    let mut sum = 0xFFFF_FFFF;
+    for byte in bytes {
+        sum = byte_behind(sum, *byte);
     }
+    sum
 }
 
 /// Returns a sum after one more byte.
@@ -28,14 +29,13 @@ fn byte_behind(sum: u32, byte: u8) -> u32
     sum
 }
 
-/// Returns the checksum of bytes: CRC-32 without its final inversion.
-#[tactic(auto, unfolding(crate::specs::Checksum::checksum))]
-pub fn checksum(bytes: &[u8]) -> u32
-    ensures { result ≡ checksum bytes.now }
+/// Returns a sum after one more bit.
+fn bit_behind(sum: u32) -> u32
+    ensures { result ≡ bit_behind sum }
 {
-    let mut sum = 0xFFFF_FFFF;
-    for byte in bytes {
-        sum = byte_behind(sum, *byte);
+    if sum % 2 == 1 {
+        sum / 2 ^ POLYNOMIAL
+    } else {
+        sum / 2
     }
-    sum
 }

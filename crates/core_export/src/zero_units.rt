@@ -12,6 +12,60 @@ use kmx_format::places::{
 use kmx_format::sizes::{GROUP_BYTES, RULE_BYTES, STORE_BYTES};
 use kmx_view::{string_bytes, word_at};
 
+/// Returns the offset of a zero unit of the file: the one after the name of the first group, or else after the first string, if any.
+#[tactic(auto, unfolding(crate::specs::Export::zero_unit))]
+pub(crate) fn zero_unit(bytes: &[u8]) -> Option<u32>
+    requires { length bytes.now ≤ FILE_BYTES }
+    ensures { result ≡ zero_unit bytes.now }
+{
+    let found = end_in_groups(
+        bytes,
+        word_at(bytes, GROUPS_AT),
+        word_at(bytes, GROUP_COUNT_AT),
+    );
+    if found.is_some() {
+        return found;
+    }
+    end_in_stores(
+        bytes,
+        word_at(bytes, STORES_AT),
+        word_at(bytes, STORE_COUNT_AT),
+    )
+}
+
+/// Returns the offset of the zero unit that ends the first string of `count` groups.
+fn end_in_groups(bytes: &[u8], place: u32, count: u32) -> Option<u32>
+    requires { length bytes.now ≤ FILE_BYTES }
+    ensures { result ≡ end_in_groups bytes.now place count }
+{
+    for i in 0..count as usize {
+        let found = end_in_group(bytes, place as usize + GROUP_BYTES * i);
+        if found.is_some() {
+            return found;
+        }
+    }
+    None
+}
+
+/// Returns the offset of the zero unit that ends the first string of a group.
+fn end_in_group(bytes: &[u8], place: usize) -> Option<u32>
+    requires few { length bytes.now ≤ FILE_BYTES }
+    requires place { place < 2 ^ 62 }
+    ensures { result ≡ end_in_group bytes.now place }
+{
+    let on_match = end_of(bytes, word_at(bytes, place + GROUP_MATCH_AT));
+    let output = on_match.or(end_of(bytes, word_at(bytes, place + GROUP_NOMATCH_AT)));
+    let found = end_of(bytes, word_at(bytes, place)).or(output);
+    if found.is_some() {
+        return found;
+    }
+    end_in_records(
+        bytes,
+        word_at(bytes, place + GROUP_RULES_AT),
+        word_at(bytes, place + GROUP_RULE_COUNT_AT),
+    )
+}
+
 /// Returns the offset of the zero unit that ends the string at an offset, or `None` if the offset is 0.
 #[tactic(auto, using(crate::proofs::Steps::ends_behind))]
 fn end_of(bytes: &[u8], offset: u32) -> Option<u32>
@@ -40,39 +94,6 @@ fn end_in_records(bytes: &[u8], place: u32, count: u32) -> Option<u32>
     None
 }
 
-/// Returns the offset of the zero unit that ends the first string of a group.
-fn end_in_group(bytes: &[u8], place: usize) -> Option<u32>
-    requires few { length bytes.now ≤ FILE_BYTES }
-    requires place { place < 2 ^ 62 }
-    ensures { result ≡ end_in_group bytes.now place }
-{
-    let on_match = end_of(bytes, word_at(bytes, place + GROUP_MATCH_AT));
-    let output = on_match.or(end_of(bytes, word_at(bytes, place + GROUP_NOMATCH_AT)));
-    let found = end_of(bytes, word_at(bytes, place)).or(output);
-    if found.is_some() {
-        return found;
-    }
-    end_in_records(
-        bytes,
-        word_at(bytes, place + GROUP_RULES_AT),
-        word_at(bytes, place + GROUP_RULE_COUNT_AT),
-    )
-}
-
-/// Returns the offset of the zero unit that ends the first string of `count` groups.
-fn end_in_groups(bytes: &[u8], place: u32, count: u32) -> Option<u32>
-    requires { length bytes.now ≤ FILE_BYTES }
-    ensures { result ≡ end_in_groups bytes.now place count }
-{
-    for i in 0..count as usize {
-        let found = end_in_group(bytes, place as usize + GROUP_BYTES * i);
-        if found.is_some() {
-            return found;
-        }
-    }
-    None
-}
-
 /// Returns the offset of the zero unit that ends the first string of `count` stores.
 fn end_in_stores(bytes: &[u8], place: u32, count: u32) -> Option<u32>
     requires { length bytes.now ≤ FILE_BYTES }
@@ -87,25 +108,4 @@ fn end_in_stores(bytes: &[u8], place: u32, count: u32) -> Option<u32>
         }
     }
     None
-}
-
-/// Returns the offset of a zero unit of the file: the one after the name of the first group, or else after the first string, if any.
-#[tactic(auto, unfolding(crate::specs::Export::zero_unit))]
-pub(crate) fn zero_unit(bytes: &[u8]) -> Option<u32>
-    requires { length bytes.now ≤ FILE_BYTES }
-    ensures { result ≡ zero_unit bytes.now }
-{
-    let found = end_in_groups(
-        bytes,
-        word_at(bytes, GROUPS_AT),
-        word_at(bytes, GROUP_COUNT_AT),
-    );
-    if found.is_some() {
-        return found;
-    }
-    end_in_stores(
-        bytes,
-        word_at(bytes, STORES_AT),
-        word_at(bytes, STORE_COUNT_AT),
-    )
 }

@@ -27,27 +27,6 @@ pub fn characters(alloc: Global, numbers: &[u32]) -> Result<Option<Seq<char>>, M
     Ok(Some(Seq::from_vec(text)))
 }
 
-/// Returns the number of an item.
-fn item_number(item: Item) -> u32
-    ensures { result ≡ item_number item }
-{
-    match item {
-        Item::Char(c) => c as u32,
-        Item::Mark(mark) => MARK + u32::from(mark),
-    }
-}
-
-/// Returns the number of an element.
-fn element_number(element: Element) -> u32
-    ensures { result ≡ element_number element }
-{
-    match element {
-        Element::Char(c) => c as u32,
-        Element::Mark(mark) => MARK + u32::from(mark),
-        Element::Key { code, .. } => KEY + u32::from(code),
-    }
-}
-
 /// Writes as many characters of a text as fit in the buffer, and returns the length of the text.
 pub fn put_characters(room: &mut [u32], text: &[char]) -> usize
     ensures length { result ≡ length text.now }
@@ -70,6 +49,16 @@ pub fn put_items(room: &mut [u32], items: &[Item]) -> usize
     items.len()
 }
 
+/// Returns the number of an item.
+fn item_number(item: Item) -> u32
+    ensures { result ≡ item_number item }
+{
+    match item {
+        Item::Char(c) => c as u32,
+        Item::Mark(mark) => MARK + u32::from(mark),
+    }
+}
+
 /// Writes the numbers of as many elements as fit in the buffer, and returns the number of elements.
 pub fn put_elements(room: &mut [u32], elements: &[Element]) -> usize
     ensures length { result ≡ length elements.now }
@@ -79,6 +68,17 @@ pub fn put_elements(room: &mut [u32], elements: &[Element]) -> usize
         room[place] = element_number(elements[place]);
     }
     elements.len()
+}
+
+/// Returns the number of an element.
+fn element_number(element: Element) -> u32
+    ensures { result ≡ element_number element }
+{
+    match element {
+        Element::Char(c) => c as u32,
+        Element::Mark(mark) => MARK + u32::from(mark),
+        Element::Key { code, .. } => KEY + u32::from(code),
+    }
 }
 
 /// Writes the numbers of the stores that have an option number, as many as fit in the buffer, and returns how many stores have an

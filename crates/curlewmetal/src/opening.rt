@@ -17,15 +17,6 @@ use std::alloc::Global;
 /// `CURLEW_VERSION` to detect that it was compiled with the header of another library.
 const VERSION: u32 = 10_000;
 
-/// Puts a field into a handle, and closes the field that was open there.
-fn put(alloc: Global, handle: &mut Field, field: OpenField) -> Result<(), Memory>
-    ensures { MatchResult result (λ _. handle.new.held ≡ Some field) (λ _. handle.new.held ≡ handle.old.held) }
-{
-    let held = Box::new(alloc, field)?;
-    *handle = Field::of(held);
-    Ok(())
-}
-
 /// Returns the version of the library, 10,000.
 #[unsafe(no_mangle)]
 pub extern "C" fn curlew_version() -> u32
@@ -60,6 +51,15 @@ pub extern "C" fn curlew_open(
         Ok(()) => OK,
         Err(_) => MEMORY,
     }
+}
+
+/// Puts a field into a handle, and closes the field that was open there.
+fn put(alloc: Global, handle: &mut Field, field: OpenField) -> Result<(), Memory>
+    ensures { MatchResult result (λ _. handle.new.held ≡ Some field) (λ _. handle.new.held ≡ handle.old.held) }
+{
+    let held = Box::new(alloc, field)?;
+    *handle = Field::of(held);
+    Ok(())
 }
 
 /// Opens a field over the same file in another handle, with the same text and options, and closes what was open there. The other

@@ -16,28 +16,6 @@ use rule_model::{Group, Store, Tables};
 use std::alloc::Global;
 use store_table::NameTable;
 
-/// Returns the own names of stores.
-fn names_of_stores(alloc: Global, stores: &[Store]) -> Result<NameTable, Memory>
-    ensures { IfOk result (λ names. names ≡ map (λ (store : Store). store.name) stores.now) }
-{
-    let mut names = NameTable::new(alloc);
-    for store in stores {
-        names.push(store.name.as_slice())?;
-    }
-    Ok(names)
-}
-
-/// Returns the own names of groups.
-fn names_of_groups(alloc: Global, groups: &[Group]) -> Result<NameTable, Memory>
-    ensures { IfOk result (λ names. names ≡ map (λ (group : Group). group.name) groups.now) }
-{
-    let mut names = NameTable::new(alloc);
-    for group in groups {
-        names.push(group.name.as_slice())?;
-    }
-    Ok(names)
-}
-
 /// Returns the free names for stores: one for each store, and two more.
 pub fn free_stores(alloc: Global, tables: &Tables) -> Result<Vec<Text>, Memory>
     requires { length tables.now.stores < 2 ^ 32 }
@@ -48,15 +26,15 @@ pub fn free_stores(alloc: Global, tables: &Tables) -> Result<Vec<Text>, Memory>
     free_names(alloc, b"s", &taken, count + 2, count + 2 + count)
 }
 
-/// Returns the names of groups.
-fn called_groups(alloc: Global, groups: &[Group]) -> Result<Vec<Text>, Memory>
-    requires { length groups.now < 2 ^ 32 }
-    ensures { IfOk result (λ names. names.items ≡ group_names (free_names (codes "g") (map (λ (group : Group). group.name) groups.now) (length groups.now)) [] groups.now) }
+/// Returns the own names of stores.
+fn names_of_stores(alloc: Global, stores: &[Store]) -> Result<NameTable, Memory>
+    ensures { IfOk result (λ names. names ≡ map (λ (store : Store). store.name) stores.now) }
 {
-    let taken = names_of_groups(alloc, groups)?;
-    let count = groups.len();
-    let free = free_names(alloc, b"g", &taken, count, count + count)?;
-    group_names(alloc, free.as_slice(), groups)
+    let mut names = NameTable::new(alloc);
+    for store in stores {
+        names.push(store.name.as_slice())?;
+    }
+    Ok(names)
 }
 
 /// Returns the names of a text, given the free names that are left for stores.
@@ -79,4 +57,26 @@ pub fn called_by<'a>(
         stores,
         groups,
     })
+}
+
+/// Returns the names of groups.
+fn called_groups(alloc: Global, groups: &[Group]) -> Result<Vec<Text>, Memory>
+    requires { length groups.now < 2 ^ 32 }
+    ensures { IfOk result (λ names. names.items ≡ group_names (free_names (codes "g") (map (λ (group : Group). group.name) groups.now) (length groups.now)) [] groups.now) }
+{
+    let taken = names_of_groups(alloc, groups)?;
+    let count = groups.len();
+    let free = free_names(alloc, b"g", &taken, count, count + count)?;
+    group_names(alloc, free.as_slice(), groups)
+}
+
+/// Returns the own names of groups.
+fn names_of_groups(alloc: Global, groups: &[Group]) -> Result<NameTable, Memory>
+    ensures { IfOk result (λ names. names ≡ map (λ (group : Group). group.name) groups.now) }
+{
+    let mut names = NameTable::new(alloc);
+    for group in groups {
+        names.push(group.name.as_slice())?;
+    }
+    Ok(names)
 }

@@ -6,6 +6,26 @@ ghost use Rattle.decompile_program.specs.Marks.{element_marks, pattern_marks, ou
 use kmn_base::Element;
 use rule_model::{Group, Out, Pat, Rule, Store, Tables};
 
+/// Returns the greatest deadkey number, or 0 if there is no deadkey.
+#[tactic(auto, using(crate::proofs::Folds::fold_append), unfolding(crate::specs::Marks::table_marks))]
+pub fn greatest_mark(tables: &Tables) -> u16
+    ensures { result ≡ greatest_mark tables.now }
+{
+    let greatest = in_stores(0, tables.stores.as_slice());
+    in_groups(greatest, tables.groups.as_slice())
+}
+
+#[tactic(auto, using(crate::proofs::Folds::fold_append))]
+fn in_stores(least: u16, stores: &[Store]) -> u16
+    ensures { result ≡ fold max least (flat_map store_marks stores.now) }
+{
+    let mut greatest = least;
+    for store in stores {
+        greatest = in_elements(greatest, store.elements.as_slice());
+    }
+    greatest
+}
+
 #[tactic(auto, using(crate::proofs::Folds::fold_append))]
 fn in_elements(least: u16, elements: &[Element]) -> u16
     ensures { result ≡ fold max least (flat_map element_marks elements.now) }
@@ -17,6 +37,45 @@ fn in_elements(least: u16, elements: &[Element]) -> u16
         }
     }
     greatest
+}
+
+#[tactic(auto, using(crate::proofs::Folds::fold_append))]
+fn in_groups(least: u16, groups: &[Group]) -> u16
+    ensures { result ≡ fold max least (flat_map group_marks groups.now) }
+{
+    let mut greatest = least;
+    for group in groups {
+        greatest = in_group(greatest, group);
+    }
+    greatest
+}
+
+#[tactic(auto, using(crate::proofs::Folds::fold_append))]
+fn in_group(least: u16, group: &Group) -> u16
+    ensures { result ≡ fold max least (group_marks group.now) }
+{
+    let greatest = in_rules(least, group.rules.as_slice());
+    let greatest = in_outputs(greatest, group.on_match.as_slice());
+    in_outputs(greatest, group.on_nomatch.as_slice())
+}
+
+#[tactic(auto, using(crate::proofs::Folds::fold_append))]
+fn in_rules(least: u16, rules: &[Rule]) -> u16
+    ensures { result ≡ fold max least (flat_map rule_marks rules.now) }
+{
+    let mut greatest = least;
+    for rule in rules {
+        greatest = in_rule(greatest, rule);
+    }
+    greatest
+}
+
+#[tactic(auto, using(crate::proofs::Folds::fold_append))]
+fn in_rule(least: u16, rule: &Rule) -> u16
+    ensures { result ≡ fold max least (rule_marks rule.now) }
+{
+    let greatest = in_context(least, rule.context.as_slice());
+    in_outputs(greatest, rule.output.as_slice())
 }
 
 #[tactic(auto, using(crate::proofs::Folds::fold_append))]
@@ -43,63 +102,4 @@ fn in_outputs(least: u16, outputs: &[Out]) -> u16
         }
     }
     greatest
-}
-
-#[tactic(auto, using(crate::proofs::Folds::fold_append))]
-fn in_rule(least: u16, rule: &Rule) -> u16
-    ensures { result ≡ fold max least (rule_marks rule.now) }
-{
-    let greatest = in_context(least, rule.context.as_slice());
-    in_outputs(greatest, rule.output.as_slice())
-}
-
-#[tactic(auto, using(crate::proofs::Folds::fold_append))]
-fn in_rules(least: u16, rules: &[Rule]) -> u16
-    ensures { result ≡ fold max least (flat_map rule_marks rules.now) }
-{
-    let mut greatest = least;
-    for rule in rules {
-        greatest = in_rule(greatest, rule);
-    }
-    greatest
-}
-
-#[tactic(auto, using(crate::proofs::Folds::fold_append))]
-fn in_group(least: u16, group: &Group) -> u16
-    ensures { result ≡ fold max least (group_marks group.now) }
-{
-    let greatest = in_rules(least, group.rules.as_slice());
-    let greatest = in_outputs(greatest, group.on_match.as_slice());
-    in_outputs(greatest, group.on_nomatch.as_slice())
-}
-
-#[tactic(auto, using(crate::proofs::Folds::fold_append))]
-fn in_stores(least: u16, stores: &[Store]) -> u16
-    ensures { result ≡ fold max least (flat_map store_marks stores.now) }
-{
-    let mut greatest = least;
-    for store in stores {
-        greatest = in_elements(greatest, store.elements.as_slice());
-    }
-    greatest
-}
-
-#[tactic(auto, using(crate::proofs::Folds::fold_append))]
-fn in_groups(least: u16, groups: &[Group]) -> u16
-    ensures { result ≡ fold max least (flat_map group_marks groups.now) }
-{
-    let mut greatest = least;
-    for group in groups {
-        greatest = in_group(greatest, group);
-    }
-    greatest
-}
-
-/// Returns the greatest deadkey number, or 0 if there is no deadkey.
-#[tactic(auto, using(crate::proofs::Folds::fold_append), unfolding(crate::specs::Marks::table_marks))]
-pub fn greatest_mark(tables: &Tables) -> u16
-    ensures { result ≡ greatest_mark tables.now }
-{
-    let greatest = in_stores(0, tables.stores.as_slice());
-    in_groups(greatest, tables.groups.as_slice())
 }

@@ -16,29 +16,58 @@ use rule_model::{Group, Store, Tables};
 use std::alloc::Global;
 use store_table::NameTable;
 
-/// Returns whether a name is that of a system store.
-fn is_system_name(name: &[u8]) -> bool
-    ensures { result ≡ is_system_name name.now }
+/// Returns the names of groups, given the free names.
+pub(crate) fn group_names(
+    alloc: Global,
+    free: &[Text],
+    groups: &[Group],
+) -> Result<Vec<Text>, Memory>
+    ensures { IfOk result (λ names. names.items ≡ group_names free.now [] groups.now) }
 {
-    match name {
-        [first, ..] => *first == b'&',
-        [] => false,
+    let mut naming = Naming {
+        alloc,
+        earlier: NameTable::new(alloc),
+        free,
+    };
+    naming.group_names(groups)
+}
+
+/// Returns the names of stores, given the free names.
+pub(crate) fn store_names(
+    alloc: Global,
+    free: &[Text],
+    tables: &Tables,
+) -> Result<Vec<Option<Text>>, Memory>
+    ensures { IfOk result (λ names. names.items ≡ store_names (named_stores tables.now) free.now [] 0 tables.now.stores) }
+{
+    let flags = named_flags(alloc, tables)?;
+    let mut naming = Naming {
+        alloc,
+        earlier: NameTable::new(alloc),
+        free,
+    };
+    let mut names = Vec::new(alloc);
+    let stores = tables.stores.as_slice();
+    for (number, store) in stores.iter().enumerate() {
+        let written = is_written(flags.as_slice(), number, store, tables);
+        let name = naming.store_name(written, store)?;
+        names.push(name)?;
     }
+    Ok(names)
 }
 
-/// Returns whether a name can be kept after these earlier names.
-#[tactic(auto, using(virtual_keys::proofs::NamePlaces::some_place), unfolding(store_table::specs::Names::is_named))]
-fn keeps_name(earlier: &NameTable, name: &[u8]) -> bool
-    ensures { result ≡ keeps_name earlier.now name.now }
+/// Returns whether the store of a number is written, given the flags of the stores that are named.
+#[tactic(auto, using(indexed_tables::proofs::OptionFlags::flag_is))]
+fn is_written(flags: &[bool], number: usize, store: &Store, tables: &Tables) -> bool
+    requires flags { flags.now ≡ with_flags (replicate (length tables.now.stores) false) (named_stores tables.now) }
+    requires within { number < length tables.now.stores }
+    ensures { result ≡ is_written (named_stores tables.now) number store.now }
 {
-    is_source_name(name) && !earlier.has(name)
-}
-
-/// Returns whether a store's name can be kept after these earlier names.
-fn keeps_store_name(earlier: &NameTable, name: &[u8]) -> bool
-    ensures { result ≡ keeps_store_name earlier.now name.now }
-{
-    !is_system_name(name) && keeps_name(earlier, name)
+    if store.system == 0 {
+        flag_at(flags, number)
+    } else {
+        is_written_system(store.system)
+    }
 }
 
 /// The own names of the stores or groups so far, and the free names that are left.
@@ -118,22 +147,6 @@ impl<'a> Naming<'a> {
     }
 }
 
-/// Returns the names of groups, given the free names.
-pub(crate) fn group_names(
-    alloc: Global,
-    free: &[Text],
-    groups: &[Group],
-) -> Result<Vec<Text>, Memory>
-    ensures { IfOk result (λ names. names.items ≡ group_names free.now [] groups.now) }
-{
-    let mut naming = Naming {
-        alloc,
-        earlier: NameTable::new(alloc),
-        free,
-    };
-    naming.group_names(groups)
-}
-
 /// Returns whether a system store is written.
 fn is_written_system(system: u32) -> bool
     ensures { result ≡ list_any (nat_eq system) written_ids }
@@ -144,40 +157,27 @@ fn is_written_system(system: u32) -> bool
     )
 }
 
-/// Returns whether the store of a number is written, given the flags of the stores that are named.
-#[tactic(auto, using(indexed_tables::proofs::OptionFlags::flag_is))]
-fn is_written(flags: &[bool], number: usize, store: &Store, tables: &Tables) -> bool
-    requires flags { flags.now ≡ with_flags (replicate (length tables.now.stores) false) (named_stores tables.now) }
-    requires within { number < length tables.now.stores }
-    ensures { result ≡ is_written (named_stores tables.now) number store.now }
+/// Returns whether a store's name can be kept after these earlier names.
+fn keeps_store_name(earlier: &NameTable, name: &[u8]) -> bool
+    ensures { result ≡ keeps_store_name earlier.now name.now }
 {
-    if store.system == 0 {
-        flag_at(flags, number)
-    } else {
-        is_written_system(store.system)
+    !is_system_name(name) && keeps_name(earlier, name)
+}
+
+/// Returns whether a name is that of a system store.
+fn is_system_name(name: &[u8]) -> bool
+    ensures { result ≡ is_system_name name.now }
+{
+    match name {
+        [first, ..] => *first == b'&',
+        [] => false,
     }
 }
 
-/// Returns the names of stores, given the free names.
-pub(crate) fn store_names(
-    alloc: Global,
-    free: &[Text],
-    tables: &Tables,
-) -> Result<Vec<Option<Text>>, Memory>
-    ensures { IfOk result (λ names. names.items ≡ store_names (named_stores tables.now) free.now [] 0 tables.now.stores) }
+/// Returns whether a name can be kept after these earlier names.
+#[tactic(auto, using(virtual_keys::proofs::NamePlaces::some_place), unfolding(store_table::specs::Names::is_named))]
+fn keeps_name(earlier: &NameTable, name: &[u8]) -> bool
+    ensures { result ≡ keeps_name earlier.now name.now }
 {
-    let flags = named_flags(alloc, tables)?;
-    let mut naming = Naming {
-        alloc,
-        earlier: NameTable::new(alloc),
-        free,
-    };
-    let mut names = Vec::new(alloc);
-    let stores = tables.stores.as_slice();
-    for (number, store) in stores.iter().enumerate() {
-        let written = is_written(flags.as_slice(), number, store, tables);
-        let name = naming.store_name(written, store)?;
-        names.push(name)?;
-    }
-    Ok(names)
+    is_source_name(name) && !earlier.has(name)
 }

@@ -34,6 +34,60 @@ pub fn named_by_output(output: &Out) -> Option<u32>
     }
 }
 
+/// Returns a flag for each store: whether some item names it, except as a value.
+#[tactic(auto, unfolding(crate::specs::Names::named_stores))]
+pub(crate) fn named_flags(alloc: Global, tables: &Tables) -> Result<Vec<bool>, Memory>
+    ensures { IfOk result (λ flags. flags.items ≡ with_flags (replicate (length tables.now.stores) false) (named_stores tables.now)) }
+{
+    let mut flags = vec![in alloc; false; tables.stores.len()]?;
+    mark_groups(flags.as_mut_slice(), tables.groups.as_slice());
+    Ok(flags)
+}
+
+#[tactic(auto, using(indexed_tables::proofs::OptionFlags::with_flags_append))]
+fn mark_groups(flags: &mut [bool], groups: &[Group])
+    ensures { flags.new ≡ with_flags flags.old (flat_map named_by_group groups.now) }
+{
+    for group in groups {
+        mark_group(flags, group);
+    }
+}
+
+#[tactic(auto, using(indexed_tables::proofs::OptionFlags::with_flags_append))]
+fn mark_group(flags: &mut [bool], group: &Group)
+    ensures { flags.new ≡ with_flags flags.old (named_by_group group.now) }
+{
+    mark_rules(flags, group.rules.as_slice());
+    mark_outputs(flags, group.on_match.as_slice());
+    mark_outputs(flags, group.on_nomatch.as_slice());
+}
+
+#[tactic(auto, using(indexed_tables::proofs::OptionFlags::with_flags_append))]
+fn mark_rules(flags: &mut [bool], rules: &[Rule])
+    ensures { flags.new ≡ with_flags flags.old (flat_map named_by_rule rules.now) }
+{
+    for rule in rules {
+        mark_rule(flags, rule);
+    }
+}
+
+#[tactic(auto, using(indexed_tables::proofs::OptionFlags::with_flags_append))]
+fn mark_rule(flags: &mut [bool], rule: &Rule)
+    ensures { flags.new ≡ with_flags flags.old (named_by_rule rule.now) }
+{
+    mark_context(flags, rule.context.as_slice());
+    mark_outputs(flags, rule.output.as_slice());
+}
+
+#[tactic(auto, using(indexed_tables::proofs::OptionFlags::with_flags_append))]
+fn mark_context(flags: &mut [bool], context: &[Pat])
+    ensures { flags.new ≡ with_flags flags.old (flat_map named_by_pattern context.now) }
+{
+    for pattern in context {
+        mark(flags, named_by_pattern(pattern));
+    }
+}
+
 /// Sets the flag of a store, if any.
 fn mark(flags: &mut [bool], store: Option<u32>)
     ensures { flags.new ≡ with_flags flags.old (option_to_list store) }
@@ -50,58 +104,4 @@ fn mark_outputs(flags: &mut [bool], outputs: &[Out])
     for output in outputs {
         mark(flags, named_by_output(output));
     }
-}
-
-#[tactic(auto, using(indexed_tables::proofs::OptionFlags::with_flags_append))]
-fn mark_context(flags: &mut [bool], context: &[Pat])
-    ensures { flags.new ≡ with_flags flags.old (flat_map named_by_pattern context.now) }
-{
-    for pattern in context {
-        mark(flags, named_by_pattern(pattern));
-    }
-}
-
-#[tactic(auto, using(indexed_tables::proofs::OptionFlags::with_flags_append))]
-fn mark_rule(flags: &mut [bool], rule: &Rule)
-    ensures { flags.new ≡ with_flags flags.old (named_by_rule rule.now) }
-{
-    mark_context(flags, rule.context.as_slice());
-    mark_outputs(flags, rule.output.as_slice());
-}
-
-#[tactic(auto, using(indexed_tables::proofs::OptionFlags::with_flags_append))]
-fn mark_rules(flags: &mut [bool], rules: &[Rule])
-    ensures { flags.new ≡ with_flags flags.old (flat_map named_by_rule rules.now) }
-{
-    for rule in rules {
-        mark_rule(flags, rule);
-    }
-}
-
-#[tactic(auto, using(indexed_tables::proofs::OptionFlags::with_flags_append))]
-fn mark_group(flags: &mut [bool], group: &Group)
-    ensures { flags.new ≡ with_flags flags.old (named_by_group group.now) }
-{
-    mark_rules(flags, group.rules.as_slice());
-    mark_outputs(flags, group.on_match.as_slice());
-    mark_outputs(flags, group.on_nomatch.as_slice());
-}
-
-#[tactic(auto, using(indexed_tables::proofs::OptionFlags::with_flags_append))]
-fn mark_groups(flags: &mut [bool], groups: &[Group])
-    ensures { flags.new ≡ with_flags flags.old (flat_map named_by_group groups.now) }
-{
-    for group in groups {
-        mark_group(flags, group);
-    }
-}
-
-/// Returns a flag for each store: whether some item names it, except as a value.
-#[tactic(auto, unfolding(crate::specs::Names::named_stores))]
-pub(crate) fn named_flags(alloc: Global, tables: &Tables) -> Result<Vec<bool>, Memory>
-    ensures { IfOk result (λ flags. flags.items ≡ with_flags (replicate (length tables.now.stores) false) (named_stores tables.now)) }
-{
-    let mut flags = vec![in alloc; false; tables.stores.len()]?;
-    mark_groups(flags.as_mut_slice(), tables.groups.as_slice());
-    Ok(flags)
 }

@@ -12,15 +12,25 @@ use decompile_program::has_character;
 use indexed_tables::element_text;
 use kmn_base::{Element, Memory};
 
-/// Returns a hexadecimal digit in upper case.
-fn hex_glyph(digit: u32) -> u8
-    requires { digit < 16 }
-    ensures { result ≡ hex_glyph digit }
+/// Appends a character as `U+` and its hexadecimal number.
+#[tactic(auto, using(crate::proofs::MoreText::with_text_append, crate::proofs::MoreText::with_no_text))]
+pub(crate) fn put_character(page: &mut Page, character: u32) -> Result<(), Memory>
+    ensures { OnOk result (page.new ≡ with_text page.old (char_text character)) }
 {
-    if digit < 10 {
-        48 + digit as u8
+    page.put(b"U+")?;
+    put_digits(page, character)
+}
+
+/// Appends the hexadecimal digits of a character, at least four.
+fn put_digits(page: &mut Page, character: u32) -> Result<(), Memory>
+    ensures { OnOk result (page.new ≡ with_text page.old (hex_text (hex_count character) character)) }
+{
+    if character < 0x1_0000 {
+        page.put(&four_digits(character))
+    } else if character < 0x10_0000 {
+        put_five(page, character)
     } else {
-        55 + digit as u8
+        put_six(page, character)
     }
 }
 
@@ -36,6 +46,18 @@ fn four_digits(number: u32) -> [u8; 4]
         hex_glyph(tail % 16),
         hex_glyph(number % 16),
     ]
+}
+
+/// Returns a hexadecimal digit in upper case.
+fn hex_glyph(digit: u32) -> u8
+    requires { digit < 16 }
+    ensures { result ≡ hex_glyph digit }
+{
+    if digit < 10 {
+        48 + digit as u8
+    } else {
+        55 + digit as u8
+    }
 }
 
 /// Appends the last five hexadecimal digits of a number.
@@ -56,26 +78,16 @@ fn put_six(page: &mut Page, number: u32) -> Result<(), Memory>
     page.put(&[hex_glyph(number % 16)])
 }
 
-/// Appends the hexadecimal digits of a character, at least four.
-fn put_digits(page: &mut Page, character: u32) -> Result<(), Memory>
-    ensures { OnOk result (page.new ≡ with_text page.old (hex_text (hex_count character) character)) }
+/// Appends the characters of elements in quotes.
+#[tactic(auto, using(crate::proofs::MoreText::with_text_append, crate::proofs::MoreText::with_no_text), unfolding(crate::specs::Texts::quoted_text))]
+pub(crate) fn put_quoted(page: &mut Page, elements: &[Element]) -> Result<(), Memory>
+    ensures { OnOk result (page.new ≡ with_text page.old (quoted_text elements.now)) }
 {
-    if character < 0x1_0000 {
-        page.put(&four_digits(character))
-    } else if character < 0x10_0000 {
-        put_five(page, character)
-    } else {
-        put_six(page, character)
-    }
-}
-
-/// Appends a character as `U+` and its hexadecimal number.
-#[tactic(auto, using(crate::proofs::MoreText::with_text_append, crate::proofs::MoreText::with_no_text))]
-pub(crate) fn put_character(page: &mut Page, character: u32) -> Result<(), Memory>
-    ensures { OnOk result (page.new ≡ with_text page.old (char_text character)) }
-{
-    page.put(b"U+")?;
-    put_digits(page, character)
+    let quote = quote_of(elements);
+    let text = element_text(page.alloc, elements)?;
+    page.put(&[quote])?;
+    page.put(text.as_bytes())?;
+    page.put(&[quote])
 }
 
 /// Returns the quote for the characters of elements: `'` if they contain a `"`, else `"`.
@@ -87,16 +99,4 @@ fn quote_of(elements: &[Element]) -> u8
     } else {
         b'"'
     }
-}
-
-/// Appends the characters of elements in quotes.
-#[tactic(auto, using(crate::proofs::MoreText::with_text_append, crate::proofs::MoreText::with_no_text), unfolding(crate::specs::Texts::quoted_text))]
-pub(crate) fn put_quoted(page: &mut Page, elements: &[Element]) -> Result<(), Memory>
-    ensures { OnOk result (page.new ≡ with_text page.old (quoted_text elements.now)) }
-{
-    let quote = quote_of(elements);
-    let text = element_text(page.alloc, elements)?;
-    page.put(&[quote])?;
-    page.put(text.as_bytes())?;
-    page.put(&[quote])
 }

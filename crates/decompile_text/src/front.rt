@@ -21,19 +21,6 @@ pub(crate) fn put_version(page: &mut Page, version: u16) -> Result<(), Memory>
     page.put(b"\"\n")
 }
 
-/// Appends the deadkeys up to a number, each preceded by a space.
-#[tactic(auto, using(crate::proofs::MoreText::with_text_append, crate::proofs::MoreText::with_no_text, crate::proofs::Marks::next_mark, crate::proofs::Marks::no_mark))]
-fn put_marks(page: &mut Page, greatest: u16) -> Result<(), Memory>
-    ensures { OnOk result (page.new ≡ with_text page.old (marks_text (range_with_len 1 greatest))) }
-{
-    for before in 0..greatest {
-        page.put(b" dk(")?;
-        page.put_number(u32::from(before) + 1)?;
-        page.put(b")")?;
-    }
-    Ok(())
-}
-
 /// Appends a store of the deadkeys up to a number, if there are any.
 #[tactic(auto, using(crate::proofs::MoreText::with_text_append, crate::proofs::MoreText::with_no_text))]
 pub(crate) fn put_mark_store(page: &mut Page, name: &[u8], greatest: u16) -> Result<(), Memory>
@@ -47,16 +34,28 @@ pub(crate) fn put_mark_store(page: &mut Page, name: &[u8], greatest: u16) -> Res
     page.put(b"\n")
 }
 
-/// Appends keys in brackets, each preceded by a space.
-fn put_keys(page: &mut Page, keys: &[Text]) -> Result<(), Memory>
-    ensures { OnOk result (page.new ≡ with_keys page.old keys.now) }
+/// Appends the deadkeys up to a number, each preceded by a space.
+#[tactic(auto, using(crate::proofs::MoreText::with_text_append, crate::proofs::MoreText::with_no_text, crate::proofs::Marks::next_mark, crate::proofs::Marks::no_mark))]
+fn put_marks(page: &mut Page, greatest: u16) -> Result<(), Memory>
+    ensures { OnOk result (page.new ≡ with_text page.old (marks_text (range_with_len 1 greatest))) }
 {
-    for key in keys {
-        page.put(b" [")?;
-        page.put(key.as_slice())?;
-        page.put(b"]")?;
+    for before in 0..greatest {
+        page.put(b" dk(")?;
+        page.put_number(u32::from(before) + 1)?;
+        page.put(b")")?;
     }
     Ok(())
+}
+
+/// Appends a store of the custom keys, if there are any.
+#[tactic(auto, using(crate::proofs::MoreText::with_no_text))]
+pub(crate) fn put_key_store(page: &mut Page, name: &[u8], keys: &[Text]) -> Result<(), Memory>
+    ensures { OnOk result (page.new ≡ with_text page.old (key_line name.now keys.now)) }
+{
+    match keys {
+        [] => Ok(()),
+        [_, ..] => put_some_keys(page, name, keys),
+    }
 }
 
 /// Appends a store of keys.
@@ -69,13 +68,14 @@ fn put_some_keys(page: &mut Page, name: &[u8], keys: &[Text]) -> Result<(), Memo
     page.put(b"\n")
 }
 
-/// Appends a store of the custom keys, if there are any.
-#[tactic(auto, using(crate::proofs::MoreText::with_no_text))]
-pub(crate) fn put_key_store(page: &mut Page, name: &[u8], keys: &[Text]) -> Result<(), Memory>
-    ensures { OnOk result (page.new ≡ with_text page.old (key_line name.now keys.now)) }
+/// Appends keys in brackets, each preceded by a space.
+fn put_keys(page: &mut Page, keys: &[Text]) -> Result<(), Memory>
+    ensures { OnOk result (page.new ≡ with_keys page.old keys.now) }
 {
-    match keys {
-        [] => Ok(()),
-        [_, ..] => put_some_keys(page, name, keys),
+    for key in keys {
+        page.put(b" [")?;
+        page.put(key.as_slice())?;
+        page.put(b"]")?;
     }
+    Ok(())
 }

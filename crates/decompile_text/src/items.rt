@@ -20,17 +20,6 @@ use rule_model::system::PLATFORM;
 use rule_model::{Out, Pat};
 use virtual_keys::modifiers;
 
-/// Returns the name of the system option with an id, with its `&`.
-fn option_name(id: u32) -> &'static [u8]
-    ensures { result.now ≡ option_name id }
-{
-    if id == PLATFORM {
-        b"&platform"
-    } else {
-        b"&layer"
-    }
-}
-
 /// Appends a word with a name in parentheses.
 #[tactic(auto, using(crate::proofs::MoreText::with_text_append, crate::proofs::MoreText::with_no_text))]
 pub(crate) fn put_call(page: &mut Page, word: &[u8], name: &[u8]) -> Result<(), Memory>
@@ -40,6 +29,22 @@ pub(crate) fn put_call(page: &mut Page, word: &[u8], name: &[u8]) -> Result<(), 
     page.put(b"(")?;
     page.put(name)?;
     page.put(b")")
+}
+
+/// Appends an element of a store.
+#[tactic(auto, using(crate::proofs::MoreText::with_text_append, crate::proofs::MoreText::with_no_text), unfolding(crate::specs::Texts::element_text, crate::specs::Texts::virtual_text))]
+pub(crate) fn put_element(
+    page: &mut Page,
+    names: &Called<'_>,
+    element: &Element,
+) -> Result<(), Memory>
+    ensures { OnOk result (page.new ≡ with_text page.old (element_text names.now element.now)) }
+{
+    match element {
+        Element::Char(c) => put_character(page, *c as u32),
+        Element::Mark(mark) => put_numbered(page, b"dk", u32::from(*mark)),
+        Element::Key { flags, code } => put_key(page, names, u32::from(*flags), *code),
+    }
 }
 
 /// Appends a word with a number in parentheses.
@@ -53,66 +58,22 @@ fn put_numbered(page: &mut Page, word: &[u8], number: u32) -> Result<(), Memory>
     page.put(b")")
 }
 
-/// Appends `index` with a name and an offset.
-#[tactic(auto, using(crate::proofs::MoreText::with_text_append, crate::proofs::MoreText::with_no_text))]
-fn put_index(page: &mut Page, name: &[u8], offset: u32) -> Result<(), Memory>
-    ensures { OnOk result (page.new ≡ with_text page.old (index_text name.now offset)) }
+/// Appends a virtual key.
+#[tactic(auto, using(crate::proofs::Puts::key_is, crate::proofs::KeyTexts::virtual_is))]
+fn put_key(page: &mut Page, names: &Called<'_>, flags: u32, code: u16) -> Result<(), Memory>
+    ensures { OnOk result (page.new ≡ with_text page.old (virtual_text names.now flags code)) }
 {
-    page.put(b"index(")?;
-    page.put(name)?;
-    page.put(b",")?;
-    page.put_number(offset)?;
-    page.put(b")")
+    page.put(b"[")?;
+    put_modifiers(page, flags)?;
+    page.put(names.key_name(code))?;
+    page.put(b"]")
 }
 
-/// Appends a word, an opening parenthesis and a name.
-#[tactic(auto, using(crate::proofs::MoreText::with_text_append, crate::proofs::MoreText::with_no_text))]
-fn put_opened(page: &mut Page, word: &[u8], name: &[u8]) -> Result<(), Memory>
-    ensures { OnOk result (page.new ≡ with_text page.old (word.now ++ 40 ∷ name.now)) }
+/// Appends the modifier words of a virtual key's flags. In a text, `VIRTUAL_KEY` is always one of the flags.
+fn put_modifiers(page: &mut Page, flags: u32) -> Result<(), Memory>
+    ensures { OnOk result (page.new ≡ with_flag_words (bit_or flags VIRTUAL_KEY) page.old shift_flags) }
 {
-    page.put(word)?;
-    page.put(b"(")?;
-    page.put(name)
-}
-
-/// Appends an operator between spaces.
-#[tactic(auto, using(crate::proofs::MoreText::with_text_append, crate::proofs::MoreText::with_no_text))]
-fn put_sign(page: &mut Page, sign: &[u8]) -> Result<(), Memory>
-    ensures { OnOk result (page.new ≡ with_text page.old (32 ∷ (sign.now ++ 32 ∷ []))) }
-{
-    page.put(b" ")?;
-    page.put(sign)?;
-    page.put(b" ")
-}
-
-/// Appends a comparison or an assignment: a word, and in parentheses a name, an operator and the value of a store.
-#[tactic(auto, using(crate::proofs::Puts::compared_is))]
-fn put_compared(
-    page: &mut Page,
-    word: &[u8],
-    name: &[u8],
-    sign: &[u8],
-    names: &SizedNames<'_>,
-    value: u32,
-) -> Result<(), Memory>
-    ensures { OnOk result (page.new ≡ with_text page.old (compared_text word.now name.now sign.now (elements_of names.now.elements value))) }
-{
-    put_opened(page, word, name)?;
-    put_sign(page, sign)?;
-    put_value(page, names, value)?;
-    page.put(b")")
-}
-
-/// Appends the word of a flag and a space, if the flag is set.
-#[tactic(auto, using(crate::proofs::MoreText::with_text_append, crate::proofs::MoreText::with_no_text))]
-fn put_flag(page: &mut Page, flags: u32, word: &[u8], flag: u32) -> Result<(), Memory>
-    ensures { OnOk result (page.new ≡ with_text page.old (flag_text flags word.now flag)) }
-{
-    if flags & flag == 0 {
-        return Ok(());
-    }
-    page.put(word)?;
-    page.put(b" ")
+    put_flags(page, flags | u32::from(VIRTUAL_KEY), modifiers())
 }
 
 /// Appends the modifier words of shift flags, each followed by a space.
@@ -130,38 +91,16 @@ fn put_flags(
     Ok(())
 }
 
-/// Appends the modifier words of a virtual key's flags. In a text, `VIRTUAL_KEY` is always one of the flags.
-fn put_modifiers(page: &mut Page, flags: u32) -> Result<(), Memory>
-    ensures { OnOk result (page.new ≡ with_flag_words (bit_or flags VIRTUAL_KEY) page.old shift_flags) }
+/// Appends the word of a flag and a space, if the flag is set.
+#[tactic(auto, using(crate::proofs::MoreText::with_text_append, crate::proofs::MoreText::with_no_text))]
+fn put_flag(page: &mut Page, flags: u32, word: &[u8], flag: u32) -> Result<(), Memory>
+    ensures { OnOk result (page.new ≡ with_text page.old (flag_text flags word.now flag)) }
 {
-    put_flags(page, flags | u32::from(VIRTUAL_KEY), modifiers())
-}
-
-/// Appends a virtual key.
-#[tactic(auto, using(crate::proofs::Puts::key_is, crate::proofs::KeyTexts::virtual_is))]
-fn put_key(page: &mut Page, names: &Called<'_>, flags: u32, code: u16) -> Result<(), Memory>
-    ensures { OnOk result (page.new ≡ with_text page.old (virtual_text names.now flags code)) }
-{
-    page.put(b"[")?;
-    put_modifiers(page, flags)?;
-    page.put(names.key_name(code))?;
-    page.put(b"]")
-}
-
-/// Appends an element of a store.
-#[tactic(auto, using(crate::proofs::MoreText::with_text_append, crate::proofs::MoreText::with_no_text), unfolding(crate::specs::Texts::element_text, crate::specs::Texts::virtual_text))]
-pub(crate) fn put_element(
-    page: &mut Page,
-    names: &Called<'_>,
-    element: &Element,
-) -> Result<(), Memory>
-    ensures { OnOk result (page.new ≡ with_text page.old (element_text names.now element.now)) }
-{
-    match element {
-        Element::Char(c) => put_character(page, *c as u32),
-        Element::Mark(mark) => put_numbered(page, b"dk", u32::from(*mark)),
-        Element::Key { flags, code } => put_key(page, names, u32::from(*flags), *code),
+    if flags & flag == 0 {
+        return Ok(());
     }
+    page.put(word)?;
+    page.put(b" ")
 }
 
 /// Appends an item of a context.
@@ -194,6 +133,67 @@ pub(crate) fn put_pattern(
             put_compared(page, b"if", option_name(*id), b"!=", names, *value)
         }
         Pat::Nul => page.put(b"nul"),
+    }
+}
+
+/// Appends `index` with a name and an offset.
+#[tactic(auto, using(crate::proofs::MoreText::with_text_append, crate::proofs::MoreText::with_no_text))]
+fn put_index(page: &mut Page, name: &[u8], offset: u32) -> Result<(), Memory>
+    ensures { OnOk result (page.new ≡ with_text page.old (index_text name.now offset)) }
+{
+    page.put(b"index(")?;
+    page.put(name)?;
+    page.put(b",")?;
+    page.put_number(offset)?;
+    page.put(b")")
+}
+
+/// Appends a comparison or an assignment: a word, and in parentheses a name, an operator and the value of a store.
+#[tactic(auto, using(crate::proofs::Puts::compared_is))]
+fn put_compared(
+    page: &mut Page,
+    word: &[u8],
+    name: &[u8],
+    sign: &[u8],
+    names: &SizedNames<'_>,
+    value: u32,
+) -> Result<(), Memory>
+    ensures { OnOk result (page.new ≡ with_text page.old (compared_text word.now name.now sign.now (elements_of names.now.elements value))) }
+{
+    put_opened(page, word, name)?;
+    put_sign(page, sign)?;
+    put_value(page, names, value)?;
+    page.put(b")")
+}
+
+/// Appends a word, an opening parenthesis and a name.
+#[tactic(auto, using(crate::proofs::MoreText::with_text_append, crate::proofs::MoreText::with_no_text))]
+fn put_opened(page: &mut Page, word: &[u8], name: &[u8]) -> Result<(), Memory>
+    ensures { OnOk result (page.new ≡ with_text page.old (word.now ++ 40 ∷ name.now)) }
+{
+    page.put(word)?;
+    page.put(b"(")?;
+    page.put(name)
+}
+
+/// Appends an operator between spaces.
+#[tactic(auto, using(crate::proofs::MoreText::with_text_append, crate::proofs::MoreText::with_no_text))]
+fn put_sign(page: &mut Page, sign: &[u8]) -> Result<(), Memory>
+    ensures { OnOk result (page.new ≡ with_text page.old (32 ∷ (sign.now ++ 32 ∷ []))) }
+{
+    page.put(b" ")?;
+    page.put(sign)?;
+    page.put(b" ")
+}
+
+/// Returns the name of the system option with an id, with its `&`.
+fn option_name(id: u32) -> &'static [u8]
+    ensures { result.now ≡ option_name id }
+{
+    if id == PLATFORM {
+        b"&platform"
+    } else {
+        b"&layer"
     }
 }
 

@@ -16,110 +16,19 @@ use kmn_parser::system_store_name;
 use rule_model::system::NO_GROUP;
 use rule_model::{Group, Out, Pat, Rule, Store};
 
-/// Appends elements, each preceded by a space.
-fn put_elements(page: &mut Page, names: &Called<'_>, elements: &[Element]) -> Result<(), Memory>
-    ensures { OnOk result (page.new ≡ with_elements names.now page.old elements.now) }
-{
-    for element in elements {
-        page.put(b" ")?;
-        put_element(page, names, element)?;
-    }
-    Ok(())
-}
-
-/// Appends the items of a context, each followed by a space.
-fn put_context(page: &mut Page, names: &SizedNames<'_>, context: &[Pat]) -> Result<(), Memory>
-    ensures { OnOk result (page.new ≡ with_context names.now page.old context.now) }
-{
-    for pattern in context {
-        put_pattern(page, names, pattern)?;
-        page.put(b" ")?;
-    }
-    Ok(())
-}
-
-/// Appends the items of an output, each preceded by a space.
-fn put_outputs(page: &mut Page, names: &SizedNames<'_>, outputs: &[Out]) -> Result<(), Memory>
-    ensures { OnOk result (page.new ≡ with_outputs names.now page.old outputs.now) }
-{
-    for output in outputs {
-        page.put(b" ")?;
-        put_output(page, names, output)?;
-    }
-    Ok(())
-}
-
-/// Appends the output of a record, or `nul` if the output is empty.
-#[tactic(auto, using(crate::proofs::MoreText::with_text_append, crate::proofs::MoreText::with_no_text, crate::proofs::OneByOne::elements_are, crate::proofs::OneByOne::context_is, crate::proofs::OneByOne::outputs_are, crate::proofs::OneByOne::rules_are))]
-fn put_some_outputs(page: &mut Page, names: &SizedNames<'_>, outputs: &[Out]) -> Result<(), Memory>
-    ensures { OnOk result (page.new ≡ with_text page.old (some_outputs_text names.now outputs.now)) }
-{
-    if outputs.is_empty() {
-        page.put(b" nul")
-    } else {
-        put_outputs(page, names, outputs)
-    }
-}
-
-/// Appends the line of a record.
-#[tactic(auto, using(crate::proofs::MoreText::with_text_append, crate::proofs::MoreText::with_no_text, crate::proofs::OneByOne::elements_are, crate::proofs::OneByOne::context_is, crate::proofs::OneByOne::outputs_are, crate::proofs::OneByOne::rules_are), unfolding(crate::specs::Texts::rule_text))]
-fn put_rule(page: &mut Page, names: &SizedNames<'_>, rule: &Rule) -> Result<(), Memory>
-    ensures { OnOk result (page.new ≡ with_text page.old (rule_text names.now rule.now)) }
-{
-    put_context(page, names, rule.context.as_slice())?;
-    put_key_part(page, names.called(), &rule.key)?;
-    page.put(b">")?;
-    put_some_outputs(page, names, rule.output.as_slice())?;
-    page.put(b"\n")
-}
-
-/// Appends the lines of records.
-fn put_rules(page: &mut Page, names: &SizedNames<'_>, rules: &[Rule]) -> Result<(), Memory>
-    ensures { OnOk result (page.new ≡ with_rules names.now page.old rules.now) }
-{
-    for rule in rules {
-        put_rule(page, names, rule)?;
-    }
-    Ok(())
-}
-
-/// Appends a match or nomatch line that begins with this word.
-#[tactic(auto, using(crate::proofs::MoreText::with_text_append, crate::proofs::OneByOne::outputs_are))]
-fn put_some_statement(
+/// Appends the lines of the groups.
+pub(crate) fn put_groups(
     page: &mut Page,
     names: &SizedNames<'_>,
-    word: &[u8],
-    outputs: &[Out],
+    groups: &[Group],
 ) -> Result<(), Memory>
-    ensures { OnOk result (page.new ≡ with_text page.old (word.now ++ (codes " >" ++ (outputs_text names.now outputs.now ++ 10 ∷ [])))) }
+    ensures { OnOk result (page.new ≡ with_groups names.now 0 page.old groups.now) }
 {
-    page.put(word)?;
-    page.put(b" >")?;
-    put_outputs(page, names, outputs)?;
-    page.put(b"\n")
-}
-
-/// Appends a match or nomatch line that begins with this word, if the output is not empty.
-#[tactic(auto, using(crate::proofs::MoreText::with_no_text))]
-fn put_statement(
-    page: &mut Page,
-    names: &SizedNames<'_>,
-    word: &[u8],
-    outputs: &[Out],
-) -> Result<(), Memory>
-    ensures { OnOk result (page.new ≡ with_text page.old (statement_text names.now word.now outputs.now)) }
-{
-    match outputs {
-        [] => Ok(()),
-        [_, ..] => put_some_statement(page, names, word, outputs),
+    let called = names.called();
+    for (number, group) in groups.iter().enumerate() {
+        put_group(page, names, called.group_at(number), group)?;
     }
-}
-
-/// Returns the rest of a group's line after the name.
-fn keys_part(using_keys: bool) -> &'static [u8]
-    ensures { result.now ≡ (if using_keys then codes " using keys\n" else codes "\n") }
-{
-    if using_keys { b" using keys\n" } else { b"\n" }
+    Ok(())
 }
 
 /// Appends the lines of a group that has this name.
@@ -139,50 +48,113 @@ fn put_group(
     put_statement(page, names, b"nomatch", group.on_nomatch.as_slice())
 }
 
-/// Appends the lines of the groups.
-pub(crate) fn put_groups(
-    page: &mut Page,
-    names: &SizedNames<'_>,
-    groups: &[Group],
-) -> Result<(), Memory>
-    ensures { OnOk result (page.new ≡ with_groups names.now 0 page.old groups.now) }
+/// Returns the rest of a group's line after the name.
+fn keys_part(using_keys: bool) -> &'static [u8]
+    ensures { result.now ≡ (if using_keys then codes " using keys\n" else codes "\n") }
 {
-    let called = names.called();
-    for (number, group) in groups.iter().enumerate() {
-        put_group(page, names, called.group_at(number), group)?;
+    if using_keys { b" using keys\n" } else { b"\n" }
+}
+
+/// Appends the lines of records.
+fn put_rules(page: &mut Page, names: &SizedNames<'_>, rules: &[Rule]) -> Result<(), Memory>
+    ensures { OnOk result (page.new ≡ with_rules names.now page.old rules.now) }
+{
+    for rule in rules {
+        put_rule(page, names, rule)?;
     }
     Ok(())
 }
 
-/// Appends the word `store` and the name of a system store, with its `&`.
-#[tactic(auto, using(crate::proofs::MoreText::with_text_append, crate::proofs::MoreText::with_no_text))]
-fn put_system_name(page: &mut Page, system: u32) -> Result<(), Memory>
-    ensures { OnOk result (page.new ≡ with_text page.old (call_text (codes "store") (system_name system))) }
+/// Appends the line of a record.
+#[tactic(auto, using(crate::proofs::MoreText::with_text_append, crate::proofs::MoreText::with_no_text, crate::proofs::OneByOne::elements_are, crate::proofs::OneByOne::context_is, crate::proofs::OneByOne::outputs_are, crate::proofs::OneByOne::rules_are), unfolding(crate::specs::Texts::rule_text))]
+fn put_rule(page: &mut Page, names: &SizedNames<'_>, rule: &Rule) -> Result<(), Memory>
+    ensures { OnOk result (page.new ≡ with_text page.old (rule_text names.now rule.now)) }
 {
-    page.put(b"store(&")?;
-    page.put(system_store_name(system))?;
-    page.put(b")")
+    put_context(page, names, rule.context.as_slice())?;
+    put_key_part(page, names.called(), &rule.key)?;
+    page.put(b">")?;
+    put_some_outputs(page, names, rule.output.as_slice())?;
+    page.put(b"\n")
 }
 
-/// Appends the word `store` and the name of a store: the name of its system id if it has one, else this name.
-fn put_store_name(page: &mut Page, name: &[u8], system: u32) -> Result<(), Memory>
-    ensures { OnOk result (page.new ≡ with_text page.old (call_text (codes "store") (if nat_eq system 0 then name.now else system_name system))) }
+/// Appends the items of a context, each followed by a space.
+fn put_context(page: &mut Page, names: &SizedNames<'_>, context: &[Pat]) -> Result<(), Memory>
+    ensures { OnOk result (page.new ≡ with_context names.now page.old context.now) }
 {
-    if system == 0 {
-        put_call(page, b"store", name)
+    for pattern in context {
+        put_pattern(page, names, pattern)?;
+        page.put(b" ")?;
+    }
+    Ok(())
+}
+
+/// Appends the output of a record, or `nul` if the output is empty.
+#[tactic(auto, using(crate::proofs::MoreText::with_text_append, crate::proofs::MoreText::with_no_text, crate::proofs::OneByOne::elements_are, crate::proofs::OneByOne::context_is, crate::proofs::OneByOne::outputs_are, crate::proofs::OneByOne::rules_are))]
+fn put_some_outputs(page: &mut Page, names: &SizedNames<'_>, outputs: &[Out]) -> Result<(), Memory>
+    ensures { OnOk result (page.new ≡ with_text page.old (some_outputs_text names.now outputs.now)) }
+{
+    if outputs.is_empty() {
+        page.put(b" nul")
     } else {
-        put_system_name(page, system)
+        put_outputs(page, names, outputs)
     }
 }
 
-/// Appends the line of a store under its name.
-#[tactic(auto, using(crate::proofs::MoreText::with_text_append, crate::proofs::MoreText::with_no_text, crate::proofs::OneByOne::elements_are, crate::proofs::OneByOne::context_is, crate::proofs::OneByOne::outputs_are, crate::proofs::OneByOne::rules_are), unfolding(crate::specs::Texts::store_text))]
-fn put_store(page: &mut Page, names: &Called<'_>, name: &[u8], store: &Store) -> Result<(), Memory>
-    ensures { OnOk result (page.new ≡ with_text page.old (store_text names.now name.now store.now)) }
+/// Appends the items of an output, each preceded by a space.
+fn put_outputs(page: &mut Page, names: &SizedNames<'_>, outputs: &[Out]) -> Result<(), Memory>
+    ensures { OnOk result (page.new ≡ with_outputs names.now page.old outputs.now) }
 {
-    put_store_name(page, name, store.system)?;
-    put_elements(page, names, store.elements.as_slice())?;
+    for output in outputs {
+        page.put(b" ")?;
+        put_output(page, names, output)?;
+    }
+    Ok(())
+}
+
+/// Appends a match or nomatch line that begins with this word, if the output is not empty.
+#[tactic(auto, using(crate::proofs::MoreText::with_no_text))]
+fn put_statement(
+    page: &mut Page,
+    names: &SizedNames<'_>,
+    word: &[u8],
+    outputs: &[Out],
+) -> Result<(), Memory>
+    ensures { OnOk result (page.new ≡ with_text page.old (statement_text names.now word.now outputs.now)) }
+{
+    match outputs {
+        [] => Ok(()),
+        [_, ..] => put_some_statement(page, names, word, outputs),
+    }
+}
+
+/// Appends a match or nomatch line that begins with this word.
+#[tactic(auto, using(crate::proofs::MoreText::with_text_append, crate::proofs::OneByOne::outputs_are))]
+fn put_some_statement(
+    page: &mut Page,
+    names: &SizedNames<'_>,
+    word: &[u8],
+    outputs: &[Out],
+) -> Result<(), Memory>
+    ensures { OnOk result (page.new ≡ with_text page.old (word.now ++ (codes " >" ++ (outputs_text names.now outputs.now ++ 10 ∷ [])))) }
+{
+    page.put(word)?;
+    page.put(b" >")?;
+    put_outputs(page, names, outputs)?;
     page.put(b"\n")
+}
+
+/// Appends the lines of those stores that the text contains.
+pub(crate) fn put_stores(
+    page: &mut Page,
+    names: &Called<'_>,
+    stores: &[Store],
+) -> Result<(), Memory>
+    ensures { OnOk result (page.new ≡ with_stores names.now 0 page.old stores.now) }
+{
+    for (number, store) in stores.iter().enumerate() {
+        put_if_called(page, names, number, store)?;
+    }
+    Ok(())
 }
 
 /// Appends the line of the store of a number if the text contains this store.
@@ -200,49 +172,46 @@ fn put_if_called(
     }
 }
 
-/// Appends the lines of those stores that the text contains.
-pub(crate) fn put_stores(
-    page: &mut Page,
-    names: &Called<'_>,
-    stores: &[Store],
-) -> Result<(), Memory>
-    ensures { OnOk result (page.new ≡ with_stores names.now 0 page.old stores.now) }
+/// Appends the line of a store under its name.
+#[tactic(auto, using(crate::proofs::MoreText::with_text_append, crate::proofs::MoreText::with_no_text, crate::proofs::OneByOne::elements_are, crate::proofs::OneByOne::context_is, crate::proofs::OneByOne::outputs_are, crate::proofs::OneByOne::rules_are), unfolding(crate::specs::Texts::store_text))]
+fn put_store(page: &mut Page, names: &Called<'_>, name: &[u8], store: &Store) -> Result<(), Memory>
+    ensures { OnOk result (page.new ≡ with_text page.old (store_text names.now name.now store.now)) }
 {
-    for (number, store) in stores.iter().enumerate() {
-        put_if_called(page, names, number, store)?;
-    }
-    Ok(())
-}
-
-/// Appends a begin statement of a kind, with the name of its group.
-#[tactic(auto, using(crate::proofs::MoreText::with_text_append, crate::proofs::MoreText::with_no_text, crate::proofs::OneByOne::elements_are, crate::proofs::OneByOne::context_is, crate::proofs::OneByOne::outputs_are, crate::proofs::OneByOne::rules_are), unfolding(crate::specs::Texts::begin_text))]
-fn put_begin(page: &mut Page, kind: &[u8], name: &[u8]) -> Result<(), Memory>
-    ensures { OnOk result (page.new ≡ with_text page.old (begin_text kind.now name.now)) }
-{
-    page.put(b"begin ")?;
-    page.put(kind)?;
-    page.put(b" > ")?;
-    put_call(page, b"use", name)?;
+    put_store_name(page, name, store.system)?;
+    put_elements(page, names, store.elements.as_slice())?;
     page.put(b"\n")
 }
 
-/// Returns whether the number of a start group is the number for no group.
-fn is_no_group(group: u32) -> bool
-    ensures { result ≡ nat_eq group NO_GROUP }
+/// Appends the word `store` and the name of a store: the name of its system id if it has one, else this name.
+fn put_store_name(page: &mut Page, name: &[u8], system: u32) -> Result<(), Memory>
+    ensures { OnOk result (page.new ≡ with_text page.old (call_text (codes "store") (if nat_eq system 0 then name.now else system_name system))) }
 {
-    group == NO_GROUP
+    if system == 0 {
+        put_call(page, b"store", name)
+    } else {
+        put_system_name(page, system)
+    }
 }
 
-/// Appends the begin statement of the kind `ANSI`, unless it is absent.
-#[tactic(auto, using(crate::proofs::MoreText::with_no_text))]
-fn put_ansi(page: &mut Page, is_none: bool, name: &[u8]) -> Result<(), Memory>
-    ensures { OnOk result (page.new ≡ with_text page.old (if is_none then [] else begin_text (codes "ANSI") name.now)) }
+/// Appends the word `store` and the name of a system store, with its `&`.
+#[tactic(auto, using(crate::proofs::MoreText::with_text_append, crate::proofs::MoreText::with_no_text))]
+fn put_system_name(page: &mut Page, system: u32) -> Result<(), Memory>
+    ensures { OnOk result (page.new ≡ with_text page.old (call_text (codes "store") (system_name system))) }
 {
-    if is_none {
-        Ok(())
-    } else {
-        put_begin(page, b"ANSI", name)
+    page.put(b"store(&")?;
+    page.put(system_store_name(system))?;
+    page.put(b")")
+}
+
+/// Appends elements, each preceded by a space.
+fn put_elements(page: &mut Page, names: &Called<'_>, elements: &[Element]) -> Result<(), Memory>
+    ensures { OnOk result (page.new ≡ with_elements names.now page.old elements.now) }
+{
+    for element in elements {
+        page.put(b" ")?;
+        put_element(page, names, element)?;
     }
+    Ok(())
 }
 
 /// Appends the begin statements.
@@ -257,4 +226,35 @@ pub(crate) fn put_begins(
 {
     put_begin(page, b"Unicode", names.group(unicode))?;
     put_ansi(page, is_no_group(ansi), names.group(ansi))
+}
+
+/// Appends a begin statement of a kind, with the name of its group.
+#[tactic(auto, using(crate::proofs::MoreText::with_text_append, crate::proofs::MoreText::with_no_text, crate::proofs::OneByOne::elements_are, crate::proofs::OneByOne::context_is, crate::proofs::OneByOne::outputs_are, crate::proofs::OneByOne::rules_are), unfolding(crate::specs::Texts::begin_text))]
+fn put_begin(page: &mut Page, kind: &[u8], name: &[u8]) -> Result<(), Memory>
+    ensures { OnOk result (page.new ≡ with_text page.old (begin_text kind.now name.now)) }
+{
+    page.put(b"begin ")?;
+    page.put(kind)?;
+    page.put(b" > ")?;
+    put_call(page, b"use", name)?;
+    page.put(b"\n")
+}
+
+/// Appends the begin statement of the kind `ANSI`, unless it is absent.
+#[tactic(auto, using(crate::proofs::MoreText::with_no_text))]
+fn put_ansi(page: &mut Page, is_none: bool, name: &[u8]) -> Result<(), Memory>
+    ensures { OnOk result (page.new ≡ with_text page.old (if is_none then [] else begin_text (codes "ANSI") name.now)) }
+{
+    if is_none {
+        Ok(())
+    } else {
+        put_begin(page, b"ANSI", name)
+    }
+}
+
+/// Returns whether the number of a start group is the number for no group.
+fn is_no_group(group: u32) -> bool
+    ensures { result ≡ nat_eq group NO_GROUP }
+{
+    group == NO_GROUP
 }

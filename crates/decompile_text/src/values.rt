@@ -33,13 +33,15 @@ impl<'a> Model for SizedNames<'a> {
     ghost invariant = { λ names. names.sizes.items ≡ quoted_sizes names.called.now.elements };
 }
 
-/// Returns the size of the characters of elements in quotes, in bytes.
-fn quoted_size(alloc: Global, elements: &[Element]) -> Result<u64, Memory>
-    ensures { IfOk result (λ size. size ≡ length (quoted_text elements.now)) }
+/// Appends the characters of a store in quotes. A page that does not keep its text counts them by their size.
+pub(crate) fn put_value(page: &mut Page, names: &SizedNames<'_>, number: u32) -> Result<(), Memory>
+    ensures { OnOk result (page.new ≡ with_text page.old (quoted_text (elements_of names.now.elements number))) }
 {
-    let mut page = Page::new(alloc, false);
-    put_quoted(&mut page, elements)?;
-    Ok(page.size)
+    if page.keeps_text {
+        put_quoted(page, names.called().value(number))
+    } else {
+        page.count(names.value_size(number))
+    }
 }
 
 /// Returns for each store the size of its characters in quotes.
@@ -54,14 +56,13 @@ fn quoted_sizes(alloc: Global, stores: &[Store]) -> Result<Vec<u64>, Memory>
     Ok(sizes)
 }
 
-/// Returns the size at an index, or the size of two quotes if there is none.
-fn size_at(sizes: &[u64], number: usize) -> u64
-    ensures { result ≡ unwrap_or (slice_get sizes.now number) 2 }
+/// Returns the size of the characters of elements in quotes, in bytes.
+fn quoted_size(alloc: Global, elements: &[Element]) -> Result<u64, Memory>
+    ensures { IfOk result (λ size. size ≡ length (quoted_text elements.now)) }
 {
-    match sizes.get(number) {
-        Some(size) => *size,
-        None => 2,
-    }
+    let mut page = Page::new(alloc, false);
+    put_quoted(&mut page, elements)?;
+    Ok(page.size)
 }
 
 impl<'a> SizedNames<'a> {
@@ -89,13 +90,12 @@ impl<'a> SizedNames<'a> {
     }
 }
 
-/// Appends the characters of a store in quotes. A page that does not keep its text counts them by their size.
-pub(crate) fn put_value(page: &mut Page, names: &SizedNames<'_>, number: u32) -> Result<(), Memory>
-    ensures { OnOk result (page.new ≡ with_text page.old (quoted_text (elements_of names.now.elements number))) }
+/// Returns the size at an index, or the size of two quotes if there is none.
+fn size_at(sizes: &[u64], number: usize) -> u64
+    ensures { result ≡ unwrap_or (slice_get sizes.now number) 2 }
 {
-    if page.keeps_text {
-        put_quoted(page, names.called().value(number))
-    } else {
-        page.count(names.value_size(number))
+    match sizes.get(number) {
+        Some(size) => *size,
+        None => 2,
     }
 }

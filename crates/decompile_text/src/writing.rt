@@ -18,30 +18,6 @@ use kmn_base::{Memory, Text};
 use rule_model::Tables;
 use std::alloc::Global;
 
-/// Returns the name at an index, or an empty name if there is none.
-fn name_at(names: &[Text], place: usize) -> &[u8]
-    ensures { result.now ≡ unwrap_or (slice_get names.now place) [] }
-{
-    match names.get(place) {
-        Some(name) => name.as_slice(),
-        None => &[],
-    }
-}
-
-/// The content of the front stores, except the version: the greatest number of a deadkey, and the custom keys.
-#[derive(Drop)]
-pub struct Front {
-    pub marks: u16,
-    pub keys: Vec<Text>,
-}
-
-/// Returns 1 if the argument is true, else 0.
-fn one_if(some: bool) -> usize
-    ensures { result ≡ (if some then 1 else 0) }
-{
-    if some { 1 } else { 0 }
-}
-
 /// Returns the content of the front stores of tables.
 #[tactic(auto, unfolding(rule_model::specs::Tab::tab))]
 pub fn front_of(
@@ -59,6 +35,13 @@ pub fn front_of(
     })
 }
 
+/// The content of the front stores, except the version: the greatest number of a deadkey, and the custom keys.
+#[derive(Drop)]
+pub struct Front {
+    pub marks: u16,
+    pub keys: Vec<Text>,
+}
+
 /// Returns the number of front stores that have free names: one for the deadkeys, if any, and one for the custom keys, if any.
 #[tactic(auto, using(crate::proofs::FrontCounts::mark_count, crate::proofs::FrontCounts::key_count))]
 pub fn front_count(front: &Front, tables: &Tables) -> usize
@@ -68,29 +51,29 @@ pub fn front_count(front: &Front, tables: &Tables) -> usize
     one_if(front.marks > 0) + one_if(front.keys.len() > 0)
 }
 
-/// Returns the index of the name of the key store among the free names.
-#[tactic(auto, using(crate::proofs::FrontCounts::mark_count))]
-fn key_place(front: &Front, tables: &Tables) -> usize
-    requires { IsFront tables.now front.now }
-    ensures { result ≡ length (mark_stores tables.now) }
+/// Returns 1 if the argument is true, else 0.
+fn one_if(some: bool) -> usize
+    ensures { result ≡ (if some then 1 else 0) }
 {
-    one_if(front.marks > 0)
+    if some { 1 } else { 0 }
 }
 
-/// Appends the front stores: the version, then the stores of deadkeys and custom keys, which have the first of the free names.
-fn put_front(page: &mut Page, front: &Front, tables: &Tables, free: &[Text]) -> Result<(), Memory>
+/// Returns the size of the text of tables in bytes. Does not write the text, so the time is linear in the size of the tables.
+pub fn text_size(
+    alloc: Global,
+    front: &Front,
+    names: &SizedNames<'_>,
+    tables: &Tables,
+    free: &[Text],
+) -> Result<u64, Memory>
     requires front { IsFront tables.now front.now }
     requires free { free.now ≡ free_stores tables.now }
-    ensures { OnOk result (page.new ≡ with_text page.old (front_text tables.now)) }
+    requires names { names.now ≡ names_for tables.now }
+    ensures { IfOk result (λ size. size ≡ length (program_text (back tables.now))) }
 {
-    let first = name_at(free, 0);
-    let place = key_place(front, tables);
-    let second = name_at(free, place);
-    let keys = front.keys.as_slice();
-    put_version(page, tables.version)?;
-    put_mark_store(page, first, front.marks)?;
-    put_key_store(page, second, keys)?;
-    Ok(())
+    let mut page = Page::new(alloc, false);
+    put_tables(&mut page, front, names, tables, free)?;
+    Ok(page.size)
 }
 
 /// Appends the text of tables.
@@ -114,22 +97,39 @@ fn put_tables(
     put_groups(page, names, tables.groups.as_slice())
 }
 
-/// Returns the size of the text of tables in bytes. Does not write the text, so the time is linear in the size of the tables.
-pub fn text_size(
-    alloc: Global,
-    front: &Front,
-    names: &SizedNames<'_>,
-    tables: &Tables,
-    free: &[Text],
-) -> Result<u64, Memory>
+/// Appends the front stores: the version, then the stores of deadkeys and custom keys, which have the first of the free names.
+fn put_front(page: &mut Page, front: &Front, tables: &Tables, free: &[Text]) -> Result<(), Memory>
     requires front { IsFront tables.now front.now }
     requires free { free.now ≡ free_stores tables.now }
-    requires names { names.now ≡ names_for tables.now }
-    ensures { IfOk result (λ size. size ≡ length (program_text (back tables.now))) }
+    ensures { OnOk result (page.new ≡ with_text page.old (front_text tables.now)) }
 {
-    let mut page = Page::new(alloc, false);
-    put_tables(&mut page, front, names, tables, free)?;
-    Ok(page.size)
+    let first = name_at(free, 0);
+    let place = key_place(front, tables);
+    let second = name_at(free, place);
+    let keys = front.keys.as_slice();
+    put_version(page, tables.version)?;
+    put_mark_store(page, first, front.marks)?;
+    put_key_store(page, second, keys)?;
+    Ok(())
+}
+
+/// Returns the name at an index, or an empty name if there is none.
+fn name_at(names: &[Text], place: usize) -> &[u8]
+    ensures { result.now ≡ unwrap_or (slice_get names.now place) [] }
+{
+    match names.get(place) {
+        Some(name) => name.as_slice(),
+        None => &[],
+    }
+}
+
+/// Returns the index of the name of the key store among the free names.
+#[tactic(auto, using(crate::proofs::FrontCounts::mark_count))]
+fn key_place(front: &Front, tables: &Tables) -> usize
+    requires { IsFront tables.now front.now }
+    ensures { result ≡ length (mark_stores tables.now) }
+{
+    one_if(front.marks > 0)
 }
 
 /// Returns the text of tables. Does not limit the text: a caller asks `text_size` before.

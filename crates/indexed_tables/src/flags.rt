@@ -24,6 +24,17 @@ pub fn flag_at(flags: &[bool], place: usize) -> bool
     flags.get(place).copied().unwrap_or(false)
 }
 
+/// Returns the option number of each store by these flags, followed by those of the system options, which are options of every
+/// keyboard. Errors: `Memory` if an allocation fails.
+#[tactic(auto, using(std::proofs::lemmas::Grind::common_steps))]
+pub fn numbers_by_flags(alloc: Global, mut flags: Vec<bool>) -> Result<Vec<Option<usize>>, Memory>
+    ensures { IfOk result (λ numbers. numbers.items ≡ flag_numbers 0 (flags.items ++ true ∷ true ∷ [])) }
+{
+    flags.push(true)?;
+    flags.push(true)?;
+    flag_numbers(alloc, flags.as_slice())
+}
+
 /// Returns the number of each flag that is set, in order, and None for the other flags. Errors: `Memory` if an allocation fails.
 #[tactic(auto, using(std::proofs::lemmas::Grind::common_steps, crate::proofs::OptionFlags::numbers_more))]
 fn flag_numbers(alloc: Global, flags: &[bool]) -> Result<Vec<Option<usize>>, Memory>
@@ -40,17 +51,6 @@ fn flag_numbers(alloc: Global, flags: &[bool]) -> Result<Vec<Option<usize>>, Mem
         }
     }
     Ok(numbers)
-}
-
-/// Returns the option number of each store by these flags, followed by those of the system options, which are options of every
-/// keyboard. Errors: `Memory` if an allocation fails.
-#[tactic(auto, using(std::proofs::lemmas::Grind::common_steps))]
-pub fn numbers_by_flags(alloc: Global, mut flags: Vec<bool>) -> Result<Vec<Option<usize>>, Memory>
-    ensures { IfOk result (λ numbers. numbers.items ≡ flag_numbers 0 (flags.items ++ true ∷ true ∷ [])) }
-{
-    flags.push(true)?;
-    flags.push(true)?;
-    flag_numbers(alloc, flags.as_slice())
 }
 
 /// Returns the number of a store in a list of numbers.

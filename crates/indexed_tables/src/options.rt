@@ -11,6 +11,50 @@ use kmn_base::Memory;
 use rule_model::{Group, Out, Pat, Rule, Tables};
 use std::alloc::Global;
 
+/// Sets the flag of each store that some item of the tables uses as an option, and leaves the other flags unchanged. Stores
+/// past the last flag are ignored.
+#[tactic(auto, unfolding(rule_model::specs::Tab::tab_options))]
+pub fn mark_options(flags: &mut [bool], tables: &Tables)
+    ensures { flags.new ≡ with_flags flags.old (tab_options tables.now) }
+{
+    mark_groups(flags, tables.groups.as_slice());
+}
+
+#[tactic(auto, using(crate::proofs::OptionFlags::with_flags_append))]
+fn mark_groups(flags: &mut [bool], groups: &[Group])
+    ensures { flags.new ≡ with_flags flags.old (flat_map group_options groups.now) }
+{
+    for group in groups {
+        mark_group(flags, group);
+    }
+}
+
+#[tactic(auto, using(crate::proofs::OptionFlags::with_flags_append))]
+fn mark_group(flags: &mut [bool], group: &Group)
+    ensures { flags.new ≡ with_flags flags.old (group_options group.now) }
+{
+    mark_rules(flags, group.rules.as_slice());
+    mark_outputs(flags, group.on_match.as_slice());
+    mark_outputs(flags, group.on_nomatch.as_slice());
+}
+
+#[tactic(auto, using(crate::proofs::OptionFlags::with_flags_append))]
+fn mark_rules(flags: &mut [bool], rules: &[Rule])
+    ensures { flags.new ≡ with_flags flags.old (flat_map rule_options rules.now) }
+{
+    for rule in rules {
+        mark_rule(flags, rule);
+    }
+}
+
+#[tactic(auto, using(crate::proofs::OptionFlags::with_flags_append))]
+fn mark_rule(flags: &mut [bool], rule: &Rule)
+    ensures { flags.new ≡ with_flags flags.old (rule_options rule.now) }
+{
+    mark_context(flags, rule.context.as_slice());
+    mark_outputs(flags, rule.output.as_slice());
+}
+
 fn mark_context(flags: &mut [bool], context: &[Pat])
     ensures { flags.new ≡ with_flags flags.old (flat_map pattern_options context.now) }
 {
@@ -29,50 +73,6 @@ fn mark_outputs(flags: &mut [bool], outputs: &[Out])
             mark(flags, *store);
         }
     }
-}
-
-#[tactic(auto, using(crate::proofs::OptionFlags::with_flags_append))]
-fn mark_rule(flags: &mut [bool], rule: &Rule)
-    ensures { flags.new ≡ with_flags flags.old (rule_options rule.now) }
-{
-    mark_context(flags, rule.context.as_slice());
-    mark_outputs(flags, rule.output.as_slice());
-}
-
-#[tactic(auto, using(crate::proofs::OptionFlags::with_flags_append))]
-fn mark_rules(flags: &mut [bool], rules: &[Rule])
-    ensures { flags.new ≡ with_flags flags.old (flat_map rule_options rules.now) }
-{
-    for rule in rules {
-        mark_rule(flags, rule);
-    }
-}
-
-#[tactic(auto, using(crate::proofs::OptionFlags::with_flags_append))]
-fn mark_group(flags: &mut [bool], group: &Group)
-    ensures { flags.new ≡ with_flags flags.old (group_options group.now) }
-{
-    mark_rules(flags, group.rules.as_slice());
-    mark_outputs(flags, group.on_match.as_slice());
-    mark_outputs(flags, group.on_nomatch.as_slice());
-}
-
-#[tactic(auto, using(crate::proofs::OptionFlags::with_flags_append))]
-fn mark_groups(flags: &mut [bool], groups: &[Group])
-    ensures { flags.new ≡ with_flags flags.old (flat_map group_options groups.now) }
-{
-    for group in groups {
-        mark_group(flags, group);
-    }
-}
-
-/// Sets the flag of each store that some item of the tables uses as an option, and leaves the other flags unchanged. Stores
-/// past the last flag are ignored.
-#[tactic(auto, unfolding(rule_model::specs::Tab::tab_options))]
-pub fn mark_options(flags: &mut [bool], tables: &Tables)
-    ensures { flags.new ≡ with_flags flags.old (tab_options tables.now) }
-{
-    mark_groups(flags, tables.groups.as_slice());
 }
 
 /// Returns a flag for each store: whether some item uses it as an option. Errors: `Memory` if an allocation fails.

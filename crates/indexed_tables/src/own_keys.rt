@@ -15,18 +15,6 @@ use rule_model::Store;
 use rule_model::system::KEY_DICTIONARY;
 use std::alloc::Global;
 
-/// Returns the elements of the store that has the key dictionary.
-fn dictionary_elements(stores: &[Store]) -> &[Element]
-    ensures { result.now ≡ store_elements (find is_dictionary stores.now) }
-{
-    for store in stores {
-        if store.system == KEY_DICTIONARY {
-            return store.elements.as_slice();
-        }
-    }
-    &[]
-}
-
 /// Returns the characters among elements, as UTF-8. Errors: `Memory` if an allocation fails.
 pub fn element_text(alloc: Global, elements: &[Element]) -> Result<String, Memory>
     ensures { IfOk result (λ text. string_bytes text ≡ encode_utf8_all (filter_map element_char elements.now)) }
@@ -38,13 +26,6 @@ pub fn element_text(alloc: Global, elements: &[Element]) -> Result<String, Memor
         }
     }
     Ok(text)
-}
-
-/// Returns the position of the first space of a text.
-fn first_space(text: &[u8]) -> Option<usize>
-    ensures { result ≡ position (nat_eq 32) text.now }
-{
-    text.iter().position(|byte| *byte == b' ')
 }
 
 /// Returns a text up to its first space, and the rest after this space.
@@ -59,6 +40,22 @@ pub fn first_word(text: &[u8]) -> (&[u8], Option<&[u8]>)
     }
 }
 
+/// Returns the position of the first space of a text.
+fn first_space(text: &[u8]) -> Option<usize>
+    ensures { result ≡ position (nat_eq 32) text.now }
+{
+    text.iter().position(|byte| *byte == b' ')
+}
+
+/// Returns the names of the key dictionary. Errors: `Memory` if an allocation fails.
+#[tactic(auto, unfolding(rule_model::specs::Tab::tab_dictionary))]
+pub fn own_keys(alloc: Global, stores: &[Store]) -> Result<Vec<Text>, Memory>
+    ensures { IfOk result (λ names. names.items ≡ tab_dictionary stores.now) }
+{
+    let text = element_text(alloc, dictionary_elements(stores))?;
+    distinct_words(alloc, text.as_bytes())
+}
+
 /// Distinct names without ASCII case, each also in lower case, by which it is found.
 #[derive(Drop)]
 struct Names {
@@ -66,29 +63,16 @@ struct Names {
     folded: IndexSet<Vec<u8>>,
 }
 
-/// Appends a word that isn't empty, unless it is the same as an earlier name. Errors: `Memory` if an allocation fails.
-fn add_name(alloc: Global, names: &mut Names, word: &[u8]) -> Result<(), Memory>
-    requires { AreFolded names.old }
-    ensures folded { OnOk result (AreFolded names.new) }
-    ensures names { OnOk result (names.new.written.items ≡ distinct_onto same_name names.old.written.items (word.now ∷ [])) }
+/// Returns the elements of the store that has the key dictionary.
+fn dictionary_elements(stores: &[Store]) -> &[Element]
+    ensures { result.now ≡ store_elements (find is_dictionary stores.now) }
 {
-    let folded = word.to_ascii_lowercase(alloc)?;
-    if names.folded.insert(folded)? {
-        names.written.push(Seq::from_slice(alloc, word)?)?;
+    for store in stores {
+        if store.system == KEY_DICTIONARY {
+            return store.elements.as_slice();
+        }
     }
-    Ok(())
-}
-
-/// Appends a word, unless it is empty or the same as an earlier name. Errors: `Memory` if an allocation fails.
-fn add_word(alloc: Global, names: &mut Names, word: &[u8]) -> Result<(), Memory>
-    requires { AreFolded names.old }
-    ensures folded { OnOk result (AreFolded names.new) }
-    ensures names { OnOk result (names.new.written.items ≡ distinct_onto same_name names.old.written.items (filter (λ w. not (nat_eq (length w) 0)) (word.now ∷ []))) }
-{
-    if word.is_empty() {
-        return Ok(());
-    }
-    add_name(alloc, names, word)
+    &[]
 }
 
 /// Returns the distinct words of a text. Errors: `Memory` if an allocation fails.
@@ -108,11 +92,27 @@ fn distinct_words(alloc: Global, text: &[u8]) -> Result<Vec<Text>, Memory>
     Ok(names.written)
 }
 
-/// Returns the names of the key dictionary. Errors: `Memory` if an allocation fails.
-#[tactic(auto, unfolding(rule_model::specs::Tab::tab_dictionary))]
-pub fn own_keys(alloc: Global, stores: &[Store]) -> Result<Vec<Text>, Memory>
-    ensures { IfOk result (λ names. names.items ≡ tab_dictionary stores.now) }
+/// Appends a word, unless it is empty or the same as an earlier name. Errors: `Memory` if an allocation fails.
+fn add_word(alloc: Global, names: &mut Names, word: &[u8]) -> Result<(), Memory>
+    requires { AreFolded names.old }
+    ensures folded { OnOk result (AreFolded names.new) }
+    ensures names { OnOk result (names.new.written.items ≡ distinct_onto same_name names.old.written.items (filter (λ w. not (nat_eq (length w) 0)) (word.now ∷ []))) }
 {
-    let text = element_text(alloc, dictionary_elements(stores))?;
-    distinct_words(alloc, text.as_bytes())
+    if word.is_empty() {
+        return Ok(());
+    }
+    add_name(alloc, names, word)
+}
+
+/// Appends a word that isn't empty, unless it is the same as an earlier name. Errors: `Memory` if an allocation fails.
+fn add_name(alloc: Global, names: &mut Names, word: &[u8]) -> Result<(), Memory>
+    requires { AreFolded names.old }
+    ensures folded { OnOk result (AreFolded names.new) }
+    ensures names { OnOk result (names.new.written.items ≡ distinct_onto same_name names.old.written.items (word.now ∷ [])) }
+{
+    let folded = word.to_ascii_lowercase(alloc)?;
+    if names.folded.insert(folded)? {
+        names.written.push(Seq::from_slice(alloc, word)?)?;
+    }
+    Ok(())
 }

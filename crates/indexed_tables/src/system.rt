@@ -66,16 +66,6 @@ pub fn system_elements(place: usize) -> &'static [Element]
     }
 }
 
-/// Returns the number at the position `back` from the end.
-fn number_from_end(numbers: &[Option<usize>], back: usize) -> Option<usize>
-    ensures { result ≡ option_flatten (slice_get numbers.now (length numbers.now - back)) }
-{
-    numbers
-        .get(numbers.len().saturating_sub(back))
-        .copied()
-        .flatten()
-}
-
 /// Returns the number of the system option with an id among the numbers of all stores: the platform's is the last, and the
 /// layer's is the one before it.
 #[tactic(auto, using(std::proofs::lemmas::Bool::Decides::nat_tests))]
@@ -87,4 +77,14 @@ pub fn system_number(numbers: &[Option<usize>], id: u32) -> Option<usize>
     } else {
         number_from_end(numbers, 2)
     }
+}
+
+/// Returns the number at the position `back` from the end.
+fn number_from_end(numbers: &[Option<usize>], back: usize) -> Option<usize>
+    ensures { result ≡ option_flatten (slice_get numbers.now (length numbers.now - back)) }
+{
+    numbers
+        .get(numbers.len().saturating_sub(back))
+        .copied()
+        .flatten()
 }

@@ -7,6 +7,47 @@ ghost use Rattle.item_checker.specs.Items.{context_at_code, context_code, contex
 use kmn_base::Code;
 use rule_model::SrcItem;
 
+/// Returns whether an item is `any`.
+pub fn is_any_item(item: &SrcItem) -> bool
+    ensures { result ≡ is_any_item item.now }
+{
+    match item {
+        SrcItem::Any(_) => true,
+        _ => false,
+    }
+}
+
+/// Returns the rule that `index` with an offset among these items breaks.
+pub fn index_code(items: &[SrcItem], offset: u32) -> Option<Code>
+    ensures { result ≡ index_code items.now offset }
+{
+    if misses_pattern(items, offset) {
+        Some(Code::C08)
+    } else if misses_any(items, offset) {
+        Some(Code::C09)
+    } else {
+        None
+    }
+}
+
+/// Returns whether an offset is outside these items, or refers to an item that is not a pattern.
+fn misses_pattern(items: &[SrcItem], offset: u32) -> bool
+    ensures { result ≡ misses_pattern items.now offset }
+{
+    match item_at(items, offset) {
+        Some(item) => !is_pattern_item(item),
+        None => true,
+    }
+}
+
+/// Returns the item at an offset.
+fn item_at(items: &[SrcItem], offset: u32) -> Option<&SrcItem>
+    ensures { option_copied result ≡ item_at items.now offset }
+{
+    let place = offset.checked_sub(1)?;
+    items.get(place as usize)
+}
+
 /// Returns whether an item of a context is matched with an item of the text.
 fn is_pattern_item(item: &SrcItem) -> bool
     ensures { result ≡ is_pattern_item item.now }
@@ -22,34 +63,6 @@ fn is_pattern_item(item: &SrcItem) -> bool
     }
 }
 
-/// Returns whether an item is `any`.
-pub fn is_any_item(item: &SrcItem) -> bool
-    ensures { result ≡ is_any_item item.now }
-{
-    match item {
-        SrcItem::Any(_) => true,
-        _ => false,
-    }
-}
-
-/// Returns the item at an offset.
-fn item_at(items: &[SrcItem], offset: u32) -> Option<&SrcItem>
-    ensures { option_copied result ≡ item_at items.now offset }
-{
-    let place = offset.checked_sub(1)?;
-    items.get(place as usize)
-}
-
-/// Returns whether an offset is outside these items, or refers to an item that is not a pattern.
-fn misses_pattern(items: &[SrcItem], offset: u32) -> bool
-    ensures { result ≡ misses_pattern items.now offset }
-{
-    match item_at(items, offset) {
-        Some(item) => !is_pattern_item(item),
-        None => true,
-    }
-}
-
 /// Returns whether an offset is outside these items, or refers to an item that is not `any`.
 fn misses_any(items: &[SrcItem], offset: u32) -> bool
     ensures { result ≡ misses_any items.now offset }
@@ -57,19 +70,6 @@ fn misses_any(items: &[SrcItem], offset: u32) -> bool
     match item_at(items, offset) {
         Some(item) => !is_any_item(item),
         None => true,
-    }
-}
-
-/// Returns the rule that `index` with an offset among these items breaks.
-pub fn index_code(items: &[SrcItem], offset: u32) -> Option<Code>
-    ensures { result ≡ index_code items.now offset }
-{
-    if misses_pattern(items, offset) {
-        Some(Code::C08)
-    } else if misses_any(items, offset) {
-        Some(Code::C09)
-    } else {
-        None
     }
 }
 
@@ -95,18 +95,6 @@ pub fn offset_code(offset: u32) -> Option<Code>
     }
 }
 
-/// Returns the rule that an item of a context breaks, after others.
-fn context_item_code(before: &[SrcItem], item: &SrcItem) -> Option<Code>
-    ensures { result ≡ context_item_code before.now item.now }
-{
-    match item {
-        SrcItem::Index(_, offset) => index_code(before, *offset),
-        SrcItem::ContextAt(offset) => context_at_code(before, *offset),
-        SrcItem::OutOfProfile => Some(Code::C12),
-        _ => None,
-    }
-}
-
 /// Returns the first code of a context.
 #[tactic(auto, using(crate::proofs::FirstItems::context_step))]
 pub fn context_code(context: &[SrcItem]) -> Option<Code>
@@ -119,4 +107,16 @@ pub fn context_code(context: &[SrcItem]) -> Option<Code>
         }
     }
     None
+}
+
+/// Returns the rule that an item of a context breaks, after others.
+fn context_item_code(before: &[SrcItem], item: &SrcItem) -> Option<Code>
+    ensures { result ≡ context_item_code before.now item.now }
+{
+    match item {
+        SrcItem::Index(_, offset) => index_code(before, *offset),
+        SrcItem::ContextAt(offset) => context_at_code(before, *offset),
+        SrcItem::OutOfProfile => Some(Code::C12),
+        _ => None,
+    }
 }

@@ -11,6 +11,66 @@ use kmn_base::{Code, Refusal};
 use rule_model::{GroupDef, RuleDef, RuleKind, SrcItem};
 use store_table::{at_line, earlier};
 
+/// Returns the first refusal of the statements of all groups.
+#[tactic(auto, using(store_table::proofs::Firsts::first_kept))]
+pub fn groups_refusal(facts: &Facts<'_>, groups: &[GroupDef]) -> Option<Refusal>
+    ensures { result ≡ first_of (rules_refusal facts.now) [] groups.now }
+{
+    let mut first = None;
+    for group in groups {
+        first = earlier(first, rules_refusal(facts, group.rules.as_slice()));
+    }
+    first
+}
+
+/// Returns the first refusal of the statements of a group.
+#[tactic(auto, using(store_table::proofs::Firsts::first_kept))]
+fn rules_refusal(facts: &Facts<'_>, rules: &[RuleDef]) -> Option<Refusal>
+    ensures { result ≡ first_of (rule_refusal facts.now) [] rules.now }
+{
+    let mut first = None;
+    for rule in rules {
+        first = earlier(first, at_line(rule.line, rule_code(facts, rule)));
+    }
+    first
+}
+
+/// Returns the rule that a rule, match or nomatch statement breaks.
+fn rule_code(facts: &Facts<'_>, rule: &RuleDef) -> Option<Code>
+    ensures { result ≡ rule_code facts.now rule.now.kind rule.now }
+{
+    match rule.kind {
+        RuleKind::Plain => plain_code(facts, rule),
+        _ => match_outputs_code(facts, rule.output.as_slice()),
+    }
+}
+
+/// Returns the rule of the language that a rule breaks.
+fn plain_code(facts: &Facts<'_>, rule: &RuleDef) -> Option<Code>
+    ensures { result ≡ plain_code facts.now rule.now }
+{
+    match context_code(rule.context.as_slice()) {
+        Some(code) => return Some(code),
+        None => {}
+    }
+    match key_code(facts, &rule.key) {
+        Some(code) => return Some(code),
+        None => {}
+    }
+    rule_outputs_code(facts, rule)
+}
+
+/// Returns the rule that the key of a rule breaks.
+fn key_code(facts: &Facts<'_>, key: &Option<SrcItem>) -> Option<Code>
+    ensures { result ≡ key_code facts.now key.now }
+{
+    match key {
+        Some(SrcItem::Char(character)) => character_key_code(*character),
+        Some(SrcItem::Any(store)) => key_store_code(facts, store.as_slice()),
+        _ => None,
+    }
+}
+
 /// Returns the rule that a character breaks as a key.
 fn character_key_code(character: char) -> Option<Code>
     ensures { result ≡ broken ((C10, is_far character) ∷ []) }
@@ -35,49 +95,38 @@ fn key_store_code(facts: &Facts<'_>, store: &[u8]) -> Option<Code>
     }
 }
 
-/// Returns the rule that the key of a rule breaks.
-fn key_code(facts: &Facts<'_>, key: &Option<SrcItem>) -> Option<Code>
-    ensures { result ≡ key_code facts.now key.now }
+/// Returns the first code of the output of a rule.
+fn rule_outputs_code(facts: &Facts<'_>, rule: &RuleDef) -> Option<Code>
+    ensures { result ≡ first_code (rule_output_code facts.now rule.now) rule.now.output }
 {
-    match key {
-        Some(SrcItem::Char(character)) => character_key_code(*character),
-        Some(SrcItem::Any(store)) => key_store_code(facts, store.as_slice()),
-        _ => None,
+    for item in rule.output.as_slice() {
+        match rule_output_code(facts, rule, item) {
+            Some(code) => return Some(code),
+            None => {}
+        }
     }
+    None
 }
 
-/// Returns the rule that `outs` or `$` breaks in an output.
-fn put_code(facts: &Facts<'_>, store: &[u8]) -> Option<Code>
-    ensures { result ≡ broken ((C12, has_virtual_key facts.now store.now) ∷ (C13, is_option facts.now store.now) ∷ []) }
-{
-    if facts.has_virtual_key(store) {
-        Some(Code::C12)
-    } else if facts.is_option(store) {
-        Some(Code::C13)
-    } else {
-        None
-    }
-}
-
-/// Returns the rule that an item of an output that does not refer to the context breaks.
-fn output_code(facts: &Facts<'_>, item: &SrcItem) -> Option<Code>
-    ensures { result ≡ output_code facts.now item.now }
+/// Returns the rule that an item of a rule's output breaks.
+fn rule_output_code(facts: &Facts<'_>, rule: &RuleDef, item: &SrcItem) -> Option<Code>
+    ensures { result ≡ rule_output_code facts.now rule.now item.now }
 {
     match item {
-        SrcItem::Call(_) => Some(Code::C11),
-        SrcItem::OutOfProfile => Some(Code::C12),
-        SrcItem::Outs(store) => put_code(facts, store.as_slice()),
-        _ => None,
+        SrcItem::Index(store, offset) => rule_index_code(facts, rule, store.as_slice(), *offset),
+        SrcItem::ContextAt(offset) => context_at_code(rule.context.as_slice(), *offset),
+        _ => output_code(facts, item),
     }
 }
 
-/// Returns whether the key of a rule is `any`.
-fn is_any_key(key: &Option<SrcItem>) -> bool
-    ensures { result ≡ is_any_key key.now }
+/// Returns the rule that `index` in the output of a rule breaks.
+fn rule_index_code(facts: &Facts<'_>, rule: &RuleDef, store: &[u8], offset: u32) -> Option<Code>
+    ensures { result ≡ (if is_key_place rule.now offset then key_index_code facts.now rule.now store.now else index_code rule.now.context offset) }
 {
-    match key {
-        Some(item) => is_any_item(item),
-        None => false,
+    if is_key_place(rule, offset) {
+        key_index_code(facts, rule, store)
+    } else {
+        index_code(rule.context.as_slice(), offset)
     }
 }
 
@@ -102,65 +151,38 @@ fn key_index_code(facts: &Facts<'_>, rule: &RuleDef, store: &[u8]) -> Option<Cod
     }
 }
 
-/// Returns the rule that `index` in the output of a rule breaks.
-fn rule_index_code(facts: &Facts<'_>, rule: &RuleDef, store: &[u8], offset: u32) -> Option<Code>
-    ensures { result ≡ (if is_key_place rule.now offset then key_index_code facts.now rule.now store.now else index_code rule.now.context offset) }
+/// Returns whether the key of a rule is `any`.
+fn is_any_key(key: &Option<SrcItem>) -> bool
+    ensures { result ≡ is_any_key key.now }
 {
-    if is_key_place(rule, offset) {
-        key_index_code(facts, rule, store)
+    match key {
+        Some(item) => is_any_item(item),
+        None => false,
+    }
+}
+
+/// Returns the rule that an item of an output that does not refer to the context breaks.
+fn output_code(facts: &Facts<'_>, item: &SrcItem) -> Option<Code>
+    ensures { result ≡ output_code facts.now item.now }
+{
+    match item {
+        SrcItem::Call(_) => Some(Code::C11),
+        SrcItem::OutOfProfile => Some(Code::C12),
+        SrcItem::Outs(store) => put_code(facts, store.as_slice()),
+        _ => None,
+    }
+}
+
+/// Returns the rule that `outs` or `$` breaks in an output.
+fn put_code(facts: &Facts<'_>, store: &[u8]) -> Option<Code>
+    ensures { result ≡ broken ((C12, has_virtual_key facts.now store.now) ∷ (C13, is_option facts.now store.now) ∷ []) }
+{
+    if facts.has_virtual_key(store) {
+        Some(Code::C12)
+    } else if facts.is_option(store) {
+        Some(Code::C13)
     } else {
-        index_code(rule.context.as_slice(), offset)
-    }
-}
-
-/// Returns the rule that an item of a rule's output breaks.
-fn rule_output_code(facts: &Facts<'_>, rule: &RuleDef, item: &SrcItem) -> Option<Code>
-    ensures { result ≡ rule_output_code facts.now rule.now item.now }
-{
-    match item {
-        SrcItem::Index(store, offset) => rule_index_code(facts, rule, store.as_slice(), *offset),
-        SrcItem::ContextAt(offset) => context_at_code(rule.context.as_slice(), *offset),
-        _ => output_code(facts, item),
-    }
-}
-
-/// Returns the first code of the output of a rule.
-fn rule_outputs_code(facts: &Facts<'_>, rule: &RuleDef) -> Option<Code>
-    ensures { result ≡ first_code (rule_output_code facts.now rule.now) rule.now.output }
-{
-    for item in rule.output.as_slice() {
-        match rule_output_code(facts, rule, item) {
-            Some(code) => return Some(code),
-            None => {}
-        }
-    }
-    None
-}
-
-/// Returns the rule of the language that a rule breaks.
-fn plain_code(facts: &Facts<'_>, rule: &RuleDef) -> Option<Code>
-    ensures { result ≡ plain_code facts.now rule.now }
-{
-    match context_code(rule.context.as_slice()) {
-        Some(code) => return Some(code),
-        None => {}
-    }
-    match key_code(facts, &rule.key) {
-        Some(code) => return Some(code),
-        None => {}
-    }
-    rule_outputs_code(facts, rule)
-}
-
-/// Returns the rule that an item of match or nomatch breaks.
-fn match_output_code(facts: &Facts<'_>, item: &SrcItem) -> Option<Code>
-    ensures { result ≡ match_output_code facts.now item.now }
-{
-    match item {
-        SrcItem::Index(_, offset) => offset_code(*offset),
-        SrcItem::ContextAt(offset) => offset_code(*offset),
-        SrcItem::Context => Some(Code::C12),
-        _ => output_code(facts, item),
+        None
     }
 }
 
@@ -177,36 +199,14 @@ fn match_outputs_code(facts: &Facts<'_>, output: &[SrcItem]) -> Option<Code>
     None
 }
 
-/// Returns the rule that a rule, match or nomatch statement breaks.
-fn rule_code(facts: &Facts<'_>, rule: &RuleDef) -> Option<Code>
-    ensures { result ≡ rule_code facts.now rule.now.kind rule.now }
+/// Returns the rule that an item of match or nomatch breaks.
+fn match_output_code(facts: &Facts<'_>, item: &SrcItem) -> Option<Code>
+    ensures { result ≡ match_output_code facts.now item.now }
 {
-    match rule.kind {
-        RuleKind::Plain => plain_code(facts, rule),
-        _ => match_outputs_code(facts, rule.output.as_slice()),
+    match item {
+        SrcItem::Index(_, offset) => offset_code(*offset),
+        SrcItem::ContextAt(offset) => offset_code(*offset),
+        SrcItem::Context => Some(Code::C12),
+        _ => output_code(facts, item),
     }
-}
-
-/// Returns the first refusal of the statements of a group.
-#[tactic(auto, using(store_table::proofs::Firsts::first_kept))]
-fn rules_refusal(facts: &Facts<'_>, rules: &[RuleDef]) -> Option<Refusal>
-    ensures { result ≡ first_of (rule_refusal facts.now) [] rules.now }
-{
-    let mut first = None;
-    for rule in rules {
-        first = earlier(first, at_line(rule.line, rule_code(facts, rule)));
-    }
-    first
-}
-
-/// Returns the first refusal of the statements of all groups.
-#[tactic(auto, using(store_table::proofs::Firsts::first_kept))]
-pub fn groups_refusal(facts: &Facts<'_>, groups: &[GroupDef]) -> Option<Refusal>
-    ensures { result ≡ first_of (rules_refusal facts.now) [] groups.now }
-{
-    let mut first = None;
-    for group in groups {
-        first = earlier(first, rules_refusal(facts, group.rules.as_slice()));
-    }
-    first
 }

@@ -15,6 +15,39 @@ use rule_model::{SrcItem, StoreDef};
 use std::alloc::Global;
 use store_table::{at_line, earlier};
 
+/// Returns the first refusal of store statements. Errors: `Memory` if an allocation fails.
+#[tactic(auto, using(store_table::proofs::Firsts::first_kept, crate::proofs::FoundKeys::found_store))]
+pub fn stores_refusal(
+    alloc: Global,
+    facts: &Facts<'_>,
+    stores: &[StoreDef],
+) -> Result<Option<Refusal>, Memory>
+    requires { list_all (λ (store : StoreDef). are_found_keys facts.now.names store.items) stores.now ≡ true }
+    ensures { IfOk result (λ refusal. refusal ≡ first_of (store_refusal facts.now) [] stores.now) }
+{
+    let mut first = None;
+    for store in stores {
+        let code = store_code(alloc, facts, store)?;
+        first = earlier(first, at_line(store.line, code));
+    }
+    Ok(first)
+}
+
+/// Returns the rule that a store statement breaks. Errors: `Memory` if an allocation fails.
+fn store_code(alloc: Global, facts: &Facts<'_>, store: &StoreDef) -> Result<Option<Code>, Memory>
+    requires { are_found_keys facts.now.names store.now.items ≡ true }
+    ensures { IfOk result (λ code. code ≡ store_code facts.now store.now) }
+{
+    match store_head_code(alloc, facts, store)? {
+        Some(code) => Ok(Some(code)),
+        None => {
+            let characters = needs_characters(facts, store);
+            let keys = needs_plain_keys(store);
+            Ok(store_items_code(facts, characters, keys, store.items.as_slice()))
+        }
+    }
+}
+
 /// Returns the rule that a store statement breaks by its kind, or by its whole text. Errors: `Memory` if an allocation fails.
 fn store_head_code(
     alloc: Global,
@@ -47,6 +80,42 @@ fn needs_plain_keys(store: &StoreDef) -> bool
     ensures { result ≡ needs_plain_keys store.now }
 {
     store.system == CASED_KEYS
+}
+
+/// Returns the first code of the items of a store.
+#[tactic(auto, using(crate::proofs::FoundKeys::found_item))]
+fn store_items_code(
+    facts: &Facts<'_>,
+    characters: bool,
+    keys: bool,
+    items: &[SrcItem],
+) -> Option<Code>
+    requires { are_found_keys facts.now.names items.now ≡ true }
+    ensures { result ≡ first_code (store_item_code facts.now characters keys) items.now }
+{
+    for item in items {
+        match store_item_code(facts, characters, keys, item) {
+            Some(code) => return Some(code),
+            None => {}
+        }
+    }
+    None
+}
+
+/// Returns the rule that an item of a store breaks.
+fn store_item_code(facts: &Facts<'_>, characters: bool, keys: bool, item: &SrcItem) -> Option<Code>
+    requires { is_found_key facts.now.names item.now ≡ true }
+    ensures { result ≡ store_item_code facts.now characters keys item.now }
+{
+    if uses_option(facts, item) {
+        Some(Code::C13)
+    } else if characters && brings_no_character(facts, item) {
+        Some(Code::C14)
+    } else if keys && brings_no_plain_key(facts, item) {
+        Some(Code::C25)
+    } else {
+        None
+    }
 }
 
 /// Returns whether an `outs` or `$` item names an option store.
@@ -84,73 +153,4 @@ fn brings_no_plain_key(facts: &Facts<'_>, item: &SrcItem) -> bool
         SrcItem::Outs(store) => facts.lacks_plain_keys(store.as_slice()),
         _ => false,
     }
-}
-
-/// Returns the rule that an item of a store breaks.
-fn store_item_code(facts: &Facts<'_>, characters: bool, keys: bool, item: &SrcItem) -> Option<Code>
-    requires { is_found_key facts.now.names item.now ≡ true }
-    ensures { result ≡ store_item_code facts.now characters keys item.now }
-{
-    if uses_option(facts, item) {
-        Some(Code::C13)
-    } else if characters && brings_no_character(facts, item) {
-        Some(Code::C14)
-    } else if keys && brings_no_plain_key(facts, item) {
-        Some(Code::C25)
-    } else {
-        None
-    }
-}
-
-/// Returns the first code of the items of a store.
-#[tactic(auto, using(crate::proofs::FoundKeys::found_item))]
-fn store_items_code(
-    facts: &Facts<'_>,
-    characters: bool,
-    keys: bool,
-    items: &[SrcItem],
-) -> Option<Code>
-    requires { are_found_keys facts.now.names items.now ≡ true }
-    ensures { result ≡ first_code (store_item_code facts.now characters keys) items.now }
-{
-    for item in items {
-        match store_item_code(facts, characters, keys, item) {
-            Some(code) => return Some(code),
-            None => {}
-        }
-    }
-    None
-}
-
-/// Returns the rule that a store statement breaks. Errors: `Memory` if an allocation fails.
-fn store_code(alloc: Global, facts: &Facts<'_>, store: &StoreDef) -> Result<Option<Code>, Memory>
-    requires { are_found_keys facts.now.names store.now.items ≡ true }
-    ensures { IfOk result (λ code. code ≡ store_code facts.now store.now) }
-{
-    match store_head_code(alloc, facts, store)? {
-        Some(code) => Ok(Some(code)),
-        None => {
-            let characters = needs_characters(facts, store);
-            let keys = needs_plain_keys(store);
-            Ok(store_items_code(facts, characters, keys, store.items.as_slice()))
-        }
-    }
-}
-
-/// Returns the first refusal of store statements. Errors: `Memory` if an allocation fails.
-#[tactic(auto, using(store_table::proofs::Firsts::first_kept, crate::proofs::FoundKeys::found_store))]
-pub fn stores_refusal(
-    alloc: Global,
-    facts: &Facts<'_>,
-    stores: &[StoreDef],
-) -> Result<Option<Refusal>, Memory>
-    requires { list_all (λ (store : StoreDef). are_found_keys facts.now.names store.items) stores.now ≡ true }
-    ensures { IfOk result (λ refusal. refusal ≡ first_of (store_refusal facts.now) [] stores.now) }
-{
-    let mut first = None;
-    for store in stores {
-        let code = store_code(alloc, facts, store)?;
-        first = earlier(first, at_line(store.line, code));
-    }
-    Ok(first)
 }

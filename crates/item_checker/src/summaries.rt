@@ -37,116 +37,11 @@ pub struct Summaries {
     pub summaries: Seq<Summary>,
 }
 
-/// Returns the summary of no elements.
-#[tactic(auto, unfolding(crate::specs::Summaries::summary))]
-fn empty_summary(alloc: Global) -> Summary
-    ensures { result ≡ summary [] }
-{
-    Summary {
-        is_empty: true,
-        has_mark: false,
-        has_key: false,
-        has_far: false,
-        has_other: false,
-        front: Seq::new(alloc),
-    }
-}
-
-/// Adds a character to a front, if the front is short enough.
-fn add_character(front: &mut Seq<char>, character: char) -> Result<(), Memory>
-    ensures { OnOk result (front.new ≡ with_character front.old character) }
-{
-    if front.len() < FRONT_CHARACTERS {
-        front.add(character)
-    } else {
-        Ok(())
-    }
-}
-
-/// Adds characters to a front, while the front is short enough.
-fn add_characters(front: &mut Seq<char>, characters: &[char]) -> Result<(), Memory>
-    ensures { OnOk result (front.new ≡ with_characters front.old characters.now) }
-{
-    for character in characters {
-        add_character(front, *character)?;
-    }
-    Ok(())
-}
-
-/// Returns whether one of two conditions is true.
-fn either(one: bool, other: bool) -> bool
-    ensures { result ≡ (one || other) }
-{
-    one || other
-}
-
-/// Returns whether two conditions are true.
-fn both(one: bool, other: bool) -> bool
-    ensures { result ≡ (one && other) }
-{
-    one && other
-}
-
-/// Adds the elements of a summary.
-fn join(sum: &mut Summary, other: &Summary) -> Result<(), Memory>
-    ensures { OnOk result (sum.new ≡ joined sum.old other.now) }
-{
-    sum.is_empty = both(sum.is_empty, other.is_empty);
-    sum.has_mark = either(sum.has_mark, other.has_mark);
-    sum.has_key = either(sum.has_key, other.has_key);
-    sum.has_far = either(sum.has_far, other.has_far);
-    sum.has_other = either(sum.has_other, other.has_other);
-    add_characters(&mut sum.front, other.front.as_slice())
-}
-
-/// Adds the elements of an optional summary.
-fn join_found(sum: &mut Summary, found: Option<&Summary>) -> Result<(), Memory>
-    ensures { OnOk result (sum.new ≡ joined_found sum.old (option_copied found.entry)) }
-{
-    match found {
-        Some(other) => join(sum, other),
-        None => Ok(()),
-    }
-}
-
-/// Adds a character.
-fn add_element_character(sum: &mut Summary, character: char) -> Result<(), Memory>
-    ensures { OnOk result (sum.new ≡ record sum.old { is_empty = false; has_far = sum.old.has_far || nat_lt 0xFFFF character; has_other = true; front = with_character sum.old.front character }) }
-{
-    sum.is_empty = false;
-    sum.has_far = either(sum.has_far, character > '\u{FFFF}');
-    sum.has_other = true;
-    add_character(&mut sum.front, character)
-}
-
 /// Returns whether a key is not a plain key of the key table.
 pub fn is_other_key(key: &KeyName) -> bool
     ensures { result ≡ is_other_key key.now }
 {
     !(key.flags == VIRTUAL_KEY && (key.code > 0 && key.code < FIRST_OWN_CODE))
-}
-
-/// Adds the elements that an item of a store denotes.
-fn add_item(stores: &Summaries, sum: &mut Summary, item: &SrcItem) -> Result<(), Memory>
-    ensures { OnOk result (sum.new ≡ with_item stores.now sum.old item.now) }
-{
-    match item {
-        SrcItem::Char(character) => add_element_character(sum, *character),
-        SrcItem::Dead(_) => {
-            sum.is_empty = false;
-            sum.has_mark = true;
-            sum.has_other = true;
-            Ok(())
-        }
-        SrcItem::Key(key) => {
-            sum.is_empty = false;
-            sum.has_key = true;
-            sum.has_other = either(sum.has_other, is_other_key(key));
-            Ok(())
-        }
-        SrcItem::Outs(name) => join_found(sum, found_summary(stores, name.as_slice())),
-        _ => Ok(()),
-    }
 }
 
 /// Returns the summary of the store with a name.
@@ -172,16 +67,109 @@ pub fn items_summary(
     Ok(sum)
 }
 
-/// Adds the store of a statement, unless it is dropped.
-fn add_store(alloc: Global, stores: &mut Summaries, store: &StoreDef) -> Result<(), Memory>
-    ensures { OnOk result (stores.new ≡ with_store stores.old store.now) }
+/// Returns the summary of no elements.
+#[tactic(auto, unfolding(crate::specs::Summaries::summary))]
+fn empty_summary(alloc: Global) -> Summary
+    ensures { result ≡ summary [] }
 {
-    if store.system == DROPPED {
-        return Ok(());
+    Summary {
+        is_empty: true,
+        has_mark: false,
+        has_key: false,
+        has_far: false,
+        has_other: false,
+        front: Seq::new(alloc),
     }
-    let summary = items_summary(alloc, stores, store.items.as_slice())?;
-    stores.names.push(store.name.as_slice())?;
-    stores.summaries.add(summary)
+}
+
+/// Adds the elements that an item of a store denotes.
+fn add_item(stores: &Summaries, sum: &mut Summary, item: &SrcItem) -> Result<(), Memory>
+    ensures { OnOk result (sum.new ≡ with_item stores.now sum.old item.now) }
+{
+    match item {
+        SrcItem::Char(character) => add_element_character(sum, *character),
+        SrcItem::Dead(_) => {
+            sum.is_empty = false;
+            sum.has_mark = true;
+            sum.has_other = true;
+            Ok(())
+        }
+        SrcItem::Key(key) => {
+            sum.is_empty = false;
+            sum.has_key = true;
+            sum.has_other = either(sum.has_other, is_other_key(key));
+            Ok(())
+        }
+        SrcItem::Outs(name) => join_found(sum, found_summary(stores, name.as_slice())),
+        _ => Ok(()),
+    }
+}
+
+/// Adds a character.
+fn add_element_character(sum: &mut Summary, character: char) -> Result<(), Memory>
+    ensures { OnOk result (sum.new ≡ record sum.old { is_empty = false; has_far = sum.old.has_far || nat_lt 0xFFFF character; has_other = true; front = with_character sum.old.front character }) }
+{
+    sum.is_empty = false;
+    sum.has_far = either(sum.has_far, character > '\u{FFFF}');
+    sum.has_other = true;
+    add_character(&mut sum.front, character)
+}
+
+/// Returns whether one of two conditions is true.
+fn either(one: bool, other: bool) -> bool
+    ensures { result ≡ (one || other) }
+{
+    one || other
+}
+
+/// Adds a character to a front, if the front is short enough.
+fn add_character(front: &mut Seq<char>, character: char) -> Result<(), Memory>
+    ensures { OnOk result (front.new ≡ with_character front.old character) }
+{
+    if front.len() < FRONT_CHARACTERS {
+        front.add(character)
+    } else {
+        Ok(())
+    }
+}
+
+/// Adds the elements of an optional summary.
+fn join_found(sum: &mut Summary, found: Option<&Summary>) -> Result<(), Memory>
+    ensures { OnOk result (sum.new ≡ joined_found sum.old (option_copied found.entry)) }
+{
+    match found {
+        Some(other) => join(sum, other),
+        None => Ok(()),
+    }
+}
+
+/// Adds the elements of a summary.
+fn join(sum: &mut Summary, other: &Summary) -> Result<(), Memory>
+    ensures { OnOk result (sum.new ≡ joined sum.old other.now) }
+{
+    sum.is_empty = both(sum.is_empty, other.is_empty);
+    sum.has_mark = either(sum.has_mark, other.has_mark);
+    sum.has_key = either(sum.has_key, other.has_key);
+    sum.has_far = either(sum.has_far, other.has_far);
+    sum.has_other = either(sum.has_other, other.has_other);
+    add_characters(&mut sum.front, other.front.as_slice())
+}
+
+/// Returns whether two conditions are true.
+fn both(one: bool, other: bool) -> bool
+    ensures { result ≡ (one && other) }
+{
+    one && other
+}
+
+/// Adds characters to a front, while the front is short enough.
+fn add_characters(front: &mut Seq<char>, characters: &[char]) -> Result<(), Memory>
+    ensures { OnOk result (front.new ≡ with_characters front.old characters.now) }
+{
+    for character in characters {
+        add_character(front, *character)?;
+    }
+    Ok(())
 }
 
 /// Returns the summaries of stores, each computed from those before it. Errors: `Memory` if an allocation fails.
@@ -196,4 +184,16 @@ pub fn stores_summaries(alloc: Global, stores: &[StoreDef]) -> Result<Summaries,
         add_store(alloc, &mut summaries, store)?;
     }
     Ok(summaries)
+}
+
+/// Adds the store of a statement, unless it is dropped.
+fn add_store(alloc: Global, stores: &mut Summaries, store: &StoreDef) -> Result<(), Memory>
+    ensures { OnOk result (stores.new ≡ with_store stores.old store.now) }
+{
+    if store.system == DROPPED {
+        return Ok(());
+    }
+    let summary = items_summary(alloc, stores, store.items.as_slice())?;
+    stores.names.push(store.name.as_slice())?;
+    stores.summaries.add(summary)
 }

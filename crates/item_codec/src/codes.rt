@@ -26,6 +26,50 @@ impl BadItem {
     }
 }
 
+/// Returns the item at the beginning of the bytes and the bytes after it, or why they do not begin with an item.
+#[tactic(auto, using(crate::proofs::Operands::fault_at_unit))]
+pub(crate) fn first_item(bytes: &[u8]) -> Result<(UnitItem, &[u8]), BadItem>
+    requires { 0 < length bytes.now }
+    ensures { MatchResult result
+        (λ first. StandsFirst bytes.now first.0 first.1.now)
+        (λ bad. fault_at bytes.now ≡ Some (bad.kind, bad.code)) }
+{
+    match first_unit(bytes) {
+        Some((unit, behind)) => behind_unit(unit, behind),
+        None => Err(BadItem::of(BadKind::U6)),
+    }
+}
+
+/// Returns the item that begins with a unit, and the bytes after it.
+fn behind_unit(unit: u16, bytes: &[u8]) -> Result<(UnitItem, &[u8]), BadItem>
+    ensures { MatchResult result
+        (λ first. StandsFirst (unit_bytes (unit ∷ []) ++ bytes.now) first.0 first.1.now)
+        (λ bad. unit_fault unit bytes.now ≡ Some (bad.kind, bad.code)) }
+{
+    match unit {
+        SENTINEL => behind_sentinel(bytes),
+        0 => Err(BadItem::of(BadKind::U3)),
+        0xD800..0xDC00 => behind_high(unit, bytes),
+        _ => match char::from_u32(u32::from(unit)) {
+            Some(c) => Ok((UnitItem::Char(c), bytes)),
+            None => Err(BadItem::of(BadKind::U1)),
+        },
+    }
+}
+
+/// Returns the item whose code is at the beginning of the bytes, and the bytes after it.
+#[tactic(auto, using(crate::proofs::Operands::sentinel_fault_unit))]
+fn behind_sentinel(bytes: &[u8]) -> Result<(UnitItem, &[u8]), BadItem>
+    ensures { MatchResult result
+        (λ first. StandsFirst (unit_bytes (SENTINEL ∷ []) ++ bytes.now) first.0 first.1.now)
+        (λ bad. sentinel_fault bytes.now ≡ Some (bad.kind, bad.code)) }
+{
+    let Some((code, behind)) = first_unit(bytes) else {
+        return Err(end_fault(bytes));
+    };
+    behind_code(code, behind)
+}
+
 /// Returns the fault of bytes that end inside an item: after whole units, or after the first byte of a unit.
 fn end_fault(bytes: &[u8]) -> BadItem
     ensures kind { result.kind ≡ end_fault bytes.now }
@@ -36,6 +80,24 @@ fn end_fault(bytes: &[u8]) -> BadItem
     } else {
         BadKind::U6
     })
+}
+
+/// Returns the item of a code with the operands at the beginning of the bytes, and the bytes after it.
+fn behind_code(code: u16, bytes: &[u8]) -> Result<(UnitItem, &[u8]), BadItem>
+    ensures { MatchResult result
+        (λ first. StandsFirst (unit_bytes (SENTINEL ∷ code ∷ []) ++ bytes.now) first.0 first.1.now)
+        (λ bad. code_fault code bytes.now (operand_count code) ≡ Some (bad.kind, bad.code)) }
+{
+    match operand_count(code) {
+        None => Err(BadItem {
+            kind: BadKind::U2,
+            code,
+        }),
+        Some(0) => Ok((bare_item(code), bytes)),
+        Some(1) => behind_code_of_one(code, bytes),
+        Some(2) => behind_code_of_two(code, bytes),
+        Some(_) => behind_code_of_three(code, bytes),
+    }
 }
 
 /// Returns the number of operands of a code's item, and None for a code that no item has.
@@ -72,6 +134,23 @@ fn bare_item(code: u16) -> UnitItem
     }
 }
 
+/// Returns the item of a code with the operand at the beginning of the bytes, and the bytes after it.
+#[tactic(auto, using(crate::proofs::Operands::operands_stand, crate::proofs::Operands::operands_end))]
+fn behind_code_of_one(code: u16, bytes: &[u8]) -> Result<(UnitItem, &[u8]), BadItem>
+    requires { operand_count code ≡ Some 1 }
+    ensures { MatchResult result
+        (λ first. StandsFirst (unit_bytes (SENTINEL ∷ code ∷ []) ++ bytes.now) first.0 first.1.now)
+        (λ bad. without_code (operands_fault code 1 bytes.now) ≡ Some (bad.kind, bad.code)) }
+{
+    let Some((operand, behind)) = first_unit(bytes) else {
+        return Err(end_fault(bytes));
+    };
+    if operand == 0 {
+        return Err(BadItem::of(BadKind::U3));
+    }
+    Ok((item_of_one(code, operand), behind))
+}
+
 /// Returns the item of a code with one operand.
 fn item_of_one(code: u16, operand: u16) -> UnitItem
     requires count { operand_count code ≡ Some 1 }
@@ -91,6 +170,23 @@ fn item_of_one(code: u16, operand: u16) -> UnitItem
     }
 }
 
+/// Returns the item of a code with the two operands at the beginning of the bytes, and the bytes after it.
+#[tactic(auto, using(crate::proofs::Operands::operands_stand, crate::proofs::Operands::operands_end))]
+fn behind_code_of_two(code: u16, bytes: &[u8]) -> Result<(UnitItem, &[u8]), BadItem>
+    requires { operand_count code ≡ Some 2 }
+    ensures { MatchResult result
+        (λ first. StandsFirst (unit_bytes (SENTINEL ∷ code ∷ []) ++ bytes.now) first.0 first.1.now)
+        (λ bad. without_code (operands_fault code 2 bytes.now) ≡ Some (bad.kind, bad.code)) }
+{
+    let Some(((first, second), behind)) = first_two_units(bytes) else {
+        return Err(end_fault(bytes));
+    };
+    if first == 0 || second == 0 {
+        return Err(BadItem::of(BadKind::U3));
+    }
+    Ok((item_of_two(code, first, second), behind))
+}
+
 /// Returns the item of a code with two operands.
 fn item_of_two(code: u16, first: u16, second: u16) -> UnitItem
     requires count { operand_count code ≡ Some 2 }
@@ -105,6 +201,26 @@ fn item_of_two(code: u16, first: u16, second: u16) -> UnitItem
         item_codes::SET_SYSTEM => UnitItem::SetSystem(first, second),
         _ => unreachable!(),
     }
+}
+
+/// Returns the item of a code with the three operands at the beginning of the bytes, and the bytes after it.
+#[tactic(auto, using(crate::proofs::Operands::operands_stand, crate::proofs::Operands::operands_end))]
+fn behind_code_of_three(code: u16, bytes: &[u8]) -> Result<(UnitItem, &[u8]), BadItem>
+    requires { operand_count code ≡ Some 3 }
+    ensures { MatchResult result
+        (λ first. StandsFirst (unit_bytes (SENTINEL ∷ code ∷ []) ++ bytes.now) first.0 first.1.now)
+        (λ bad. without_code (operands_fault code 3 bytes.now) ≡ Some (bad.kind, bad.code)) }
+{
+    let Some((first, behind)) = first_unit(bytes) else {
+        return Err(end_fault(bytes));
+    };
+    let Some(((second, third), behind)) = first_two_units(behind) else {
+        return Err(end_fault(bytes));
+    };
+    if first == 0 || second == 0 || third == 0 {
+        return Err(BadItem::of(BadKind::U3));
+    }
+    Ok((item_of_three(code, first, second, third)?, behind))
 }
 
 /// Returns the item of a code with three operands. The last operand of a key and the operand of a comparison have a required form.
@@ -132,91 +248,6 @@ fn item_of_three(code: u16, first: u16, second: u16, third: u16) -> Result<UnitI
     }
 }
 
-/// Returns the item of a code with the operand at the beginning of the bytes, and the bytes after it.
-#[tactic(auto, using(crate::proofs::Operands::operands_stand, crate::proofs::Operands::operands_end))]
-fn behind_code_of_one(code: u16, bytes: &[u8]) -> Result<(UnitItem, &[u8]), BadItem>
-    requires { operand_count code ≡ Some 1 }
-    ensures { MatchResult result
-        (λ first. StandsFirst (unit_bytes (SENTINEL ∷ code ∷ []) ++ bytes.now) first.0 first.1.now)
-        (λ bad. without_code (operands_fault code 1 bytes.now) ≡ Some (bad.kind, bad.code)) }
-{
-    let Some((operand, behind)) = first_unit(bytes) else {
-        return Err(end_fault(bytes));
-    };
-    if operand == 0 {
-        return Err(BadItem::of(BadKind::U3));
-    }
-    Ok((item_of_one(code, operand), behind))
-}
-
-/// Returns the item of a code with the two operands at the beginning of the bytes, and the bytes after it.
-#[tactic(auto, using(crate::proofs::Operands::operands_stand, crate::proofs::Operands::operands_end))]
-fn behind_code_of_two(code: u16, bytes: &[u8]) -> Result<(UnitItem, &[u8]), BadItem>
-    requires { operand_count code ≡ Some 2 }
-    ensures { MatchResult result
-        (λ first. StandsFirst (unit_bytes (SENTINEL ∷ code ∷ []) ++ bytes.now) first.0 first.1.now)
-        (λ bad. without_code (operands_fault code 2 bytes.now) ≡ Some (bad.kind, bad.code)) }
-{
-    let Some(((first, second), behind)) = first_two_units(bytes) else {
-        return Err(end_fault(bytes));
-    };
-    if first == 0 || second == 0 {
-        return Err(BadItem::of(BadKind::U3));
-    }
-    Ok((item_of_two(code, first, second), behind))
-}
-
-/// Returns the item of a code with the three operands at the beginning of the bytes, and the bytes after it.
-#[tactic(auto, using(crate::proofs::Operands::operands_stand, crate::proofs::Operands::operands_end))]
-fn behind_code_of_three(code: u16, bytes: &[u8]) -> Result<(UnitItem, &[u8]), BadItem>
-    requires { operand_count code ≡ Some 3 }
-    ensures { MatchResult result
-        (λ first. StandsFirst (unit_bytes (SENTINEL ∷ code ∷ []) ++ bytes.now) first.0 first.1.now)
-        (λ bad. without_code (operands_fault code 3 bytes.now) ≡ Some (bad.kind, bad.code)) }
-{
-    let Some((first, behind)) = first_unit(bytes) else {
-        return Err(end_fault(bytes));
-    };
-    let Some(((second, third), behind)) = first_two_units(behind) else {
-        return Err(end_fault(bytes));
-    };
-    if first == 0 || second == 0 || third == 0 {
-        return Err(BadItem::of(BadKind::U3));
-    }
-    Ok((item_of_three(code, first, second, third)?, behind))
-}
-
-/// Returns the item of a code with the operands at the beginning of the bytes, and the bytes after it.
-fn behind_code(code: u16, bytes: &[u8]) -> Result<(UnitItem, &[u8]), BadItem>
-    ensures { MatchResult result
-        (λ first. StandsFirst (unit_bytes (SENTINEL ∷ code ∷ []) ++ bytes.now) first.0 first.1.now)
-        (λ bad. code_fault code bytes.now (operand_count code) ≡ Some (bad.kind, bad.code)) }
-{
-    match operand_count(code) {
-        None => Err(BadItem {
-            kind: BadKind::U2,
-            code,
-        }),
-        Some(0) => Ok((bare_item(code), bytes)),
-        Some(1) => behind_code_of_one(code, bytes),
-        Some(2) => behind_code_of_two(code, bytes),
-        Some(_) => behind_code_of_three(code, bytes),
-    }
-}
-
-/// Returns the item whose code is at the beginning of the bytes, and the bytes after it.
-#[tactic(auto, using(crate::proofs::Operands::sentinel_fault_unit))]
-fn behind_sentinel(bytes: &[u8]) -> Result<(UnitItem, &[u8]), BadItem>
-    ensures { MatchResult result
-        (λ first. StandsFirst (unit_bytes (SENTINEL ∷ []) ++ bytes.now) first.0 first.1.now)
-        (λ bad. sentinel_fault bytes.now ≡ Some (bad.kind, bad.code)) }
-{
-    let Some((code, behind)) = first_unit(bytes) else {
-        return Err(end_fault(bytes));
-    };
-    behind_code(code, behind)
-}
-
 /// Returns the character of the surrogate pair that begins with a high surrogate, and the bytes after it.
 fn behind_high(high: u16, bytes: &[u8]) -> Result<(UnitItem, &[u8]), BadItem>
     requires { IsTrue (is_high_surrogate high) }
@@ -238,36 +269,5 @@ fn behind_high(high: u16, bytes: &[u8]) -> Result<(UnitItem, &[u8]), BadItem>
     match char::from_u32(c) {
         Some(c) => Ok((UnitItem::Char(c), behind)),
         None => unreachable!(),
-    }
-}
-
-/// Returns the item that begins with a unit, and the bytes after it.
-fn behind_unit(unit: u16, bytes: &[u8]) -> Result<(UnitItem, &[u8]), BadItem>
-    ensures { MatchResult result
-        (λ first. StandsFirst (unit_bytes (unit ∷ []) ++ bytes.now) first.0 first.1.now)
-        (λ bad. unit_fault unit bytes.now ≡ Some (bad.kind, bad.code)) }
-{
-    match unit {
-        SENTINEL => behind_sentinel(bytes),
-        0 => Err(BadItem::of(BadKind::U3)),
-        0xD800..0xDC00 => behind_high(unit, bytes),
-        _ => match char::from_u32(u32::from(unit)) {
-            Some(c) => Ok((UnitItem::Char(c), bytes)),
-            None => Err(BadItem::of(BadKind::U1)),
-        },
-    }
-}
-
-/// Returns the item at the beginning of the bytes and the bytes after it, or why they do not begin with an item.
-#[tactic(auto, using(crate::proofs::Operands::fault_at_unit))]
-pub(crate) fn first_item(bytes: &[u8]) -> Result<(UnitItem, &[u8]), BadItem>
-    requires { 0 < length bytes.now }
-    ensures { MatchResult result
-        (λ first. StandsFirst bytes.now first.0 first.1.now)
-        (λ bad. fault_at bytes.now ≡ Some (bad.kind, bad.code)) }
-{
-    match first_unit(bytes) {
-        Some((unit, behind)) => behind_unit(unit, behind),
-        None => Err(BadItem::of(BadKind::U6)),
     }
 }

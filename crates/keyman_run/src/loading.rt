@@ -125,13 +125,6 @@ fn count_play<'a>(alloc: Global, file: &'a Verified<'a>, entries: &[Entry]) -> R
     })
 }
 
-/// Returns the length of a session's text in characters.
-fn text_length(session: &Session) -> usize
-    ensures { result ≡ length (whole_text session.now.state) }
-{
-    session.editor().len()
-}
-
 /// Returns the counts before the first event.
 fn no_progress() -> Progress
     ensures { result ≡ no_progress }
@@ -199,6 +192,13 @@ fn event_stop(last: u32, code: Code) -> Stop
         number: last.saturating_add(1),
         code,
     })
+}
+
+/// Returns the length of a session's text in characters.
+fn text_length(session: &Session) -> usize
+    ensures { result ≡ length (whole_text session.now.state) }
+{
+    session.editor().len()
 }
 
 /// Returns the line of a load.

@@ -121,19 +121,6 @@ pub fn prepare<F: Folder>(
     Ok(Prepared { compiled, entries })
 }
 
-/// Reads a source by name and compiles it with the bitmap that it names.
-pub fn read_and_compile<F: Folder>(
-    alloc: Global,
-    name: &FileName<'_>,
-    folder: &mut F,
-) -> Result<Compiled, Stop>
-    ensures compiled { IfOk result IsCompiled }
-    ensures gives { Gives itself (compiled_work name.now) F.Folder folder.old folder.new result }
-{
-    let checked = read_source(alloc, name, folder)?;
-    compile_beside(alloc, name, &checked, folder)
-}
-
 /// Reads a source by name and checks it.
 fn read_source<F: Folder>(
     alloc: Global,
@@ -194,16 +181,6 @@ fn read_named_picture<F: Folder>(
     ))
 }
 
-/// Returns the names of a program's custom keys.
-#[tactic(auto, using(rule_checker::proofs::Within::keys_are_coded))]
-pub fn key_names(checked: &Checked) -> &KeyDictionary
-    ensures { result.now ≡ (src checked.now).dictionary }
-{
-    // The lemma needs the contract of this call: the program was read and is not refused.
-    let _program = checked.program();
-    checked.names().keys()
-}
-
 /// Reads a script by name for a keyboard with these key names.
 fn read_entries<F: Folder>(
     alloc: Global,
@@ -218,6 +195,29 @@ fn read_entries<F: Folder>(
         at_line_one(Code::P06),
     ))?;
     Ok(read_script(alloc, script.as_slice(), names)?)
+}
+
+/// Reads a source by name and compiles it with the bitmap that it names.
+pub fn read_and_compile<F: Folder>(
+    alloc: Global,
+    name: &FileName<'_>,
+    folder: &mut F,
+) -> Result<Compiled, Stop>
+    ensures compiled { IfOk result IsCompiled }
+    ensures gives { Gives itself (compiled_work name.now) F.Folder folder.old folder.new result }
+{
+    let checked = read_source(alloc, name, folder)?;
+    compile_beside(alloc, name, &checked, folder)
+}
+
+/// Returns the names of a program's custom keys.
+#[tactic(auto, using(rule_checker::proofs::Within::keys_are_coded))]
+pub fn key_names(checked: &Checked) -> &KeyDictionary
+    ensures { result.now ≡ (src checked.now).dictionary }
+{
+    // The lemma needs the contract of this call: the program was read and is not refused.
+    let _program = checked.program();
+    checked.names().keys()
 }
 
 /// Reads a compiled keyboard by name.

@@ -109,6 +109,54 @@ fn test<F: Folder, S: Sink>(
     }
 }
 
+/// Plays the script on the written file.
+#[tactic(auto, using(crate::proofs::FileRuns::plays_written))]
+fn play_file<S: Sink>(alloc: Global, prepared: &Prepared, out: &mut S) -> Status
+    requires { IsCompiled prepared.now.compiled }
+    ensures { Tells (play_status (trace (tab prepared.now.compiled.tables) (events_of prepared.now.entries)) prepared.now.entries)
+        (transcript (tab prepared.now.compiled.tables) prepared.now.entries) S.Sink out.old out.new result }
+{
+    match verify(alloc, prepared.compiled.bytes.as_slice()) {
+        Ok(file) => print_played(alloc, &file, prepared.entries.as_slice(), out),
+        Err(error) => print_stop(alloc, Stop::from(error), out),
+    }
+}
+
+/// Prints what the keyboard of a valid file does with a script.
+#[tactic(auto, using(play_transcript::proofs::PrintingLaws::none_begun))]
+fn print_played<'a, S: Sink>(
+    alloc: Global,
+    file: &'a Verified<'a>,
+    entries: &[Entry],
+    out: &mut S,
+) -> Status
+    ensures { Tells (play_status (trace (tab (tables_of file.now)) (events_of entries.now)) entries.now)
+        (transcript (tab (tables_of file.now)) entries.now) S.Sink out.old out.new result }
+{
+    match Session::start(alloc, file) {
+        Ok(session) => print_play(alloc, session, entries, out),
+        Err(Memory) => Status::Memory,
+    }
+}
+
+/// Prints what a session before its first event does with a script.
+#[tactic(auto, using(play_transcript::proofs::PrintingLaws::none_begun))]
+fn print_play<'a, S: Sink>(
+    alloc: Global,
+    session: Session<'a>,
+    entries: &[Entry],
+    out: &mut S,
+) -> Status
+    requires { session ≡ first_session session.tables }
+    ensures { Tells (play_status (trace (tab session.entry.tables) (events_of entries.now)) entries.now)
+        (transcript (tab session.entry.tables) entries.now) S.Sink out.old out.new result }
+{
+    match play(alloc, session, entries, out) {
+        Ok(end) => end_status(end),
+        Err(error) => write_status(error),
+    }
+}
+
 /// Verifies a file and prints its version and counts, or its first fault.
 fn verify_file<F: Folder, S: Sink>(
     alloc: Global,
@@ -264,41 +312,6 @@ fn load<S: Sink>(alloc: Global, number: u32, out: &mut S) -> Status
     }
 }
 
-/// Prints what the keyboard of a valid file does with a script.
-#[tactic(auto, using(play_transcript::proofs::PrintingLaws::none_begun))]
-fn print_played<'a, S: Sink>(
-    alloc: Global,
-    file: &'a Verified<'a>,
-    entries: &[Entry],
-    out: &mut S,
-) -> Status
-    ensures { Tells (play_status (trace (tab (tables_of file.now)) (events_of entries.now)) entries.now)
-        (transcript (tab (tables_of file.now)) entries.now) S.Sink out.old out.new result }
-{
-    match Session::start(alloc, file) {
-        Ok(session) => print_play(alloc, session, entries, out),
-        Err(Memory) => Status::Memory,
-    }
-}
-
-/// Prints what a session before its first event does with a script.
-#[tactic(auto, using(play_transcript::proofs::PrintingLaws::none_begun))]
-fn print_play<'a, S: Sink>(
-    alloc: Global,
-    session: Session<'a>,
-    entries: &[Entry],
-    out: &mut S,
-) -> Status
-    requires { session ≡ first_session session.tables }
-    ensures { Tells (play_status (trace (tab session.entry.tables) (events_of entries.now)) entries.now)
-        (transcript (tab session.entry.tables) entries.now) S.Sink out.old out.new result }
-{
-    match play(alloc, session, entries, out) {
-        Ok(end) => end_status(end),
-        Err(error) => write_status(error),
-    }
-}
-
 /// Ends a run that stops before it writes. Only a refusal prints a line.
 #[tactic(auto, using(keyman_words::proofs::Printed::tells_made))]
 pub fn print_stop<S: Sink>(alloc: Global, stop: Stop, out: &mut S) -> Status
@@ -308,19 +321,6 @@ pub fn print_stop<S: Sink>(alloc: Global, stop: Stop, out: &mut S) -> Status
         Stop::Refused(why) => print_result(reason_line(alloc, why), Status::Refused, out),
         Stop::ReadFault => Status::ReadFault,
         Stop::Memory => Status::Memory,
-    }
-}
-
-/// Plays the script on the written file.
-#[tactic(auto, using(crate::proofs::FileRuns::plays_written))]
-fn play_file<S: Sink>(alloc: Global, prepared: &Prepared, out: &mut S) -> Status
-    requires { IsCompiled prepared.now.compiled }
-    ensures { Tells (play_status (trace (tab prepared.now.compiled.tables) (events_of prepared.now.entries)) prepared.now.entries)
-        (transcript (tab prepared.now.compiled.tables) prepared.now.entries) S.Sink out.old out.new result }
-{
-    match verify(alloc, prepared.compiled.bytes.as_slice()) {
-        Ok(file) => print_played(alloc, &file, prepared.entries.as_slice(), out),
-        Err(error) => print_stop(alloc, Stop::from(error), out),
     }
 }
 

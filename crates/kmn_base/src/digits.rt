@@ -22,17 +22,16 @@ pub fn are_digits(base: u32, text: &[u8]) -> bool
     text.iter().all(|byte| is_digit(*byte, base))
 }
 
-/// Returns the value of a digit or a letter, and 36 for any other byte.
-fn digit_value(byte: u8) -> u32
-    ensures value { result ≡ digit_value byte }
-    ensures most { result ≤ 36 }
+/// Returns the number that digits denote, or a bound if the number is larger.
+pub fn bounded_value(bound: u32, base: u32, digits: &[u8]) -> u32
+    requires { base ≤ 16 }
+    ensures { result ≡ bounded_value bound base digits.now }
 {
-    match byte {
-        b'0'..=b'9' => u32::from(byte) - 48,
-        b'A'..=b'Z' => u32::from(byte) - 55,
-        b'a'..=b'z' => u32::from(byte) - 87,
-        _ => 36,
+    let mut value = 0;
+    for digit in digits {
+        value = with_digit(bound, base, value, *digit);
     }
+    value
 }
 
 /// Returns a number with another digit appended, or a bound if the number is larger.
@@ -44,14 +43,15 @@ fn with_digit(bound: u32, base: u32, value: u32, byte: u8) -> u32
     larger.min(u64::from(bound)) as u32
 }
 
-/// Returns the number that digits denote, or a bound if the number is larger.
-pub fn bounded_value(bound: u32, base: u32, digits: &[u8]) -> u32
-    requires { base ≤ 16 }
-    ensures { result ≡ bounded_value bound base digits.now }
+/// Returns the value of a digit or a letter, and 36 for any other byte.
+fn digit_value(byte: u8) -> u32
+    ensures value { result ≡ digit_value byte }
+    ensures most { result ≤ 36 }
 {
-    let mut value = 0;
-    for digit in digits {
-        value = with_digit(bound, base, value, *digit);
+    match byte {
+        b'0'..=b'9' => u32::from(byte) - 48,
+        b'A'..=b'Z' => u32::from(byte) - 55,
+        b'a'..=b'z' => u32::from(byte) - 87,
+        _ => 36,
     }
-    value
 }

@@ -34,13 +34,6 @@ pub enum Element {
     Key { flags: u16, code: u16 },
 }
 
-/// Returns whether an item is a mark.
-fn is_mark(item: Item) -> bool
-    ensures { result ≡ is_mark item }
-{
-    matches!(item, Item::Mark(_))
-}
-
 /// Returns the number of marks at the end of the items.
 pub fn end_marks(items: &[Item]) -> usize
     ensures value { result ≡ suffix_len is_mark items.now }
@@ -51,4 +44,11 @@ pub fn end_marks(items: &[Item]) -> usize
         count -= 1;
     }
     items.len() - count
+}
+
+/// Returns whether an item is a mark.
+fn is_mark(item: Item) -> bool
+    ensures { result ≡ is_mark item }
+{
+    matches!(item, Item::Mark(_))
 }

@@ -50,13 +50,6 @@ pub fn character_count(text: &[u8]) -> usize
         .count()
 }
 
-/// Returns the characters of a text. Errors: `Memory` if an allocation fails.
-fn characters(alloc: Global, text: &str) -> Result<Seq<char>, Memory>
-    ensures { IfOk result (λ characters. characters ≡ chars text.now) }
-{
-    Ok(Seq::from_vec(text.chars().collect(alloc)?))
-}
-
 /// Returns the characters of a text in UTF-8, or none if the text is not UTF-8. Errors: `Memory` if an allocation fails.
 #[tactic(auto, using(crate::proofs::DecodedTexts::decoded_text, crate::proofs::DecodedTexts::decoded_other))]
 pub fn decoded(alloc: Global, text: &[u8]) -> Result<Seq<char>, Memory>
@@ -66,4 +59,11 @@ pub fn decoded(alloc: Global, text: &[u8]) -> Result<Seq<char>, Memory>
         Ok(text) => characters(alloc, text),
         Err(_) => Ok(Seq::new(alloc)),
     }
+}
+
+/// Returns the characters of a text. Errors: `Memory` if an allocation fails.
+fn characters(alloc: Global, text: &str) -> Result<Seq<char>, Memory>
+    ensures { IfOk result (λ characters. characters ≡ chars text.now) }
+{
+    Ok(Seq::from_vec(text.chars().collect(alloc)?))
 }

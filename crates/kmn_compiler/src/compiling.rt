@@ -36,25 +36,17 @@ pub fn front(alloc: Global, source: &[u8]) -> Result<Checked, CompileError>
     check(alloc, program)
 }
 
-/// Returns the tables of a checked program, with their records in order.
-fn tables_of(alloc: Global, checked: &Checked) -> Result<Tables, Memory>
-    ensures compiles { IfOk result (λ tables. Compiles checked.now tables) }
-    ensures read { IsRead checked.now }
-    ensures unrefused { refused checked.now ≡ None }
-{
-    let _program = checked.program();
-    let mut tables = expand(alloc, checked)?;
-    order(&mut tables);
-    Ok(tables)
-}
-
-/// Returns a sum.
+/// Returns the compiled keyboard of a checked program with a bitmap, which is empty if the keyboard has none.
 ///
-/// Errors: `Memory` if the sum does not fit, since a file of that size does not fit in memory.
-fn sum(a: u64, b: u64) -> Result<u64, Memory>
-    ensures { IfOk result (λ sum. sum ≡ a + b) }
+/// Errors: `TooLarge` with the size in bytes and C24 if the bitmap passes its limit, else C23 if the file would pass its limit;
+/// `Memory` if an allocation fails.
+pub fn back(alloc: Global, checked: &Checked, picture: &[u8]) -> Result<Compiled, CompileError>
+    ensures { CompilesTo (Ok checked.now) picture.now result }
 {
-    a.checked_add(b).ok_or(Memory)
+    limits(alloc, checked, picture)?;
+    let tables = tables_of(alloc, checked)?;
+    let bytes = write(alloc, &tables, picture)?;
+    Ok(Compiled { bytes, tables })
 }
 
 /// Refuses a checked program if its file with this bitmap would pass a limit. The size is counted before the records are built, since
@@ -83,17 +75,25 @@ fn limits(alloc: Global, checked: &Checked, picture: &[u8]) -> Result<(), Compil
     Ok(())
 }
 
-/// Returns the compiled keyboard of a checked program with a bitmap, which is empty if the keyboard has none.
+/// Returns a sum.
 ///
-/// Errors: `TooLarge` with the size in bytes and C24 if the bitmap passes its limit, else C23 if the file would pass its limit;
-/// `Memory` if an allocation fails.
-pub fn back(alloc: Global, checked: &Checked, picture: &[u8]) -> Result<Compiled, CompileError>
-    ensures { CompilesTo (Ok checked.now) picture.now result }
+/// Errors: `Memory` if the sum does not fit, since a file of that size does not fit in memory.
+fn sum(a: u64, b: u64) -> Result<u64, Memory>
+    ensures { IfOk result (λ sum. sum ≡ a + b) }
 {
-    limits(alloc, checked, picture)?;
-    let tables = tables_of(alloc, checked)?;
-    let bytes = write(alloc, &tables, picture)?;
-    Ok(Compiled { bytes, tables })
+    a.checked_add(b).ok_or(Memory)
+}
+
+/// Returns the tables of a checked program, with their records in order.
+fn tables_of(alloc: Global, checked: &Checked) -> Result<Tables, Memory>
+    ensures compiles { IfOk result (λ tables. Compiles checked.now tables) }
+    ensures read { IsRead checked.now }
+    ensures unrefused { refused checked.now ≡ None }
+{
+    let _program = checked.program();
+    let mut tables = expand(alloc, checked)?;
+    order(&mut tables);
+    Ok(tables)
 }
 
 /// Returns the compiled keyboard of a source with a bitmap, which is empty if the keyboard has none: `front` and `back`.

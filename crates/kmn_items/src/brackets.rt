@@ -19,49 +19,6 @@ use virtual_keys::{key_named, modifier_named};
 /// The form of a virtual key after its modifiers.
 const KEY_AND_END: [Slot; 2] = [Slot::KeyName, Slot::KeyEnd];
 
-/// Returns the shift flag of a word.
-fn flag_of(text: &[u8]) -> u16
-    ensures { result ≡ flag_of text.now }
-{
-    match modifier_named(text) {
-        Some(flag) => flag,
-        None => 0,
-    }
-}
-
-/// Returns the shift flags of words, above the flag of a virtual key.
-fn flags_of(tokens: LineTokens<'_>) -> u16
-    ensures { result ≡ flags_of (texts tokens.entry) }
-{
-    let mut flags = VIRTUAL_KEY;
-    let LineTokens {
-        source,
-        tokens: all,
-    } = tokens;
-    for token in all {
-        flags |= flag_of(text_in(source, *token));
-    }
-    flags
-}
-
-/// Returns a virtual key by its name. Errors: `Memory` if an allocation fails.
-fn named_key(alloc: Global, flags: u16, name: &[u8]) -> Result<KeyName, Memory>
-    ensures { IfOk result (λ key. key ≡ named_key flags name.now) }
-{
-    match key_named(name) {
-        Some(code) => Ok(KeyName {
-            flags,
-            code,
-            name: Seq::new(alloc),
-        }),
-        None => Ok(KeyName {
-            flags,
-            code: 0,
-            name: Seq::from_slice(alloc, name)?,
-        }),
-    }
-}
-
 /// Returns a virtual key as an item. In an output it is not supported.
 pub(crate) fn key_item(place: Where, key: KeyName) -> SrcItem
     ensures { result ≡ key_item place key }
@@ -70,13 +27,6 @@ pub(crate) fn key_item(place: Where, key: KeyName) -> SrcItem
         Where::Output => SrcItem::OutOfProfile,
         _ => SrcItem::Key(key),
     }
-}
-
-/// Returns whether a token is a modifier.
-fn is_modifier_token(source: &[u8], token: Token) -> bool
-    ensures { result ≡ is_modifier_token (with_text source.now token) }
-{
-    matches!(token.kind, TokenKind::Word) && is_modifier(text_in(source, token))
 }
 
 /// Returns the number of modifiers at the beginning of tokens.
@@ -95,6 +45,13 @@ pub(crate) fn modifier_count(tokens: LineTokens<'_>) -> usize
         }
     }
     all.len()
+}
+
+/// Returns whether a token is a modifier.
+fn is_modifier_token(source: &[u8], token: Token) -> bool
+    ensures { result ≡ is_modifier_token (with_text source.now token) }
+{
+    matches!(token.kind, TokenKind::Word) && is_modifier(text_in(source, token))
 }
 
 /// Returns the first token that breaks a virtual key after its modifiers. `at` is the index of the first modifier.
@@ -121,4 +78,47 @@ pub(crate) fn modified_key(
 {
     let flags = flags_of(tokens.before(count));
     named_key(alloc, flags, tokens.text(count))
+}
+
+/// Returns the shift flags of words, above the flag of a virtual key.
+fn flags_of(tokens: LineTokens<'_>) -> u16
+    ensures { result ≡ flags_of (texts tokens.entry) }
+{
+    let mut flags = VIRTUAL_KEY;
+    let LineTokens {
+        source,
+        tokens: all,
+    } = tokens;
+    for token in all {
+        flags |= flag_of(text_in(source, *token));
+    }
+    flags
+}
+
+/// Returns the shift flag of a word.
+fn flag_of(text: &[u8]) -> u16
+    ensures { result ≡ flag_of text.now }
+{
+    match modifier_named(text) {
+        Some(flag) => flag,
+        None => 0,
+    }
+}
+
+/// Returns a virtual key by its name. Errors: `Memory` if an allocation fails.
+fn named_key(alloc: Global, flags: u16, name: &[u8]) -> Result<KeyName, Memory>
+    ensures { IfOk result (λ key. key ≡ named_key flags name.now) }
+{
+    match key_named(name) {
+        Some(code) => Ok(KeyName {
+            flags,
+            code,
+            name: Seq::new(alloc),
+        }),
+        None => Ok(KeyName {
+            flags,
+            code: 0,
+            name: Seq::from_slice(alloc, name)?,
+        }),
+    }
 }

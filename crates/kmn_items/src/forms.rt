@@ -92,102 +92,6 @@ pub(crate) fn word_slots(word: ItemWord) -> &'static [Slot]
     }
 }
 
-/// Returns whether the token at an index is `=`.
-#[tactic(auto, using(crate::proofs::TextLemmas::get_with_texts))]
-fn equal_at(place: usize, tokens: LineTokens<'_>) -> bool
-    ensures { result ≡ equal_at place (texts tokens.entry) }
-{
-    match tokens.tokens.get(place) {
-        Some(token) => matches!(token.kind, TokenKind::Equal),
-        None => false,
-    }
-}
-
-/// Returns the id of the system option with a name, and None for another system store.
-#[tactic(auto, unfolding(crate::specs::Forms::option_ids))]
-fn option_id(name: &[u8]) -> Option<u32>
-    ensures { result ≡ option_id name.now }
-{
-    named_in(&OPTION_IDS, bare_name(name))
-}
-
-/// Returns a condition on a system option. Other system stores are not supported.
-fn system_condition(id: Option<u32>, equal: bool, value: Seq<char>) -> SrcItem
-    ensures { result ≡ system_condition id equal value }
-{
-    match id {
-        Some(id) if equal => SrcItem::SystemEqual(id, value),
-        Some(id) => SrcItem::SystemUnequal(id, value),
-        None => SrcItem::OutOfProfile,
-    }
-}
-
-/// Returns the condition of tokens in the form of `if`. Errors: `Memory` if an allocation fails.
-fn condition(alloc: Global, tokens: LineTokens<'_>) -> Result<SrcItem, Memory>
-    ensures { IfOk result (λ item. item ≡ condition (text_at 2 (texts tokens.entry)) (equal_at 3 (texts tokens.entry)) (quoted (text_at 4 (texts tokens.entry)))) }
-{
-    let store = tokens.text(2);
-    let equal = equal_at(3, tokens);
-    let value = quoted(alloc, tokens.text(4))?;
-    if is_system_name(store) {
-        return Ok(system_condition(option_id(store), equal, value));
-    }
-    let name = tokens.name(alloc, 2)?;
-    if equal {
-        Ok(SrcItem::Equal(name, value))
-    } else {
-        Ok(SrcItem::Unequal(name, value))
-    }
-}
-
-/// Returns a `set` of a system option. Only the layer is supported.
-fn system_setting(id: Option<u32>, value: Seq<char>) -> SrcItem
-    ensures { result ≡ system_setting id value }
-{
-    match id {
-        Some(id) if id == LAYER => SrcItem::SetSystem(id, value),
-        _ => SrcItem::OutOfProfile,
-    }
-}
-
-/// Returns the `set` of tokens in the form of `set`. Errors: `Memory` if an allocation fails.
-fn setting(alloc: Global, tokens: LineTokens<'_>) -> Result<SrcItem, Memory>
-    ensures { IfOk result (λ item. item ≡ setting (text_at 2 (texts tokens.entry)) (quoted (text_at 4 (texts tokens.entry)))) }
-{
-    let store = tokens.text(2);
-    let value = quoted(alloc, tokens.text(4))?;
-    if is_system_name(store) {
-        return Ok(system_setting(option_id(store), value));
-    }
-    Ok(SrcItem::Set(tokens.name(alloc, 2)?, value))
-}
-
-/// Returns the item of `layer`, which sets the layer in an output and is a condition elsewhere.
-fn layer_item(place: Where, value: Seq<char>) -> SrcItem
-    ensures { result ≡ layer_item place value }
-{
-    match place {
-        Where::Output => SrcItem::SetSystem(LAYER, value),
-        _ => SrcItem::SystemEqual(LAYER, value),
-    }
-}
-
-/// Returns the item of `$` and a name. Errors: `Memory` if an allocation fails.
-fn dollar_item(alloc: Global, tokens: LineTokens<'_>) -> Result<SrcItem, Memory>
-    ensures { IfOk result (λ item. item ≡ SrcItem.Outs (drop 1 (text_at 0 (texts tokens.entry)))) }
-{
-    let name = behind(tokens.text(0), 1);
-    Ok(SrcItem::Outs(Seq::from_slice(alloc, name)?))
-}
-
-/// Returns the item of tokens in the form of `index`. Errors: `Memory` if an allocation fails.
-fn index_item(alloc: Global, tokens: LineTokens<'_>) -> Result<SrcItem, Memory>
-    ensures { IfOk result (λ item. item ≡ SrcItem.Index (text_at 2 (texts tokens.entry)) (offset_value (text_at 4 (texts tokens.entry)))) }
-{
-    let offset = offset_value(tokens.text(4));
-    Ok(SrcItem::Index(tokens.name(alloc, 2)?, offset))
-}
-
 /// Returns the item of a word in a section, from tokens in its form. Errors: `Memory` if an allocation fails.
 pub(crate) fn word_item(
     alloc: Global,
@@ -223,5 +127,101 @@ pub(crate) fn word_item(
         ItemWord::Switch | ItemWord::ClearContext | ItemWord::Fix | ItemWord::BaseLayout => {
             Ok(SrcItem::OutOfProfile)
         }
+    }
+}
+
+/// Returns the condition of tokens in the form of `if`. Errors: `Memory` if an allocation fails.
+fn condition(alloc: Global, tokens: LineTokens<'_>) -> Result<SrcItem, Memory>
+    ensures { IfOk result (λ item. item ≡ condition (text_at 2 (texts tokens.entry)) (equal_at 3 (texts tokens.entry)) (quoted (text_at 4 (texts tokens.entry)))) }
+{
+    let store = tokens.text(2);
+    let equal = equal_at(3, tokens);
+    let value = quoted(alloc, tokens.text(4))?;
+    if is_system_name(store) {
+        return Ok(system_condition(option_id(store), equal, value));
+    }
+    let name = tokens.name(alloc, 2)?;
+    if equal {
+        Ok(SrcItem::Equal(name, value))
+    } else {
+        Ok(SrcItem::Unequal(name, value))
+    }
+}
+
+/// Returns whether the token at an index is `=`.
+#[tactic(auto, using(crate::proofs::TextLemmas::get_with_texts))]
+fn equal_at(place: usize, tokens: LineTokens<'_>) -> bool
+    ensures { result ≡ equal_at place (texts tokens.entry) }
+{
+    match tokens.tokens.get(place) {
+        Some(token) => matches!(token.kind, TokenKind::Equal),
+        None => false,
+    }
+}
+
+/// Returns a condition on a system option. Other system stores are not supported.
+fn system_condition(id: Option<u32>, equal: bool, value: Seq<char>) -> SrcItem
+    ensures { result ≡ system_condition id equal value }
+{
+    match id {
+        Some(id) if equal => SrcItem::SystemEqual(id, value),
+        Some(id) => SrcItem::SystemUnequal(id, value),
+        None => SrcItem::OutOfProfile,
+    }
+}
+
+/// Returns the id of the system option with a name, and None for another system store.
+#[tactic(auto, unfolding(crate::specs::Forms::option_ids))]
+fn option_id(name: &[u8]) -> Option<u32>
+    ensures { result ≡ option_id name.now }
+{
+    named_in(&OPTION_IDS, bare_name(name))
+}
+
+/// Returns the `set` of tokens in the form of `set`. Errors: `Memory` if an allocation fails.
+fn setting(alloc: Global, tokens: LineTokens<'_>) -> Result<SrcItem, Memory>
+    ensures { IfOk result (λ item. item ≡ setting (text_at 2 (texts tokens.entry)) (quoted (text_at 4 (texts tokens.entry)))) }
+{
+    let store = tokens.text(2);
+    let value = quoted(alloc, tokens.text(4))?;
+    if is_system_name(store) {
+        return Ok(system_setting(option_id(store), value));
+    }
+    Ok(SrcItem::Set(tokens.name(alloc, 2)?, value))
+}
+
+/// Returns a `set` of a system option. Only the layer is supported.
+fn system_setting(id: Option<u32>, value: Seq<char>) -> SrcItem
+    ensures { result ≡ system_setting id value }
+{
+    match id {
+        Some(id) if id == LAYER => SrcItem::SetSystem(id, value),
+        _ => SrcItem::OutOfProfile,
+    }
+}
+
+/// Returns the item of `$` and a name. Errors: `Memory` if an allocation fails.
+fn dollar_item(alloc: Global, tokens: LineTokens<'_>) -> Result<SrcItem, Memory>
+    ensures { IfOk result (λ item. item ≡ SrcItem.Outs (drop 1 (text_at 0 (texts tokens.entry)))) }
+{
+    let name = behind(tokens.text(0), 1);
+    Ok(SrcItem::Outs(Seq::from_slice(alloc, name)?))
+}
+
+/// Returns the item of tokens in the form of `index`. Errors: `Memory` if an allocation fails.
+fn index_item(alloc: Global, tokens: LineTokens<'_>) -> Result<SrcItem, Memory>
+    ensures { IfOk result (λ item. item ≡ SrcItem.Index (text_at 2 (texts tokens.entry)) (offset_value (text_at 4 (texts tokens.entry)))) }
+{
+    let offset = offset_value(tokens.text(4));
+    Ok(SrcItem::Index(tokens.name(alloc, 2)?, offset))
+}
+
+/// Returns the item of `layer`, which sets the layer in an output and is a condition elsewhere.
+fn layer_item(place: Where, value: Seq<char>) -> SrcItem
+    ensures { result ≡ layer_item place value }
+{
+    match place {
+        Where::Output => SrcItem::SetSystem(LAYER, value),
+        _ => SrcItem::SystemEqual(LAYER, value),
     }
 }

@@ -32,6 +32,83 @@ pub(crate) fn refused(at: usize, code: Code) -> LineError
     LineError::Refused(TokenRefusal { at, code })
 }
 
+/// Returns one item at the beginning of tokens.
+#[tactic(auto, unfolding(crate::specs::Item::read_item))]
+pub(crate) fn read_item(
+    alloc: Global,
+    spot: Spot,
+    tokens: LineTokens<'_>,
+) -> Result<Taken, LineError>
+    requires { spot.at + 1 + length (texts tokens) < 2 ^ 62 }
+    ensures read { Reads (read_item spot.place spot.seen spot.last spot.at (texts tokens.entry)) result }
+    ensures few { IfOk result (λ taken. taken.more ≤ length (texts tokens.entry) + 5) }
+{
+    let lead = lead_of(tokens);
+    match standing_code(spot.place, spot.seen, lead) {
+        Some(code) => Err(refused(spot.at, code)),
+        None => read_form(alloc, spot, lead, tokens),
+    }
+}
+
+/// Returns the item at the beginning of tokens, by the kind of the first token, if it is allowed there.
+fn read_form(
+    alloc: Global,
+    spot: Spot,
+    lead: Lead,
+    tokens: LineTokens<'_>,
+) -> Result<Taken, LineError>
+    requires { spot.at + 1 + length (texts tokens) < 2 ^ 62 }
+    ensures read { Reads (read_form spot.place spot.seen spot.last spot.at lead (texts tokens.entry)) result }
+    ensures few { IfOk result (λ taken. taken.more ≤ length (texts tokens.entry) + 5) }
+{
+    match lead {
+        Lead::Characters => read_quoted(alloc, spot, tokens.text(0)),
+        Lead::One(c) => Ok(read_character(alloc, spot.seen, c)?),
+        Lead::Named(word) => read_word(alloc, spot, word, tokens),
+        Lead::Bracket => read_bracket(alloc, spot, tokens.behind(1)),
+        Lead::Wrong(code) => Err(refused(spot.at, code)),
+        Lead::Misplaced => Err(refused(spot.at, misplaced_code(spot.place))),
+    }
+}
+
+/// Returns the characters of a quoted token, each an item.
+fn read_quoted(alloc: Global, spot: Spot, text: &[u8]) -> Result<Taken, LineError>
+    ensures read { Reads (read_quoted spot.place spot.seen spot.at (quoted text.now)) result }
+    ensures few { IfOk result (λ taken. taken.more ≡ 0) }
+{
+    let characters = quoted(alloc, text)?;
+    if is_crowded(spot.place, spot.seen, characters.len()) {
+        return Err(refused(spot.at, Code::S05));
+    }
+    Ok(Taken {
+        items: character_items(alloc, characters.as_slice())?,
+        more: 0,
+        seen: seen_count(spot.seen, characters.len()),
+    })
+}
+
+/// Returns the characters as items. Errors: `Memory` if an allocation fails.
+fn character_items(alloc: Global, characters: &[char]) -> Result<Seq<SrcItem>, Memory>
+    ensures { IfOk result (λ items. items ≡ map SrcItem.Char characters.now) }
+{
+    let mut items = Vec::with_capacity(alloc, characters.len())?;
+    for c in characters {
+        items.push(SrcItem::Char(*c))?;
+    }
+    Ok(Seq::from_vec(items))
+}
+
+/// Returns a character as an item. Errors: `Memory` if an allocation fails.
+fn read_character(alloc: Global, seen: Seen, c: char) -> Result<Taken, Memory>
+    ensures { IfOk result (λ taken. taken ≡ one_character seen c) }
+{
+    Ok(Taken {
+        items: single(alloc, SrcItem::Char(c))?,
+        more: 0,
+        seen: seen_count(seen, 1),
+    })
+}
+
 /// Creates a list of one item. Errors: `Memory` if an allocation fails.
 fn single(alloc: Global, item: SrcItem) -> Result<Seq<SrcItem>, Memory>
     ensures { IfOk result (λ items. items ≡ item ∷ []) }
@@ -64,33 +141,6 @@ fn read_word(
     })
 }
 
-/// Returns the characters as items. Errors: `Memory` if an allocation fails.
-fn character_items(alloc: Global, characters: &[char]) -> Result<Seq<SrcItem>, Memory>
-    ensures { IfOk result (λ items. items ≡ map SrcItem.Char characters.now) }
-{
-    let mut items = Vec::with_capacity(alloc, characters.len())?;
-    for c in characters {
-        items.push(SrcItem::Char(*c))?;
-    }
-    Ok(Seq::from_vec(items))
-}
-
-/// Returns the characters of a quoted token, each an item.
-fn read_quoted(alloc: Global, spot: Spot, text: &[u8]) -> Result<Taken, LineError>
-    ensures read { Reads (read_quoted spot.place spot.seen spot.at (quoted text.now)) result }
-    ensures few { IfOk result (λ taken. taken.more ≡ 0) }
-{
-    let characters = quoted(alloc, text)?;
-    if is_crowded(spot.place, spot.seen, characters.len()) {
-        return Err(refused(spot.at, Code::S05));
-    }
-    Ok(Taken {
-        items: character_items(alloc, characters.as_slice())?,
-        more: 0,
-        seen: seen_count(spot.seen, characters.len()),
-    })
-}
-
 /// Returns the key in brackets, from the tokens after the opening bracket.
 fn read_bracket(alloc: Global, spot: Spot, tokens: LineTokens<'_>) -> Result<Taken, LineError>
     requires { spot.at + 1 + length (texts tokens) < 2 ^ 62 }
@@ -107,54 +157,4 @@ fn read_bracket(alloc: Global, spot: Spot, tokens: LineTokens<'_>) -> Result<Tak
         more: count + 2,
         seen: seen_count(spot.seen, 1),
     })
-}
-
-/// Returns a character as an item. Errors: `Memory` if an allocation fails.
-fn read_character(alloc: Global, seen: Seen, c: char) -> Result<Taken, Memory>
-    ensures { IfOk result (λ taken. taken ≡ one_character seen c) }
-{
-    Ok(Taken {
-        items: single(alloc, SrcItem::Char(c))?,
-        more: 0,
-        seen: seen_count(seen, 1),
-    })
-}
-
-/// Returns the item at the beginning of tokens, by the kind of the first token, if it is allowed there.
-fn read_form(
-    alloc: Global,
-    spot: Spot,
-    lead: Lead,
-    tokens: LineTokens<'_>,
-) -> Result<Taken, LineError>
-    requires { spot.at + 1 + length (texts tokens) < 2 ^ 62 }
-    ensures read { Reads (read_form spot.place spot.seen spot.last spot.at lead (texts tokens.entry)) result }
-    ensures few { IfOk result (λ taken. taken.more ≤ length (texts tokens.entry) + 5) }
-{
-    match lead {
-        Lead::Characters => read_quoted(alloc, spot, tokens.text(0)),
-        Lead::One(c) => Ok(read_character(alloc, spot.seen, c)?),
-        Lead::Named(word) => read_word(alloc, spot, word, tokens),
-        Lead::Bracket => read_bracket(alloc, spot, tokens.behind(1)),
-        Lead::Wrong(code) => Err(refused(spot.at, code)),
-        Lead::Misplaced => Err(refused(spot.at, misplaced_code(spot.place))),
-    }
-}
-
-/// Returns one item at the beginning of tokens.
-#[tactic(auto, unfolding(crate::specs::Item::read_item))]
-pub(crate) fn read_item(
-    alloc: Global,
-    spot: Spot,
-    tokens: LineTokens<'_>,
-) -> Result<Taken, LineError>
-    requires { spot.at + 1 + length (texts tokens) < 2 ^ 62 }
-    ensures read { Reads (read_item spot.place spot.seen spot.last spot.at (texts tokens.entry)) result }
-    ensures few { IfOk result (λ taken. taken.more ≤ length (texts tokens.entry) + 5) }
-{
-    let lead = lead_of(tokens);
-    match standing_code(spot.place, spot.seen, lead) {
-        Some(code) => Err(refused(spot.at, code)),
-        None => read_form(alloc, spot, lead, tokens),
-    }
 }

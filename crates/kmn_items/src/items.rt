@@ -26,18 +26,6 @@ pub fn is_item_word(text: &[u8]) -> bool
     is_number_word(text) || item_word(text).is_some()
 }
 
-/// Joins two lists. If the first is empty, it returns the second, so that one item needs no spare room.
-fn joined(items: Seq<SrcItem>, more: Seq<SrcItem>) -> Result<Seq<SrcItem>, Memory>
-    ensures { IfOk result (λ all. all ≡ items ++ more) }
-{
-    if items.is_empty() {
-        return Ok(more);
-    }
-    let mut all = items;
-    all.append(more)?;
-    Ok(all)
-}
-
 /// Returns the items of a section. `at` is the index of its first token in the line. `last` is the index of the line's last
 /// token, the latest token at which an item can break off.
 #[tactic(auto, using(crate::proofs::ItemLemmas::items_step))]
@@ -69,6 +57,18 @@ pub fn read_items(
         rest = rest.behind(1 + taken.more);
     }
     Ok(items)
+}
+
+/// Joins two lists. If the first is empty, it returns the second, so that one item needs no spare room.
+fn joined(items: Seq<SrcItem>, more: Seq<SrcItem>) -> Result<Seq<SrcItem>, Memory>
+    ensures { IfOk result (λ all. all ≡ items ++ more) }
+{
+    if items.is_empty() {
+        return Ok(more);
+    }
+    let mut all = items;
+    all.append(more)?;
+    Ok(all)
 }
 
 /// Returns the item of a key. `at` is the index of its first token in the line, and `last` is the index of the line's last token.

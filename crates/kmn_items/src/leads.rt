@@ -10,26 +10,13 @@ use crate::text::{LineTokens, begins_open, text_in};
 use crate::words::item_word;
 use kmn_lines::{Token, TokenKind};
 
-/// Returns a word as it is with or without a parenthesis after it.
-fn followed(opened: bool, word: ItemWord) -> ItemWord
-    ensures { result ≡ followed opened word }
+/// Returns the kind of the item that the first of some tokens begins.
+pub(crate) fn lead_of(tokens: LineTokens<'_>) -> Lead
+    ensures { result ≡ lead_of (texts tokens.entry) }
 {
-    match word {
-        ItemWord::Context if opened => ItemWord::ContextAt,
-        other => other,
-    }
-}
-
-/// Returns the kind of the item that a word begins.
-fn word_lead(opened: bool, text: &[u8]) -> Lead
-    ensures { result ≡ word_lead opened text.now }
-{
-    if let Some(base) = number_base(text) {
-        return digits_lead(base, number_digits(text));
-    }
-    match item_word(text) {
-        Some(word) => Lead::Named(followed(opened, word)),
-        None => Lead::Misplaced,
+    match tokens.tokens {
+        [token, ..] => token_lead(tokens.source, begins_open(tokens.behind(1)), *token),
+        [] => Lead::Misplaced,
     }
 }
 
@@ -46,12 +33,25 @@ fn token_lead(source: &[u8], opened: bool, token: Token) -> Lead
     }
 }
 
-/// Returns the kind of the item that the first of some tokens begins.
-pub(crate) fn lead_of(tokens: LineTokens<'_>) -> Lead
-    ensures { result ≡ lead_of (texts tokens.entry) }
+/// Returns the kind of the item that a word begins.
+fn word_lead(opened: bool, text: &[u8]) -> Lead
+    ensures { result ≡ word_lead opened text.now }
 {
-    match tokens.tokens {
-        [token, ..] => token_lead(tokens.source, begins_open(tokens.behind(1)), *token),
-        [] => Lead::Misplaced,
+    if let Some(base) = number_base(text) {
+        return digits_lead(base, number_digits(text));
+    }
+    match item_word(text) {
+        Some(word) => Lead::Named(followed(opened, word)),
+        None => Lead::Misplaced,
+    }
+}
+
+/// Returns a word as it is with or without a parenthesis after it.
+fn followed(opened: bool, word: ItemWord) -> ItemWord
+    ensures { result ≡ followed opened word }
+{
+    match word {
+        ItemWord::Context if opened => ItemWord::ContextAt,
+        other => other,
     }
 }

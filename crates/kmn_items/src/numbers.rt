@@ -12,6 +12,23 @@ use kmn_base::texts::{NO_CHARACTER, is_forbidden};
 /// The largest number of nine digits.
 const LARGEST_OFFSET: u32 = 999_999_999;
 
+/// Returns the base of a word that is read as a number.
+pub(crate) fn number_base(text: &[u8]) -> Option<u32>
+    ensures base { result ≡ number_base text.now }
+    ensures least { IfSome result (λ base. 2 ≤ base) }
+    ensures most { IfSome result (λ base. base ≤ 16) }
+{
+    if begins_digit(10, text) {
+        Some(8)
+    } else if is_prefixed(b'd', 10, text) {
+        Some(10)
+    } else if is_prefixed(b'x', 16, text) {
+        Some(16)
+    } else {
+        None
+    }
+}
+
 /// Returns whether a text begins with a digit of a base.
 fn begins_digit(base: u32, text: &[u8]) -> bool
     requires least { 2 ≤ base }
@@ -36,23 +53,6 @@ fn is_prefixed(letter: u8, base: u32, text: &[u8]) -> bool
     }
 }
 
-/// Returns the base of a word that is read as a number.
-pub(crate) fn number_base(text: &[u8]) -> Option<u32>
-    ensures base { result ≡ number_base text.now }
-    ensures least { IfSome result (λ base. 2 ≤ base) }
-    ensures most { IfSome result (λ base. base ≤ 16) }
-{
-    if begins_digit(10, text) {
-        Some(8)
-    } else if is_prefixed(b'd', 10, text) {
-        Some(10)
-    } else if is_prefixed(b'x', 16, text) {
-        Some(16)
-    } else {
-        None
-    }
-}
-
 /// Returns whether a word is read as a number.
 pub fn is_number_word(text: &[u8]) -> bool
     ensures { result ≡ is_number_word text.now }
@@ -71,19 +71,6 @@ pub(crate) fn number_digits(text: &[u8]) -> &[u8]
     }
 }
 
-/// Returns a code point as the kind of an item.
-fn character_lead(code: u32) -> Lead
-    ensures { result ≡ character_lead code }
-{
-    if is_forbidden(code) {
-        return Lead::Wrong(Code::L02);
-    }
-    match char::from_u32(code) {
-        Some(c) => Lead::One(c),
-        None => Lead::Wrong(Code::L04),
-    }
-}
-
 /// Returns digits of a base as the kind of an item.
 pub(crate) fn digits_lead(base: u32, digits: &[u8]) -> Lead
     requires least { 2 ≤ base }
@@ -94,6 +81,19 @@ pub(crate) fn digits_lead(base: u32, digits: &[u8]) -> Lead
         character_lead(bounded_value(NO_CHARACTER, base, digits))
     } else {
         Lead::Wrong(Code::L04)
+    }
+}
+
+/// Returns a code point as the kind of an item.
+fn character_lead(code: u32) -> Lead
+    ensures { result ≡ character_lead code }
+{
+    if is_forbidden(code) {
+        return Lead::Wrong(Code::L02);
+    }
+    match char::from_u32(code) {
+        Some(c) => Lead::One(c),
+        None => Lead::Wrong(Code::L04),
     }
 }
 

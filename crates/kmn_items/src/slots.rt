@@ -12,50 +12,38 @@ use kmn_base::Code;
 use kmn_base::slices::behind;
 use kmn_lines::{Token, TokenKind};
 
-/// Returns the rule that is broken if a test fails.
-fn unless(holds: bool, code: Code) -> Option<Code>
-    ensures { result ≡ unless holds code }
+/// Returns the first token that breaks a form. `at` is the index of the first token in the line. `last` is the index of the
+/// line's last token, the latest token at which a form can break off.
+pub fn broken(
+    last: usize,
+    at: usize,
+    slots: &[Slot],
+    tokens: LineTokens<'_>,
+) -> Option<TokenRefusal>
+    requires { at + length (texts tokens) < 2 ^ 62 }
+    ensures { result ≡ broken last at slots.now (texts tokens.entry) }
 {
-    if holds { None } else { Some(code) }
-}
-
-/// Returns the rule that a token breaks as an offset.
-fn offset_fault(source: &[u8], token: Token) -> Option<Code>
-    ensures { result ≡ offset_fault (with_text source.now token) }
-{
-    if is_wordy(token.kind) {
-        unless(is_offset(text_in(source, token)), Code::L04)
-    } else {
-        Some(Code::S02)
+    match (slots, tokens.tokens) {
+        ([], _) => None,
+        ([slot, ..], []) => Some(TokenRefusal {
+            at: at.min(last),
+            code: cut_code(*slot),
+        }),
+        ([slot, slots @ ..], [token, ..]) => match slot_fault(tokens.source, *slot, *token) {
+            Some(code) => Some(TokenRefusal { at, code }),
+            None => broken(last, at + 1, slots, tokens.behind(1)),
+        },
     }
 }
 
-/// Returns whether a token is a name.
-fn is_name_token(source: &[u8], token: Token) -> bool
-    ensures { (slot_fault Slot.Name (with_text source.now token)) ≡ unless result Code.S02 }
+/// Returns the rule that is broken if the tokens end before an index of a form.
+fn cut_code(slot: Slot) -> Code
+    ensures { result ≡ cut_code slot }
 {
-    is_wordy(token.kind) && is_name(text_in(source, token))
-}
-
-/// Returns whether a token is the name of a store or of a system store.
-fn is_store_name(source: &[u8], token: Token) -> bool
-    ensures { (slot_fault Slot.StoreName (with_text source.now token)) ≡ unless result Code.S02 }
-{
-    is_wordy(token.kind) && is_name(bare_name(text_in(source, token)))
-}
-
-/// Returns whether a token is the name of a key.
-fn is_key_token(source: &[u8], token: Token) -> bool
-    ensures { (slot_fault Slot.KeyName (with_text source.now token)) ≡ unless result Code.S11 }
-{
-    matches!(token.kind, TokenKind::Word) && is_key_name(text_in(source, token))
-}
-
-/// Returns whether a token is `$` and a name.
-fn is_dollar_name(source: &[u8], token: Token) -> bool
-    ensures { (slot_fault Slot.DollarName (with_text source.now token)) ≡ unless result Code.S02 }
-{
-    is_name(behind(text_in(source, token), 1))
+    match slot {
+        Slot::KeyName | Slot::KeyEnd => Code::S11,
+        _ => Code::S02,
+    }
 }
 
 /// Returns the rule that a token breaks at an index of a form.
@@ -81,36 +69,48 @@ fn slot_fault(source: &[u8], slot: Slot, token: Token) -> Option<Code>
     unless(holds, Code::S02)
 }
 
-/// Returns the rule that is broken if the tokens end before an index of a form.
-fn cut_code(slot: Slot) -> Code
-    ensures { result ≡ cut_code slot }
+/// Returns whether a token is `$` and a name.
+fn is_dollar_name(source: &[u8], token: Token) -> bool
+    ensures { (slot_fault Slot.DollarName (with_text source.now token)) ≡ unless result Code.S02 }
 {
-    match slot {
-        Slot::KeyName | Slot::KeyEnd => Code::S11,
-        _ => Code::S02,
+    is_name(behind(text_in(source, token), 1))
+}
+
+/// Returns whether a token is a name.
+fn is_name_token(source: &[u8], token: Token) -> bool
+    ensures { (slot_fault Slot.Name (with_text source.now token)) ≡ unless result Code.S02 }
+{
+    is_wordy(token.kind) && is_name(text_in(source, token))
+}
+
+/// Returns whether a token is the name of a store or of a system store.
+fn is_store_name(source: &[u8], token: Token) -> bool
+    ensures { (slot_fault Slot.StoreName (with_text source.now token)) ≡ unless result Code.S02 }
+{
+    is_wordy(token.kind) && is_name(bare_name(text_in(source, token)))
+}
+
+/// Returns the rule that a token breaks as an offset.
+fn offset_fault(source: &[u8], token: Token) -> Option<Code>
+    ensures { result ≡ offset_fault (with_text source.now token) }
+{
+    if is_wordy(token.kind) {
+        unless(is_offset(text_in(source, token)), Code::L04)
+    } else {
+        Some(Code::S02)
     }
 }
 
-/// Returns the first token that breaks a form. `at` is the index of the first token in the line. `last` is the index of the
-/// line's last token, the latest token at which a form can break off.
-pub fn broken(
-    last: usize,
-    at: usize,
-    slots: &[Slot],
-    tokens: LineTokens<'_>,
-) -> Option<TokenRefusal>
-    requires { at + length (texts tokens) < 2 ^ 62 }
-    ensures { result ≡ broken last at slots.now (texts tokens.entry) }
+/// Returns the rule that is broken if a test fails.
+fn unless(holds: bool, code: Code) -> Option<Code>
+    ensures { result ≡ unless holds code }
 {
-    match (slots, tokens.tokens) {
-        ([], _) => None,
-        ([slot, ..], []) => Some(TokenRefusal {
-            at: at.min(last),
-            code: cut_code(*slot),
-        }),
-        ([slot, slots @ ..], [token, ..]) => match slot_fault(tokens.source, *slot, *token) {
-            Some(code) => Some(TokenRefusal { at, code }),
-            None => broken(last, at + 1, slots, tokens.behind(1)),
-        },
-    }
+    if holds { None } else { Some(code) }
+}
+
+/// Returns whether a token is the name of a key.
+fn is_key_token(source: &[u8], token: Token) -> bool
+    ensures { (slot_fault Slot.KeyName (with_text source.now token)) ≡ unless result Code.S11 }
+{
+    matches!(token.kind, TokenKind::Word) && is_key_name(text_in(source, token))
 }

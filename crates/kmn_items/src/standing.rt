@@ -6,6 +6,39 @@ ghost use Rattle.kmn_items.specs.Standing.{stands_in, word_sections, lead_stands
 use crate::syntax::{ItemWord, Lead, Seen, Where};
 use kmn_base::Code;
 
+/// Returns the rule that a token breaks if it is not allowed in a section.
+pub(crate) fn misplaced_code(place: Where) -> Code
+    ensures { result ≡ misplaced_code place }
+{
+    match place {
+        Where::Store | Where::Output => Code::S06,
+        Where::Context | Where::Key => Code::S05,
+    }
+}
+
+/// Returns the rule that a token breaks only by its position.
+pub(crate) fn standing_code(place: Where, seen: Seen, lead: Lead) -> Option<Code>
+    ensures { result ≡ standing_code place seen lead }
+{
+    if is_permitted(place, lead) {
+        crowded_code(place, seen, lead)
+    } else {
+        Some(misplaced_code(place))
+    }
+}
+
+/// Returns whether a kind of item is allowed in a section.
+fn is_permitted(place: Where, lead: Lead) -> bool
+    ensures { result ≡ stands_in place (lead_stands lead) }
+{
+    match lead {
+        Lead::Named(word) => word_may_stand(place, word),
+        Lead::Bracket => !matches!(place, Where::Context),
+        Lead::Misplaced => false,
+        _ => true,
+    }
+}
+
 /// Returns whether the item of a word is allowed in a section.
 fn word_may_stand(place: Where, word: ItemWord) -> bool
     ensures { result ≡ stands_in place (word_sections word) }
@@ -24,42 +57,16 @@ fn word_may_stand(place: Where, word: ItemWord) -> bool
     }
 }
 
-/// Returns whether a kind of item is allowed in a section.
-fn is_permitted(place: Where, lead: Lead) -> bool
-    ensures { result ≡ stands_in place (lead_stands lead) }
+/// Returns the rule that a token breaks because of the items before it.
+fn crowded_code(place: Where, seen: Seen, lead: Lead) -> Option<Code>
+    ensures { result ≡ crowded_code place seen lead }
 {
-    match lead {
-        Lead::Named(word) => word_may_stand(place, word),
-        Lead::Bracket => !matches!(place, Where::Context),
-        Lead::Misplaced => false,
-        _ => true,
+    match (place, lead) {
+        (Where::Context, Lead::Named(word)) => order_code(seen, word),
+        (Where::Key, Lead::Characters) => None,
+        (Where::Key, _) if seen.pattern => Some(Code::S05),
+        _ => None,
     }
-}
-
-/// Returns the rule that a token breaks if it is not allowed in a section.
-pub(crate) fn misplaced_code(place: Where) -> Code
-    ensures { result ≡ misplaced_code place }
-{
-    match place {
-        Where::Store | Where::Output => Code::S06,
-        Where::Context | Where::Key => Code::S05,
-    }
-}
-
-/// Returns whether an item is a condition.
-fn is_condition(word: ItemWord) -> bool
-    ensures { result ≡ is_condition word }
-{
-    matches!(
-        word,
-        ItemWord::If | ItemWord::Layer | ItemWord::Platform | ItemWord::BaseLayout
-    )
-}
-
-fn is_nul(word: ItemWord) -> bool
-    ensures { result ≡ is_nul word }
-{
-    matches!(word, ItemWord::Nul)
 }
 
 /// Returns the rule on the order of a context's items that a word breaks.
@@ -75,27 +82,20 @@ fn order_code(seen: Seen, word: ItemWord) -> Option<Code>
     }
 }
 
-/// Returns the rule that a token breaks because of the items before it.
-fn crowded_code(place: Where, seen: Seen, lead: Lead) -> Option<Code>
-    ensures { result ≡ crowded_code place seen lead }
+fn is_nul(word: ItemWord) -> bool
+    ensures { result ≡ is_nul word }
 {
-    match (place, lead) {
-        (Where::Context, Lead::Named(word)) => order_code(seen, word),
-        (Where::Key, Lead::Characters) => None,
-        (Where::Key, _) if seen.pattern => Some(Code::S05),
-        _ => None,
-    }
+    matches!(word, ItemWord::Nul)
 }
 
-/// Returns the rule that a token breaks only by its position.
-pub(crate) fn standing_code(place: Where, seen: Seen, lead: Lead) -> Option<Code>
-    ensures { result ≡ standing_code place seen lead }
+/// Returns whether an item is a condition.
+fn is_condition(word: ItemWord) -> bool
+    ensures { result ≡ is_condition word }
 {
-    if is_permitted(place, lead) {
-        crowded_code(place, seen, lead)
-    } else {
-        Some(misplaced_code(place))
-    }
+    matches!(
+        word,
+        ItemWord::If | ItemWord::Layer | ItemWord::Platform | ItemWord::BaseLayout
+    )
 }
 
 /// Returns what a section has seen after the item of a word.

@@ -99,6 +99,13 @@ pub(crate) fn is_wordy(kind: TokenKind) -> bool
     matches!(kind, TokenKind::Word | TokenKind::Number(_))
 }
 
+/// Returns the characters of a quoted token. Errors: `Memory` if an allocation fails.
+pub(crate) fn quoted(alloc: Global, text: &[u8]) -> Result<Seq<char>, Memory>
+    ensures { IfOk result (λ characters. characters ≡ quoted text.now) }
+{
+    decoded(alloc, inside(text))
+}
+
 /// Returns the text between the quotes of a quoted token.
 fn inside(text: &[u8]) -> &[u8]
     ensures { result.now ≡ inside text.now }
@@ -107,11 +114,4 @@ fn inside(text: &[u8]) -> &[u8]
         return &[];
     }
     before(behind(text, 1), text.len() - 2)
-}
-
-/// Returns the characters of a quoted token. Errors: `Memory` if an allocation fails.
-pub(crate) fn quoted(alloc: Global, text: &[u8]) -> Result<Seq<char>, Memory>
-    ensures { IfOk result (λ characters. characters ≡ quoted text.now) }
-{
-    decoded(alloc, inside(text))
 }

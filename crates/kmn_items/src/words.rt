@@ -46,14 +46,6 @@ pub fn begins_with(wanted: u8, text: &[u8]) -> bool
     }
 }
 
-/// Returns the item word of the table that a text is.
-#[tactic(auto, unfolding(crate::specs::Words::item_words))]
-fn listed_word(text: &[u8]) -> Option<ItemWord>
-    ensures { result ≡ named_in item_words text.now }
-{
-    named_in(&ITEM_WORDS, text)
-}
-
 /// Returns the item word that a text is, in any ASCII case. A text that begins with `$` is one too.
 pub fn item_word(text: &[u8]) -> Option<ItemWord>
     ensures { result ≡ item_word text.now }
@@ -62,6 +54,14 @@ pub fn item_word(text: &[u8]) -> Option<ItemWord>
         return Some(ItemWord::Dollar);
     }
     listed_word(text)
+}
+
+/// Returns the item word of the table that a text is.
+#[tactic(auto, unfolding(crate::specs::Words::item_words))]
+fn listed_word(text: &[u8]) -> Option<ItemWord>
+    ensures { result ≡ named_in item_words text.now }
+{
+    named_in(&ITEM_WORDS, text)
 }
 
 /// Returns whether a name is the name of a system store.
@@ -90,6 +90,13 @@ pub fn is_name(text: &[u8]) -> bool
     0 < count && count <= SOURCE_NAME_CHARS
 }
 
+/// Returns whether a word names a custom key.
+pub fn is_own_key(text: &[u8]) -> bool
+    ensures { result ≡ is_own_key text.now }
+{
+    is_touch_name(text) || named_chars(text).is_some()
+}
+
 /// Returns whether a word is `T_` and at least one more character, of at most 80 characters.
 fn is_touch_name(text: &[u8]) -> bool
     ensures { result ≡ is_touch_name text.now }
@@ -97,13 +104,6 @@ fn is_touch_name(text: &[u8]) -> bool
     same_name(before(text, 2), b"T_")
         && 2 < text.len()
         && character_count(text) <= SOURCE_NAME_CHARS
-}
-
-/// Returns whether a word names a custom key.
-pub fn is_own_key(text: &[u8]) -> bool
-    ensures { result ≡ is_own_key text.now }
-{
-    is_touch_name(text) || named_chars(text).is_some()
 }
 
 /// Returns whether a word names a key.

@@ -7,6 +7,28 @@ use kmn_base::bytes::is_blank;
 use kmn_base::names::same_name;
 use kmn_base::slices::{before, behind};
 
+/// Returns whether a line with this text is skipped.
+#[tactic(auto, unfolding(crate::specs::Lines::is_skipped))]
+pub(crate) fn is_skipped(text: &[u8]) -> bool
+    ensures { result ≡ is_skipped text.now }
+{
+    begins_other(behind(text, blanks(text)))
+}
+
+/// Returns whether the words at the beginning of a line are skipped.
+fn begins_other(words: &[u8]) -> bool
+    ensures { result ≡ begins_other words.now }
+{
+    begins_with(words, b"$keymanweb:") || begins_with(words, b"$kmfl:")
+}
+
+/// Returns whether a text begins with a word, without ASCII case.
+fn begins_with(text: &[u8], word: &[u8]) -> bool
+    ensures { result ≡ begins_with text.now word.now }
+{
+    same_name(before(text, word.len()), word)
+}
+
 /// Returns the number of blanks at the beginning of a text.
 fn blanks(text: &[u8]) -> usize
     ensures is { result ≡ blanks text.now }
@@ -17,28 +39,6 @@ fn blanks(text: &[u8]) -> usize
         count += 1;
     }
     count
-}
-
-/// Returns whether a text begins with a word, without ASCII case.
-fn begins_with(text: &[u8], word: &[u8]) -> bool
-    ensures { result ≡ begins_with text.now word.now }
-{
-    same_name(before(text, word.len()), word)
-}
-
-/// Returns whether the words at the beginning of a line are skipped.
-fn begins_other(words: &[u8]) -> bool
-    ensures { result ≡ begins_other words.now }
-{
-    begins_with(words, b"$keymanweb:") || begins_with(words, b"$kmfl:")
-}
-
-/// Returns whether a line with this text is skipped.
-#[tactic(auto, unfolding(crate::specs::Lines::is_skipped))]
-pub(crate) fn is_skipped(text: &[u8]) -> bool
-    ensures { result ≡ is_skipped text.now }
-{
-    begins_other(behind(text, blanks(text)))
 }
 
 /// Returns the number of bytes of a text that are dropped before it is read.

@@ -13,26 +13,6 @@ use kmn_items::{LineError, LineTokens};
 use rule_model::RuleKind;
 use std::alloc::Global;
 
-/// Reads a line by its first word.
-fn read_tokens(alloc: Global, line: Line<'_>) -> Result<Statement, LineError>
-    requires { length (texts line.tokens) < 2 ^ 59 }
-    ensures { Reads (read_tokens line.entry.group line.entry.number line.entry.last (texts line.entry.tokens)) result }
-{
-    if begins_word(b"store", line.tokens) {
-        read_store(alloc, line)
-    } else if begins_word(b"begin", line.tokens) {
-        read_begin(alloc, line)
-    } else if begins_word(b"group", line.tokens) {
-        read_group(alloc, line)
-    } else if begins_word(b"match", line.tokens) {
-        read_match(alloc, RuleKind::OnMatch, line)
-    } else if begins_word(b"nomatch", line.tokens) {
-        read_match(alloc, RuleKind::OnNoMatch, line)
-    } else {
-        read_rule(alloc, line)
-    }
-}
-
 /// Reads the tokens of a line with a number, after the last group before it.
 pub(crate) fn read_line(
     alloc: Global,
@@ -56,4 +36,24 @@ pub(crate) fn read_line(
             tokens,
         },
     )
+}
+
+/// Reads a line by its first word.
+fn read_tokens(alloc: Global, line: Line<'_>) -> Result<Statement, LineError>
+    requires { length (texts line.tokens) < 2 ^ 59 }
+    ensures { Reads (read_tokens line.entry.group line.entry.number line.entry.last (texts line.entry.tokens)) result }
+{
+    if begins_word(b"store", line.tokens) {
+        read_store(alloc, line)
+    } else if begins_word(b"begin", line.tokens) {
+        read_begin(alloc, line)
+    } else if begins_word(b"group", line.tokens) {
+        read_group(alloc, line)
+    } else if begins_word(b"match", line.tokens) {
+        read_match(alloc, RuleKind::OnMatch, line)
+    } else if begins_word(b"nomatch", line.tokens) {
+        read_match(alloc, RuleKind::OnNoMatch, line)
+    } else {
+        read_rule(alloc, line)
+    }
 }

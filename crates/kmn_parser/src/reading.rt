@@ -112,6 +112,16 @@ fn read_on(
     }
 }
 
+/// Returns the last group after a statement.
+fn group_after(group: LastGroup, statement: &Statement) -> LastGroup
+    ensures { result ≡ group_after group statement.now }
+{
+    match statement {
+        Statement::Group(opened) => last_group(opened.using_keys),
+        _ => group,
+    }
+}
+
 /// Returns a group as the last one.
 fn last_group(using_keys: bool) -> LastGroup
     ensures { result ≡ last_group using_keys }
@@ -120,16 +130,6 @@ fn last_group(using_keys: bool) -> LastGroup
         LastGroup::UsingKeys
     } else {
         LastGroup::WithoutKeys
-    }
-}
-
-/// Returns the last group after a statement.
-fn group_after(group: LastGroup, statement: &Statement) -> LastGroup
-    ensures { result ≡ group_after group statement.now }
-{
-    match statement {
-        Statement::Group(opened) => last_group(opened.using_keys),
-        _ => group,
     }
 }
 

@@ -21,73 +21,6 @@ struct Signs {
     plus: usize,
 }
 
-/// Returns the code of a statement that requires a group before it.
-fn no_group(group: LastGroup) -> Option<Code>
-    ensures { result ≡ no_group group }
-{
-    match group {
-        LastGroup::Missing => Some(Code::S03),
-        LastGroup::UsingKeys | LastGroup::WithoutKeys => None,
-    }
-}
-
-/// Returns whether a token is two quotes with nothing between them.
-fn is_empty_quote(source: &[u8], token: Token) -> bool
-    ensures { result ≡ is_empty_quote (with_text source.now token) }
-{
-    token.kind == TokenKind::Quoted && text_in(source, token).len() == 2
-}
-
-/// Returns whether some token denotes an item.
-fn has_items(tokens: LineTokens<'_>) -> bool
-    ensures { result ≡ has_items (texts tokens.entry) }
-{
-    let LineTokens {
-        source,
-        tokens: all,
-    } = tokens;
-    for token in all {
-        if !is_empty_quote(source, *token) {
-            return true;
-        }
-    }
-    false
-}
-
-/// Returns the code of a statement without an output, given the index of the first `>`.
-fn no_output(arrow: usize, tokens: LineTokens<'_>) -> Option<Code>
-    ensures { result ≡ no_output arrow (texts tokens.entry) }
-{
-    if tokens.len() <= arrow {
-        Some(Code::S04)
-    } else if has_items(tokens.behind(arrow + 1)) {
-        None
-    } else {
-        Some(Code::S06)
-    }
-}
-
-/// Returns the first fault of a match or nomatch statement before its output.
-#[tactic(auto, unfolding(crate::specs::Line::match_fault))]
-fn match_fault(group: LastGroup, arrow: usize, tokens: LineTokens<'_>) -> Option<TokenRefusal>
-    ensures { result ≡ match_fault group arrow (texts tokens.entry) }
-{
-    if let Some(code) = no_group(group) {
-        return Some(TokenRefusal { at: 0, code });
-    }
-    if let Some(code) = no_output(arrow, tokens) {
-        return Some(TokenRefusal { at: 0, code });
-    }
-    if arrow == 1 {
-        None
-    } else {
-        Some(TokenRefusal {
-            at: 1,
-            code: Code::S05,
-        })
-    }
-}
-
 /// Reads a match or nomatch statement.
 #[tactic(auto, unfolding(crate::specs::Line::read_match))]
 pub(crate) fn read_match(
@@ -117,27 +50,101 @@ pub(crate) fn read_match(
     }))
 }
 
-/// Returns whether tokens without `>` begin like a rule.
-fn begins_rule(tokens: LineTokens<'_>) -> bool
-    ensures { result ≡ begins_rule (texts tokens.entry) }
+/// Returns the first fault of a match or nomatch statement before its output.
+#[tactic(auto, unfolding(crate::specs::Line::match_fault))]
+fn match_fault(group: LastGroup, arrow: usize, tokens: LineTokens<'_>) -> Option<TokenRefusal>
+    ensures { result ≡ match_fault group arrow (texts tokens.entry) }
 {
-    match tokens.tokens {
-        [token, ..] => match token.kind {
-            TokenKind::Quoted | TokenKind::Number(_) | TokenKind::Plus => true,
-            TokenKind::Word => is_item_word(text_in(tokens.source, *token)),
-            _ => false,
-        },
-        [] => false,
+    if let Some(code) = no_group(group) {
+        return Some(TokenRefusal { at: 0, code });
+    }
+    if let Some(code) = no_output(arrow, tokens) {
+        return Some(TokenRefusal { at: 0, code });
+    }
+    if arrow == 1 {
+        None
+    } else {
+        Some(TokenRefusal {
+            at: 1,
+            code: Code::S05,
+        })
     }
 }
 
-/// Returns whether the group before uses keys.
-fn uses_keys(group: LastGroup) -> bool
-    ensures { result ≡ uses_keys group }
+/// Returns the code of a statement that requires a group before it.
+fn no_group(group: LastGroup) -> Option<Code>
+    ensures { result ≡ no_group group }
 {
     match group {
-        LastGroup::UsingKeys => true,
-        LastGroup::Missing | LastGroup::WithoutKeys => false,
+        LastGroup::Missing => Some(Code::S03),
+        LastGroup::UsingKeys | LastGroup::WithoutKeys => None,
+    }
+}
+
+/// Returns the code of a statement without an output, given the index of the first `>`.
+fn no_output(arrow: usize, tokens: LineTokens<'_>) -> Option<Code>
+    ensures { result ≡ no_output arrow (texts tokens.entry) }
+{
+    if tokens.len() <= arrow {
+        Some(Code::S04)
+    } else if has_items(tokens.behind(arrow + 1)) {
+        None
+    } else {
+        Some(Code::S06)
+    }
+}
+
+/// Returns whether some token denotes an item.
+fn has_items(tokens: LineTokens<'_>) -> bool
+    ensures { result ≡ has_items (texts tokens.entry) }
+{
+    let LineTokens {
+        source,
+        tokens: all,
+    } = tokens;
+    for token in all {
+        if !is_empty_quote(source, *token) {
+            return true;
+        }
+    }
+    false
+}
+
+/// Returns whether a token is two quotes with nothing between them.
+fn is_empty_quote(source: &[u8], token: Token) -> bool
+    ensures { result ≡ is_empty_quote (with_text source.now token) }
+{
+    token.kind == TokenKind::Quoted && text_in(source, token).len() == 2
+}
+
+/// Reads a rule.
+#[tactic(auto, unfolding(crate::specs::Line::read_rule))]
+pub(crate) fn read_rule(alloc: Global, line: Line<'_>) -> Result<Statement, LineError>
+    requires { length (texts line.tokens) < 2 ^ 59 }
+    ensures { Reads (read_rule line.entry.group line.entry.number line.entry.last (texts line.entry.tokens)) result }
+{
+    let arrow = place_of(Sign::Arrow, line.tokens);
+    let plus = place_of(Sign::Plus, line.tokens.before(arrow));
+    rule_at(alloc, line, Signs { arrow, plus })
+}
+
+/// Reads a rule, given the indexes of its symbols.
+fn rule_at(alloc: Global, line: Line<'_>, signs: Signs) -> Result<Statement, LineError>
+    requires few { length (texts line.tokens) < 2 ^ 59 }
+    requires within { signs.arrow ≤ length (texts line.tokens) }
+    ensures { Reads (rule_at line.entry.group line.entry.number line.entry.last signs.arrow signs.plus (texts line.entry.tokens)) result }
+{
+    let head = rule_head(line.group, signs, line.tokens);
+    match rule_body(alloc, line, signs) {
+        Ok(rule) => match head {
+            None => Ok(Statement::Rule(rule)),
+            Some(code) => Err(LineError::Refused(TokenRefusal { at: 0, code })),
+        },
+        Err(LineError::Refused(found)) => match head {
+            None => Err(LineError::Refused(found)),
+            Some(code) => Err(LineError::Refused(earlier(code, found))),
+        },
+        Err(LineError::Memory) => Err(LineError::Memory),
     }
 }
 
@@ -162,24 +169,28 @@ fn rule_head(group: LastGroup, signs: Signs, tokens: LineTokens<'_>) -> Option<C
     }
 }
 
-/// Returns the key of a rule between `+` and `>`.
-#[tactic(auto, unfolding(crate::specs::Line::rule_key))]
-fn rule_key(alloc: Global, line: Line<'_>, signs: Signs) -> Result<Option<SrcItem>, LineError>
-    requires few { length (texts line.tokens) < 2 ^ 59 }
-    requires within { signs.arrow ≤ length (texts line.tokens) }
-    ensures { Reads (rule_key line.entry.group line.entry.last signs.arrow signs.plus (texts line.entry.tokens)) result }
+/// Returns whether tokens without `>` begin like a rule.
+fn begins_rule(tokens: LineTokens<'_>) -> bool
+    ensures { result ≡ begins_rule (texts tokens.entry) }
 {
-    if signs.arrow <= signs.plus {
-        return Ok(None);
+    match tokens.tokens {
+        [token, ..] => match token.kind {
+            TokenKind::Quoted | TokenKind::Number(_) | TokenKind::Plus => true,
+            TokenKind::Word => is_item_word(text_in(tokens.source, *token)),
+            _ => false,
+        },
+        [] => false,
     }
-    if !uses_keys(line.group) {
-        return Err(LineError::Refused(TokenRefusal {
-            at: signs.plus,
-            code: Code::S07,
-        }));
+}
+
+/// Returns whether the group before uses keys.
+fn uses_keys(group: LastGroup) -> bool
+    ensures { result ≡ uses_keys group }
+{
+    match group {
+        LastGroup::UsingKeys => true,
+        LastGroup::Missing | LastGroup::WithoutKeys => false,
     }
-    let key = line.tokens.before(signs.arrow).behind(signs.plus + 1);
-    Ok(Some(read_key(alloc, line.last, signs.plus + 1, key)?))
 }
 
 /// Reads the items of a rule, section by section.
@@ -205,11 +216,24 @@ fn rule_body(alloc: Global, line: Line<'_>, signs: Signs) -> Result<RuleDef, Lin
     })
 }
 
-/// Returns whether a code is less than another, as they are printed.
-fn is_lesser(code: Code, other: Code) -> bool
-    ensures { result ≡ is_lesser code other }
+/// Returns the key of a rule between `+` and `>`.
+#[tactic(auto, unfolding(crate::specs::Line::rule_key))]
+fn rule_key(alloc: Global, line: Line<'_>, signs: Signs) -> Result<Option<SrcItem>, LineError>
+    requires few { length (texts line.tokens) < 2 ^ 59 }
+    requires within { signs.arrow ≤ length (texts line.tokens) }
+    ensures { Reads (rule_key line.entry.group line.entry.last signs.arrow signs.plus (texts line.entry.tokens)) result }
 {
-    code.text() < other.text()
+    if signs.arrow <= signs.plus {
+        return Ok(None);
+    }
+    if !uses_keys(line.group) {
+        return Err(LineError::Refused(TokenRefusal {
+            at: signs.plus,
+            code: Code::S07,
+        }));
+    }
+    let key = line.tokens.before(signs.arrow).behind(signs.plus + 1);
+    Ok(Some(read_key(alloc, line.last, signs.plus + 1, key)?))
 }
 
 /// Returns the earlier of a code at the first token and a fault.
@@ -223,33 +247,9 @@ fn earlier(head: Code, found: TokenRefusal) -> TokenRefusal
     }
 }
 
-/// Reads a rule, given the indexes of its symbols.
-fn rule_at(alloc: Global, line: Line<'_>, signs: Signs) -> Result<Statement, LineError>
-    requires few { length (texts line.tokens) < 2 ^ 59 }
-    requires within { signs.arrow ≤ length (texts line.tokens) }
-    ensures { Reads (rule_at line.entry.group line.entry.number line.entry.last signs.arrow signs.plus (texts line.entry.tokens)) result }
+/// Returns whether a code is less than another, as they are printed.
+fn is_lesser(code: Code, other: Code) -> bool
+    ensures { result ≡ is_lesser code other }
 {
-    let head = rule_head(line.group, signs, line.tokens);
-    match rule_body(alloc, line, signs) {
-        Ok(rule) => match head {
-            None => Ok(Statement::Rule(rule)),
-            Some(code) => Err(LineError::Refused(TokenRefusal { at: 0, code })),
-        },
-        Err(LineError::Refused(found)) => match head {
-            None => Err(LineError::Refused(found)),
-            Some(code) => Err(LineError::Refused(earlier(code, found))),
-        },
-        Err(LineError::Memory) => Err(LineError::Memory),
-    }
-}
-
-/// Reads a rule.
-#[tactic(auto, unfolding(crate::specs::Line::read_rule))]
-pub(crate) fn read_rule(alloc: Global, line: Line<'_>) -> Result<Statement, LineError>
-    requires { length (texts line.tokens) < 2 ^ 59 }
-    ensures { Reads (read_rule line.entry.group line.entry.number line.entry.last (texts line.entry.tokens)) result }
-{
-    let arrow = place_of(Sign::Arrow, line.tokens);
-    let plus = place_of(Sign::Plus, line.tokens.before(arrow));
-    rule_at(alloc, line, Signs { arrow, plus })
+    code.text() < other.text()
 }

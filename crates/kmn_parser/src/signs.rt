@@ -21,6 +21,15 @@ pub(crate) fn is_sign(sign: Sign, kind: TokenKind) -> bool
     }
 }
 
+/// Returns the index of the first token that is a symbol, or the number of tokens, whose texts are in a source.
+#[tactic(auto, using(crate::proofs::LineLemmas::place_with_texts, kmn_items::proofs::TextLemmas::length_with_texts))]
+pub(crate) fn place_of(sign: Sign, tokens: LineTokens<'_>) -> usize
+    ensures place { result ≡ place_of sign (texts tokens.entry) }
+    ensures within { result ≤ length (texts tokens.entry) }
+{
+    sign_place(sign, tokens.tokens)
+}
+
 /// Returns the index of the first token that is a symbol, or the number of tokens.
 fn sign_place(sign: Sign, tokens: &[Token]) -> usize
     ensures place { result ≡ position_or_len (λ token. is_sign sign token.kind) tokens.now }
@@ -34,15 +43,6 @@ fn sign_place(sign: Sign, tokens: &[Token]) -> usize
         place += 1;
     }
     place
-}
-
-/// Returns the index of the first token that is a symbol, or the number of tokens, whose texts are in a source.
-#[tactic(auto, using(crate::proofs::LineLemmas::place_with_texts, kmn_items::proofs::TextLemmas::length_with_texts))]
-pub(crate) fn place_of(sign: Sign, tokens: LineTokens<'_>) -> usize
-    ensures place { result ≡ place_of sign (texts tokens.entry) }
-    ensures within { result ≤ length (texts tokens.entry) }
-{
-    sign_place(sign, tokens.tokens)
 }
 
 /// Returns whether tokens begin with a word, in any ASCII case.

@@ -47,12 +47,13 @@ static SYSTEM_STORES: [(&str, u32); 27] = [
     ("kmw_embedcss", DROPPED),
 ];
 
-/// Returns the id of a system store by its name without `&`.
+/// Returns the name without `&` of the system store with an id: the first name by which a source can define it, or an empty
+/// name if there is none.
 #[tactic(auto, unfolding(crate::specs::Line::system_stores))]
-fn system_id(name: &[u8]) -> Option<u32>
-    ensures { result ≡ named_in system_stores name.now }
+pub fn system_store_name(id: u32) -> &'static [u8]
+    ensures { result.now ≡ system_store_name id }
 {
-    named_in(&SYSTEM_STORES, name)
+    name_in(&SYSTEM_STORES, id)
 }
 
 /// Returns the name that a table has for an id, or an empty name.
@@ -67,23 +68,38 @@ fn name_in(table: &[(&'static str, u32)], id: u32) -> &'static [u8]
     b""
 }
 
-/// Returns the name without `&` of the system store with an id: the first name by which a source can define it, or an empty
-/// name if there is none.
-#[tactic(auto, unfolding(crate::specs::Line::system_stores))]
-pub fn system_store_name(id: u32) -> &'static [u8]
-    ensures { result.now ≡ system_store_name id }
+/// Reads a store statement.
+#[tactic(auto, unfolding(crate::specs::Line::read_store))]
+pub(crate) fn read_store(alloc: Global, line: Line<'_>) -> Result<Statement, LineError>
+    requires { length (texts line.tokens) < 2 ^ 59 }
+    ensures { Reads (read_store line.entry.number line.entry.last (texts line.entry.tokens)) result }
 {
-    name_in(&SYSTEM_STORES, id)
+    let Line {
+        number,
+        last,
+        tokens,
+        ..
+    } = line;
+    if let Some(fault) = store_fault(last, tokens) {
+        return Err(LineError::Refused(fault));
+    }
+    let items = read_items(alloc, Where::Store, last, 4, tokens.behind(4))?;
+    Ok(Statement::Store(store_def(alloc, number, tokens.text(2), items)?))
 }
 
-/// Returns the id of a store by its name: 0 for a name without `&`, None for an unknown system store.
-fn store_system(name: &[u8]) -> Option<u32>
-    ensures { result ≡ store_system name.now }
+/// Returns the first fault of a store statement before its items.
+#[tactic(auto, unfolding(crate::specs::Line::store_fault))]
+fn store_fault(last: usize, tokens: LineTokens<'_>) -> Option<TokenRefusal>
+    requires { length (texts tokens) < 2 ^ 59 }
+    ensures { result ≡ store_fault last (texts tokens.entry) }
 {
-    if is_system_name(name) {
-        system_id(bare_name(name))
+    if begins_open(tokens.behind(1)) {
+        store_form(last, tokens)
     } else {
-        Some(0)
+        Some(TokenRefusal {
+            at: 0,
+            code: Code::S01,
+        })
     }
 }
 
@@ -105,20 +121,23 @@ fn store_form(last: usize, tokens: LineTokens<'_>) -> Option<TokenRefusal>
     broken(last, 3, &[Slot::Close], rest)
 }
 
-/// Returns the first fault of a store statement before its items.
-#[tactic(auto, unfolding(crate::specs::Line::store_fault))]
-fn store_fault(last: usize, tokens: LineTokens<'_>) -> Option<TokenRefusal>
-    requires { length (texts tokens) < 2 ^ 59 }
-    ensures { result ≡ store_fault last (texts tokens.entry) }
+/// Returns the id of a store by its name: 0 for a name without `&`, None for an unknown system store.
+fn store_system(name: &[u8]) -> Option<u32>
+    ensures { result ≡ store_system name.now }
 {
-    if begins_open(tokens.behind(1)) {
-        store_form(last, tokens)
+    if is_system_name(name) {
+        system_id(bare_name(name))
     } else {
-        Some(TokenRefusal {
-            at: 0,
-            code: Code::S01,
-        })
+        Some(0)
     }
+}
+
+/// Returns the id of a system store by its name without `&`.
+#[tactic(auto, unfolding(crate::specs::Line::system_stores))]
+fn system_id(name: &[u8]) -> Option<u32>
+    ensures { result ≡ named_in system_stores name.now }
+{
+    named_in(&SYSTEM_STORES, name)
 }
 
 /// Creates a store with a name and its items. Only an ordinary store keeps the name. Errors: `Memory` if an allocation fails.
@@ -136,23 +155,4 @@ fn store_def(alloc: Global, line: u32, name: &[u8], items: Seq<SrcItem>) -> Resu
         name: kept,
         items,
     })
-}
-
-/// Reads a store statement.
-#[tactic(auto, unfolding(crate::specs::Line::read_store))]
-pub(crate) fn read_store(alloc: Global, line: Line<'_>) -> Result<Statement, LineError>
-    requires { length (texts line.tokens) < 2 ^ 59 }
-    ensures { Reads (read_store line.entry.number line.entry.last (texts line.entry.tokens)) result }
-{
-    let Line {
-        number,
-        last,
-        tokens,
-        ..
-    } = line;
-    if let Some(fault) = store_fault(last, tokens) {
-        return Err(LineError::Refused(fault));
-    }
-    let items = read_items(alloc, Where::Store, last, 4, tokens.behind(4))?;
-    Ok(Statement::Store(store_def(alloc, number, tokens.text(2), items)?))
 }

@@ -22,45 +22,6 @@ use kmn_base::{CompileError, Seq};
 use kmn_lines::{Logical, Part, Parts, Token, parts};
 use std::alloc::Global;
 
-/// Appends the token at the beginning of the bytes, or no token if they begin with a blank, and returns the number of bytes that it used.
-fn add_next(out: &mut Seq<Token>, line: u32, at: usize, bytes: &[u8]) -> Result<usize, TokenError>
-    requires some { 0 < length bytes.now }
-    requires few { at + length bytes.now < 2 ^ 32 }
-    ensures { Steps out.old out.new line at bytes.now result }
-{
-    if is_blank(bytes[0]) {
-        return Ok(1);
-    }
-    let size = token_size(bytes);
-    let token = token_at(line, at, before(bytes, size))?;
-    out.add(token)?;
-    Ok(size)
-}
-
-/// Appends the tokens of the bytes from a position on.
-fn add_tokens(out: &mut Seq<Token>, line: u32, from: usize, bytes: &[u8]) -> Result<(), TokenError>
-    requires { length bytes.now ≤ TEXT_BYTES }
-    ensures { Appends out.old out.new (first_fault 0 (drop from bytes.now)) (scanned line 0 from (drop from bytes.now)) result }
-{
-    let mut at = from;
-    while at < bytes.len() {
-        at += add_next(out, line, at, behind(bytes, at))?;
-    }
-    Ok(())
-}
-
-/// Appends the tokens of parts of a source.
-fn add_all(out: &mut Seq<Token>, source: &[u8], walk: Parts<'_>) -> Result<(), TokenError>
-    requires { length source.now ≤ TEXT_BYTES }
-    ensures { Appends out.old out.new (parts_fault source.now (parts_left walk.entry)) (parts_tokens source.now (parts_left walk.entry)) result }
-{
-    for part in walk {
-        let bytes = before(source, part.to as usize);
-        add_tokens(out, part.line, part.from as usize, bytes)?;
-    }
-    Ok(())
-}
-
 /// Returns the tokens of a logical line of this source, in order. Errors: `Memory` if an allocation fails; else the refusal of
 /// the first token with a fault, with the number of the line's first physical line: L02 for U+0000 or U+FFFF, as a character or
 /// as a number, L03 for an unclosed quote, L04 for a `U+` number that does not have 4 to 6 hexadecimal digits or is not a
@@ -76,4 +37,43 @@ pub fn tokens(alloc: Global, source: &str, logical: Logical) -> Result<Seq<Token
         Ok(()) => Ok(out),
         Err(error) => Err(error.at(logical.first_line)),
     }
+}
+
+/// Appends the tokens of parts of a source.
+fn add_all(out: &mut Seq<Token>, source: &[u8], walk: Parts<'_>) -> Result<(), TokenError>
+    requires { length source.now ≤ TEXT_BYTES }
+    ensures { Appends out.old out.new (parts_fault source.now (parts_left walk.entry)) (parts_tokens source.now (parts_left walk.entry)) result }
+{
+    for part in walk {
+        let bytes = before(source, part.to as usize);
+        add_tokens(out, part.line, part.from as usize, bytes)?;
+    }
+    Ok(())
+}
+
+/// Appends the tokens of the bytes from a position on.
+fn add_tokens(out: &mut Seq<Token>, line: u32, from: usize, bytes: &[u8]) -> Result<(), TokenError>
+    requires { length bytes.now ≤ TEXT_BYTES }
+    ensures { Appends out.old out.new (first_fault 0 (drop from bytes.now)) (scanned line 0 from (drop from bytes.now)) result }
+{
+    let mut at = from;
+    while at < bytes.len() {
+        at += add_next(out, line, at, behind(bytes, at))?;
+    }
+    Ok(())
+}
+
+/// Appends the token at the beginning of the bytes, or no token if they begin with a blank, and returns the number of bytes that it used.
+fn add_next(out: &mut Seq<Token>, line: u32, at: usize, bytes: &[u8]) -> Result<usize, TokenError>
+    requires some { 0 < length bytes.now }
+    requires few { at + length bytes.now < 2 ^ 32 }
+    ensures { Steps out.old out.new line at bytes.now result }
+{
+    if is_blank(bytes[0]) {
+        return Ok(1);
+    }
+    let size = token_size(bytes);
+    let token = token_at(line, at, before(bytes, size))?;
+    out.add(token)?;
+    Ok(size)
 }

@@ -34,14 +34,6 @@ pub(crate) fn is_unequal(byte: u8, next: u8) -> bool
     byte == b'!' && next == b'='
 }
 
-/// Returns whether a byte belongs to a word, given the next byte.
-#[tactic(auto, unfolding(kmn_lines::specs::Tokens::in_word))]
-fn in_word(byte: u8, next: u8) -> bool
-    ensures { result ≡ in_word byte next }
-{
-    !(is_blank(byte) || is_quote(byte) || single(byte).is_some() || is_unequal(byte, next))
-}
-
 /// Returns the number of bytes of a word at the beginning of a text.
 pub fn word_size(text: &[u8]) -> usize
     ensures is { result ≡ word_size text.now }
@@ -54,19 +46,12 @@ pub fn word_size(text: &[u8]) -> usize
     size
 }
 
-/// Returns the number of bytes up to and including a quote, or of all bytes if there is no quote.
-fn quoted_size(quote: u8, text: &[u8]) -> usize
-    ensures is { result ≡ quoted_size quote text.now }
-    ensures within { result ≤ length text.now }
+/// Returns whether a byte belongs to a word, given the next byte.
+#[tactic(auto, unfolding(kmn_lines::specs::Tokens::in_word))]
+fn in_word(byte: u8, next: u8) -> bool
+    ensures { result ≡ in_word byte next }
 {
-    let mut size = 0;
-    while size < text.len() {
-        size += 1;
-        if text[size - 1] == quote {
-            break;
-        }
-    }
-    size
+    !(is_blank(byte) || is_quote(byte) || single(byte).is_some() || is_unequal(byte, next))
 }
 
 /// Returns whether a text begins with `U+` and a hexadecimal digit.
@@ -79,6 +64,21 @@ pub fn starts_number(text: &[u8]) -> bool
             (*letter == b'U' || *letter == b'u') && *plus == b'+' && hex_digit(*digit).is_some()
         }
         _ => false,
+    }
+}
+
+/// Returns the size in bytes of the token at the beginning of a text.
+#[tactic(auto, unfolding(kmn_lines::specs::Tokens::token_size))]
+pub(crate) fn token_size(text: &[u8]) -> usize
+    requires { 0 < length text.now }
+    ensures is { result ≡ token_size text.now }
+    ensures within { result ≤ length text.now }
+    ensures some { is_blank (first_or_end text.now) ≡ false → 0 < result }
+{
+    if starts_number(text) {
+        2 + word_size(behind(text, 2))
+    } else {
+        plain_size(text)
     }
 }
 
@@ -102,17 +102,17 @@ fn plain_size(text: &[u8]) -> usize
     }
 }
 
-/// Returns the size in bytes of the token at the beginning of a text.
-#[tactic(auto, unfolding(kmn_lines::specs::Tokens::token_size))]
-pub(crate) fn token_size(text: &[u8]) -> usize
-    requires { 0 < length text.now }
-    ensures is { result ≡ token_size text.now }
+/// Returns the number of bytes up to and including a quote, or of all bytes if there is no quote.
+fn quoted_size(quote: u8, text: &[u8]) -> usize
+    ensures is { result ≡ quoted_size quote text.now }
     ensures within { result ≤ length text.now }
-    ensures some { is_blank (first_or_end text.now) ≡ false → 0 < result }
 {
-    if starts_number(text) {
-        2 + word_size(behind(text, 2))
-    } else {
-        plain_size(text)
+    let mut size = 0;
+    while size < text.len() {
+        size += 1;
+        if text[size - 1] == quote {
+            break;
+        }
     }
+    size
 }

@@ -14,11 +14,13 @@ use decompile_program::{Called, named_by_output, named_by_pattern};
 use kmn_base::{Element, RuleKey};
 use rule_model::{Out, Pat};
 
-/// Returns whether a virtual key has a name.
-fn has_key_name(names: &Called<'_>, code: u16) -> bool
-    ensures { result ≡ has_key_name names.now.keys code }
+/// Returns whether at least one of the elements has no spelling.
+pub(crate) fn has_unspelled_element(names: &Called<'_>, elements: &[Element]) -> bool
+    ensures { result ≡ list_any (is_unspelled_element names.now) elements.now }
 {
-    names.key(code).is_some()
+    elements
+        .iter()
+        .any(|element| is_unspelled_element(names, element))
 }
 
 /// Returns whether an element has no spelling.
@@ -32,13 +34,11 @@ fn is_unspelled_element(names: &Called<'_>, element: &Element) -> bool
     }
 }
 
-/// Returns whether at least one of the elements has no spelling.
-pub(crate) fn has_unspelled_element(names: &Called<'_>, elements: &[Element]) -> bool
-    ensures { result ≡ list_any (is_unspelled_element names.now) elements.now }
+/// Returns whether a virtual key has a name.
+fn has_key_name(names: &Called<'_>, code: u16) -> bool
+    ensures { result ≡ has_key_name names.now.keys code }
 {
-    elements
-        .iter()
-        .any(|element| is_unspelled_element(names, element))
+    names.key(code).is_some()
 }
 
 /// Returns whether the key of a record has no spelling.
@@ -52,14 +52,22 @@ pub(crate) fn is_unspelled_key(names: &Called<'_>, key: &RuleKey) -> bool
     }
 }
 
-/// Returns whether the store of a number has a system id.
-fn is_system_store(names: &Called<'_>, number: u32) -> bool
-    ensures { result ≡ is_system_store (slice_get names.now.elements number) }
+/// Returns whether at least one item of an output has no spelling.
+pub(crate) fn are_unspelled_outputs(names: &JudgedNames<'_>, outputs: &[Out]) -> bool
+    ensures { result ≡ list_any (is_unspelled_output names.now) outputs.now }
 {
-    match names.elements().get(number as usize) {
-        Some(store) => store.system != 0,
-        None => false,
-    }
+    outputs
+        .iter()
+        .any(|output| is_unspelled_output(names, output))
+}
+
+/// Returns whether an item of an output has no spelling.
+fn is_unspelled_output(names: &JudgedNames<'_>, output: &Out) -> bool
+    ensures { result ≡ is_unspelled_output names.now output.now }
+{
+    is_far_output(output)
+        || names_system_store(names.called(), named_by_output(output))
+        || has_unspelled_value(names, output_value(output))
 }
 
 /// Returns whether the store that an item names, if any, has a system id.
@@ -68,6 +76,16 @@ fn names_system_store(names: &Called<'_>, store: Option<u32>) -> bool
 {
     match store {
         Some(store) => is_system_store(names, store),
+        None => false,
+    }
+}
+
+/// Returns whether the store of a number has a system id.
+fn is_system_store(names: &Called<'_>, number: u32) -> bool
+    ensures { result ≡ is_system_store (slice_get names.now.elements number) }
+{
+    match names.elements().get(number as usize) {
+        Some(store) => store.system != 0,
         None => false,
     }
 }
@@ -82,31 +100,11 @@ fn has_unspelled_value(names: &JudgedNames<'_>, value: Option<u32>) -> bool
     }
 }
 
-/// Returns whether an item of a context has no spelling.
-fn is_unspelled_pattern(names: &JudgedNames<'_>, pattern: &Pat) -> bool
-    ensures { result ≡ is_unspelled_pattern names.now pattern.now }
+/// Returns whether a context has no spelling.
+pub(crate) fn is_unspelled_context(names: &JudgedNames<'_>, context: &[Pat]) -> bool
+    ensures { result ≡ is_unspelled_context names.now context.now }
 {
-    is_far_pattern(pattern)
-        || names_system_store(names.called(), named_by_pattern(pattern))
-        || has_unspelled_value(names, pattern_value(pattern))
-}
-
-/// Returns whether an item of an output has no spelling.
-fn is_unspelled_output(names: &JudgedNames<'_>, output: &Out) -> bool
-    ensures { result ≡ is_unspelled_output names.now output.now }
-{
-    is_far_output(output)
-        || names_system_store(names.called(), named_by_output(output))
-        || has_unspelled_value(names, output_value(output))
-}
-
-/// Returns whether at least one item of an output has no spelling.
-pub(crate) fn are_unspelled_outputs(names: &JudgedNames<'_>, outputs: &[Out]) -> bool
-    ensures { result ≡ list_any (is_unspelled_output names.now) outputs.now }
-{
-    outputs
-        .iter()
-        .any(|output| is_unspelled_output(names, output))
+    are_unspelled_patterns(names, context) || stands_behind_match(context) || 1 < nul_count(context)
 }
 
 /// Returns whether at least one item of a context has no spelling.
@@ -118,9 +116,11 @@ fn are_unspelled_patterns(names: &JudgedNames<'_>, context: &[Pat]) -> bool
         .any(|pattern| is_unspelled_pattern(names, pattern))
 }
 
-/// Returns whether a context has no spelling.
-pub(crate) fn is_unspelled_context(names: &JudgedNames<'_>, context: &[Pat]) -> bool
-    ensures { result ≡ is_unspelled_context names.now context.now }
+/// Returns whether an item of a context has no spelling.
+fn is_unspelled_pattern(names: &JudgedNames<'_>, pattern: &Pat) -> bool
+    ensures { result ≡ is_unspelled_pattern names.now pattern.now }
 {
-    are_unspelled_patterns(names, context) || stands_behind_match(context) || 1 < nul_count(context)
+    is_far_pattern(pattern)
+        || names_system_store(names.called(), named_by_pattern(pattern))
+        || has_unspelled_value(names, pattern_value(pattern))
 }

@@ -35,11 +35,23 @@ const NONE: WrittenCounts = WrittenCounts {
     elements: 0,
 };
 
-/// Returns the sum of a count and `more`, or the maximum of the type if the sum is larger.
-fn larger(count: u32, more: usize) -> u32
-    ensures { result ≡ capped (count + more) }
+/// Counts the stores that the text of tables compiles to, and the elements of all these stores.
+#[tactic(auto, using(crate::proofs::FewCounts::few_characters))]
+pub(crate) fn count_all(
+    alloc: Global,
+    front: &Front,
+    names: &Called<'_>,
+    tables: &Tables,
+) -> Result<WrittenCounts, Memory>
+    requires front { IsFront tables.now front.now }
+    requires names { names.now ≡ names_for tables.now }
+    requires playable { IsPlayable tables.now }
+    requires written { CanBeWrittenOut tables.now }
+    requires keys { All IsUtf8 (tab_dictionary tables.now.stores) }
+    ensures stores { IfOk result (λ counts. counts.stores ≡ store_count (back tables.now)) }
+    ensures elements { IfOk result (λ counts. counts.elements ≡ element_count (back tables.now)) }
 {
-    count.saturating_add(u32::try_from(more).unwrap_or(u32::MAX))
+    count_lengths(alloc, front, names, tables)
 }
 
 impl WrittenCounts {
@@ -72,57 +84,6 @@ impl WrittenCounts {
     }
 }
 
-/// Returns the counts with those stores of a file that the text contains.
-#[tactic(auto, using(crate::proofs::Lengths::with_lengths_append))]
-fn with_stores(counts: WrittenCounts, names: &Called<'_>, stores: &[Store]) -> WrittenCounts
-    ensures { result ≡ with_lengths counts (called_lengths names.now.stores 0 stores.now) }
-{
-    let mut counts = counts;
-    for (number, store) in stores.iter().enumerate() {
-        let is_written = names.store_at(number).is_some();
-        counts = counts.with_if(is_written, store.elements.len());
-    }
-    counts
-}
-
-/// Returns the number of characters in the names, plus one for each name.
-fn spaced_size(names: &[Text]) -> usize
-    requires { spaced_size names.now < 2 ^ 32 }
-    ensures { result ≡ spaced_size names.now }
-{
-    let mut size: usize = 0;
-    for name in names {
-        size += character_count(name.as_slice()) + 1;
-    }
-    size
-}
-
-/// Returns the counts with the store of the key dictionary if the dictionary contains a name.
-fn with_dictionary(counts: WrittenCounts, keys: &[Text]) -> WrittenCounts
-    requires { spaced_size keys.now < 2 ^ 32 }
-    ensures { result ≡ with_lengths counts (joined_length keys.now) }
-{
-    match keys {
-        [] => counts,
-        [_, ..] => counts.with(spaced_size(keys).saturating_sub(1)),
-    }
-}
-
-/// Returns the counts with the stores of values.
-#[tactic(auto, using(crate::proofs::Lengths::with_lengths_append))]
-fn with_values(counts: WrittenCounts, values: &WrittenValues) -> WrittenCounts
-    ensures { result ≡ with_lengths counts (map length values.now) }
-{
-    let mut counts = counts;
-    for place in 0..values.len() {
-        let Some(value) = values.at(place) else {
-            return counts;
-        };
-        counts = counts.with(value.len());
-    }
-    counts
-}
-
 /// Counts the stores that the text of tables compiles to, and their elements, by the lengths of these stores.
 #[tactic(auto, using(crate::proofs::Lengths::with_lengths_append), unfolding(decompile_program::specs::WrittenOut::table_values))]
 fn count_lengths(
@@ -145,23 +106,55 @@ fn count_lengths(
     Ok(with_values(counts, &values))
 }
 
-/// Counts the stores that the text of tables compiles to, and the elements of all these stores.
-#[tactic(auto, using(crate::proofs::FewCounts::few_characters))]
-pub(crate) fn count_all(
-    alloc: Global,
-    front: &Front,
-    names: &Called<'_>,
-    tables: &Tables,
-) -> Result<WrittenCounts, Memory>
-    requires front { IsFront tables.now front.now }
-    requires names { names.now ≡ names_for tables.now }
-    requires playable { IsPlayable tables.now }
-    requires written { CanBeWrittenOut tables.now }
-    requires keys { All IsUtf8 (tab_dictionary tables.now.stores) }
-    ensures stores { IfOk result (λ counts. counts.stores ≡ store_count (back tables.now)) }
-    ensures elements { IfOk result (λ counts. counts.elements ≡ element_count (back tables.now)) }
+/// Returns the counts with those stores of a file that the text contains.
+#[tactic(auto, using(crate::proofs::Lengths::with_lengths_append))]
+fn with_stores(counts: WrittenCounts, names: &Called<'_>, stores: &[Store]) -> WrittenCounts
+    ensures { result ≡ with_lengths counts (called_lengths names.now.stores 0 stores.now) }
 {
-    count_lengths(alloc, front, names, tables)
+    let mut counts = counts;
+    for (number, store) in stores.iter().enumerate() {
+        let is_written = names.store_at(number).is_some();
+        counts = counts.with_if(is_written, store.elements.len());
+    }
+    counts
+}
+
+/// Returns the counts with the store of the key dictionary if the dictionary contains a name.
+fn with_dictionary(counts: WrittenCounts, keys: &[Text]) -> WrittenCounts
+    requires { spaced_size keys.now < 2 ^ 32 }
+    ensures { result ≡ with_lengths counts (joined_length keys.now) }
+{
+    match keys {
+        [] => counts,
+        [_, ..] => counts.with(spaced_size(keys).saturating_sub(1)),
+    }
+}
+
+/// Returns the number of characters in the names, plus one for each name.
+fn spaced_size(names: &[Text]) -> usize
+    requires { spaced_size names.now < 2 ^ 32 }
+    ensures { result ≡ spaced_size names.now }
+{
+    let mut size: usize = 0;
+    for name in names {
+        size += character_count(name.as_slice()) + 1;
+    }
+    size
+}
+
+/// Returns the counts with the stores of values.
+#[tactic(auto, using(crate::proofs::Lengths::with_lengths_append))]
+fn with_values(counts: WrittenCounts, values: &WrittenValues) -> WrittenCounts
+    ensures { result ≡ with_lengths counts (map length values.now) }
+{
+    let mut counts = counts;
+    for place in 0..values.len() {
+        let Some(value) = values.at(place) else {
+            return counts;
+        };
+        counts = counts.with(value.len());
+    }
+    counts
 }
 
 /// Returns the refusal of the first count that is above its limit, if any.
@@ -179,4 +172,11 @@ pub(crate) fn passed(counts: WrittenCounts) -> Option<NoSpelling>
         });
     }
     None
+}
+
+/// Returns the sum of a count and `more`, or the maximum of the type if the sum is larger.
+fn larger(count: u32, more: usize) -> u32
+    ensures { result ≡ capped (count + more) }
+{
+    count.saturating_add(u32::try_from(more).unwrap_or(u32::MAX))
 }

@@ -28,6 +28,44 @@ use kmx_verifier::Verified;
 use rule_model::Tables;
 use std::alloc::Global;
 
+/// Returns the source of a valid file: the text of the program that its tables decompile to, with one statement on each line.
+///
+/// Errors: `Refused` with the reason exactly when the file has no text that is a source; `Memory` if an allocation fails.
+#[tactic(auto, using(crate::proofs::Refusing::few_groups, crate::proofs::Refusing::few_rules, crate::proofs::Refusing::unspelled_order))]
+pub fn decompile(alloc: Global, file: &Verified<'_>) -> Result<Text, DecompileError>
+    ensures text { IfOk result (λ text. text ≡ program_text (back (tables_of file.now))) }
+    ensures spelled { OnOk result (unspelled file.now ≡ None) }
+    ensures refused { IfErr result (λ error. IsRefusal error (λ why. unspelled file.now ≡ Some why)) }
+{
+    let tables = file.copied_tables(alloc)?;
+    if let Some(why) = disorder(tables.groups.as_slice()) {
+        return Err(DecompileError::Refused(why));
+    }
+    text_in_order(alloc, file.bytes(), &tables)
+}
+
+/// Returns the text of a file with these tables, whose records are in order.
+#[tactic(auto, using(crate::proofs::Refusing::few_stores, crate::proofs::Refusing::few_groups, crate::proofs::Refusing::few_keys, crate::proofs::Refusing::unspelled_excess))]
+fn text_in_order(alloc: Global, bytes: &[u8], tables: &Tables) -> Result<Text, DecompileError>
+    requires tables { tables.now ≡ tables_of bytes.now }
+    requires playable { IsPlayable tables.now }
+    requires valid { IsValid bytes.now }
+    requires order { disorder 0 tables.now.groups ≡ None }
+    ensures text { IfOk result (λ text. text ≡ program_text (back tables.now)) }
+    ensures spelled { OnOk result (unspelled bytes.now ≡ None) }
+    ensures refused { IfErr result (λ error. IsRefusal error (λ why. unspelled bytes.now ≡ Some why)) }
+{
+    let free = free_stores(alloc, tables)?;
+    let indexed = IndexedTables::new(alloc, tables)?;
+    let front = front_of(alloc, &indexed, tables)?;
+    let left = behind(free.as_slice(), front_count(&front, tables));
+    let names = called_by(alloc, &indexed, tables, left)?;
+    match least_cause(alloc, bytes, &indexed, &names, tables)? {
+        Some(at) => Err(DecompileError::Refused(NoSpelling::Unspelled { at })),
+        None => text_within(alloc, &front, &names, tables, free.as_slice()),
+    }
+}
+
 /// Returns the text of tables, unless the text or what it compiles to is too large.
 #[tactic(auto, using(crate::proofs::Refusing::larger_text, crate::proofs::Refusing::text_within))]
 fn text_within(
@@ -57,42 +95,4 @@ fn text_within(
         Some(why) => Err(DecompileError::Refused(why)),
         None => Ok(text_of(alloc, front, &sized, tables, free)?),
     }
-}
-
-/// Returns the text of a file with these tables, whose records are in order.
-#[tactic(auto, using(crate::proofs::Refusing::few_stores, crate::proofs::Refusing::few_groups, crate::proofs::Refusing::few_keys, crate::proofs::Refusing::unspelled_excess))]
-fn text_in_order(alloc: Global, bytes: &[u8], tables: &Tables) -> Result<Text, DecompileError>
-    requires tables { tables.now ≡ tables_of bytes.now }
-    requires playable { IsPlayable tables.now }
-    requires valid { IsValid bytes.now }
-    requires order { disorder 0 tables.now.groups ≡ None }
-    ensures text { IfOk result (λ text. text ≡ program_text (back tables.now)) }
-    ensures spelled { OnOk result (unspelled bytes.now ≡ None) }
-    ensures refused { IfErr result (λ error. IsRefusal error (λ why. unspelled bytes.now ≡ Some why)) }
-{
-    let free = free_stores(alloc, tables)?;
-    let indexed = IndexedTables::new(alloc, tables)?;
-    let front = front_of(alloc, &indexed, tables)?;
-    let left = behind(free.as_slice(), front_count(&front, tables));
-    let names = called_by(alloc, &indexed, tables, left)?;
-    match least_cause(alloc, bytes, &indexed, &names, tables)? {
-        Some(at) => Err(DecompileError::Refused(NoSpelling::Unspelled { at })),
-        None => text_within(alloc, &front, &names, tables, free.as_slice()),
-    }
-}
-
-/// Returns the source of a valid file: the text of the program that its tables decompile to, with one statement on each line.
-///
-/// Errors: `Refused` with the reason exactly when the file has no text that is a source; `Memory` if an allocation fails.
-#[tactic(auto, using(crate::proofs::Refusing::few_groups, crate::proofs::Refusing::few_rules, crate::proofs::Refusing::unspelled_order))]
-pub fn decompile(alloc: Global, file: &Verified<'_>) -> Result<Text, DecompileError>
-    ensures text { IfOk result (λ text. text ≡ program_text (back (tables_of file.now))) }
-    ensures spelled { OnOk result (unspelled file.now ≡ None) }
-    ensures refused { IfErr result (λ error. IsRefusal error (λ why. unspelled file.now ≡ Some why)) }
-{
-    let tables = file.copied_tables(alloc)?;
-    if let Some(why) = disorder(tables.groups.as_slice()) {
-        return Err(DecompileError::Refused(why));
-    }
-    text_in_order(alloc, file.bytes(), &tables)
 }

@@ -36,13 +36,6 @@ pub(crate) fn is_nameable(unit: u16) -> bool
     !is_forbidden(u32::from(unit)) && !(0xD800..0xE000).contains(&unit)
 }
 
-/// Returns whether an element is not a character.
-fn is_no_character(element: &Element) -> bool
-    ensures { result ≡ is_no_character element.now }
-{
-    !matches!(element, Element::Char(_))
-}
-
 /// Returns whether at least one of the elements is not a character.
 pub(crate) fn has_no_character(elements: &[Element]) -> bool
     ensures { result ≡ list_any is_no_character elements.now }
@@ -50,11 +43,11 @@ pub(crate) fn has_no_character(elements: &[Element]) -> bool
     elements.iter().any(|element| is_no_character(element))
 }
 
-/// Returns whether a character does not end a line.
-fn is_inner(character: char) -> bool
-    ensures { result ≡ is_inner character }
+/// Returns whether an element is not a character.
+fn is_no_character(element: &Element) -> bool
+    ensures { result ≡ is_no_character element.now }
 {
-    character != '\n' && character != '\r'
+    !matches!(element, Element::Char(_))
 }
 
 /// Returns whether no character among the elements ends a line.
@@ -69,6 +62,13 @@ pub(crate) fn are_inner(elements: &[Element]) -> bool
         }
     }
     true
+}
+
+/// Returns whether a character does not end a line.
+fn is_inner(character: char) -> bool
+    ensures { result ≡ is_inner character }
+{
+    character != '\n' && character != '\r'
 }
 
 pub(crate) fn is_far_pattern(pattern: &Pat) -> bool

@@ -6,18 +6,17 @@ ghost use Rattle.kmx_decompiler.specs.Unspelled.{longer_behind, first_longer, di
 use crate::NoSpelling;
 use rule_model::{Group, Rule};
 
-/// Returns the number of the first record that has a longer context than the record before it, if any. The records are counted
-/// from 1, and `previous` is the length of the context before the first of them.
-fn longer_behind(previous: usize, rules: &[Rule]) -> Option<u32>
-    requires { length rules.now < 2 ^ 32 }
-    ensures { result ≡ longer_behind 1 previous rules.now }
+/// Returns the refusal of the first record of all groups that has a longer context than the record before it, if any.
+pub(crate) fn disorder(groups: &[Group]) -> Option<NoSpelling>
+    requires groups { length groups.now < 2 ^ 32 }
+    requires rules { All (λ group. length group.rules < 2 ^ 32) groups.now }
+    ensures { result ≡ disorder 0 groups.now }
 {
-    let mut previous = previous;
-    for (before, rule) in rules.iter().enumerate() {
-        if previous < rule.context.len() {
-            return Some(before as u32 + 1);
+    for (group, records) in groups.iter().enumerate() {
+        if let Some(rule) = first_longer(records.rules.as_slice()) {
+            let group = group as u32;
+            return Some(NoSpelling::Order { group, rule });
         }
-        previous = rule.context.len();
     }
     None
 }
@@ -33,17 +32,18 @@ fn first_longer(rules: &[Rule]) -> Option<u32>
     }
 }
 
-/// Returns the refusal of the first record of all groups that has a longer context than the record before it, if any.
-pub(crate) fn disorder(groups: &[Group]) -> Option<NoSpelling>
-    requires groups { length groups.now < 2 ^ 32 }
-    requires rules { All (λ group. length group.rules < 2 ^ 32) groups.now }
-    ensures { result ≡ disorder 0 groups.now }
+/// Returns the number of the first record that has a longer context than the record before it, if any. The records are counted
+/// from 1, and `previous` is the length of the context before the first of them.
+fn longer_behind(previous: usize, rules: &[Rule]) -> Option<u32>
+    requires { length rules.now < 2 ^ 32 }
+    ensures { result ≡ longer_behind 1 previous rules.now }
 {
-    for (group, records) in groups.iter().enumerate() {
-        if let Some(rule) = first_longer(records.rules.as_slice()) {
-            let group = group as u32;
-            return Some(NoSpelling::Order { group, rule });
+    let mut previous = previous;
+    for (before, rule) in rules.iter().enumerate() {
+        if previous < rule.context.len() {
+            return Some(before as u32 + 1);
         }
+        previous = rule.context.len();
     }
     None
 }

@@ -28,105 +28,26 @@ use rule_model::system::KEY_DICTIONARY;
 use rule_model::{Group, Rule, Store, Tables};
 use std::alloc::Global;
 
-/// Returns the lesser of the least place so far and another, which counts only if it has a cause.
-fn lesser(least: Option<u32>, place: u32, cause: bool) -> Option<u32>
-    ensures { result ≡ lesser (at_cause place cause) least }
-{
-    if !cause {
-        return least;
-    }
-    match least {
-        Some(found) => Some(found.min(place)),
-        None => Some(place),
-    }
-}
-
-/// Returns the least place so far, including the causes of a record that begins at a place.
-#[tactic(auto, using(crate::proofs::LeastPlaces::lesser_append))]
-fn in_rule(names: &JudgedNames<'_>, least: Option<u32>, place: u32, rule: &Rule) -> Option<u32>
-    requires { place + RULE_BYTES < 2 ^ 32 }
-    ensures { result ≡ lesser (rule_causes names.now place (rule.now ∷ [])) least }
-{
-    let key = is_unspelled_key(names.called(), &rule.key);
-    let least = lesser(least, place, key);
-    let outputs = are_unspelled_outputs(names, rule.output.as_slice());
-    let least = lesser(least, place + RULE_OUTPUT_AT as u32, outputs);
-    let context = is_unspelled_context(names, rule.context.as_slice());
-    lesser(least, place + RULE_CONTEXT_AT as u32, context)
-}
-
-/// Returns the least place so far, including the causes of successive records that begin at a place.
-fn in_rules(names: &JudgedNames<'_>, least: Option<u32>, place: u32, rules: &[Rule]) -> Option<u32>
-    requires { place + RULE_BYTES * length rules.now < 2 ^ 32 }
-    ensures { result ≡ lesser (rule_causes names.now place rules.now) least }
-{
-    let mut least = least;
-    let mut place = place;
-    for rule in rules {
-        least = in_rule(names, least, place, rule);
-        place += RULE_BYTES as u32;
-    }
-    least
-}
-
-/// Returns the least place so far, including the causes of a group whose record begins at a place.
-#[tactic(auto, using(crate::proofs::LeastPlaces::lesser_append))]
-fn in_group(
+/// Returns the least place in a file with these tables that has a cause, if any.
+pub(crate) fn least_cause(
+    alloc: Global,
     bytes: &[u8],
-    names: &JudgedNames<'_>,
-    least: Option<u32>,
-    place: u32,
-    group: &Group,
-) -> Option<u32>
-    requires own { place + GROUP_BYTES < 2 ^ 32 }
-    requires rules { word_at bytes.now (place + GROUP_RULES_AT) + RULE_BYTES * length group.now.rules < 2 ^ 32 }
-    ensures { result ≡ lesser (group_causes bytes.now names.now place (group.now ∷ [])) least }
+    indexed: &IndexedTables<'_>,
+    names: &Called<'_>,
+    tables: &Tables,
+) -> Result<Option<u32>, Memory>
+    requires tables { tables.now ≡ tables_of bytes.now }
+    requires indexed { indexed.now ≡ tables.now }
+    requires names { names.now ≡ names_for tables.now }
+    requires valid { IsValid bytes.now }
+    ensures { IfOk result (λ place. place ≡ least (cause_places bytes.now)) }
 {
-    let on_match = are_unspelled_outputs(names, group.on_match.as_slice());
-    let least = lesser(least, place + GROUP_MATCH_AT as u32, on_match);
-    let on_nomatch = are_unspelled_outputs(names, group.on_nomatch.as_slice());
-    let least = lesser(least, place + GROUP_NOMATCH_AT as u32, on_nomatch);
-    let rules = word_at(bytes, place as usize + GROUP_RULES_AT);
-    in_rules(names, least, rules, group.rules.as_slice())
-}
-
-/// Returns the least place so far, including the causes of groups whose records begin at a place.
-fn in_groups(
-    bytes: &[u8],
-    names: &JudgedNames<'_>,
-    least: Option<u32>,
-    place: u32,
-    groups: &[Group],
-) -> Option<u32>
-    requires { HaveNearRecords bytes.now place groups.now }
-    ensures { result ≡ lesser (group_causes bytes.now names.now place groups.now) least }
-{
-    let mut least = least;
-    let mut place = place;
-    for group in groups {
-        least = in_group(bytes, names, least, place, group);
-        place += GROUP_BYTES as u32;
-    }
-    least
-}
-
-/// Returns the number of the store that contains the key dictionary: the first one if there are several.
-fn dictionary_number(stores: &[Store]) -> Option<usize>
-    ensures { result ≡ position is_dictionary stores.now }
-{
-    stores
-        .iter()
-        .position(|store| store.system == KEY_DICTIONARY)
-}
-
-/// Returns whether another number is present and equal to this one.
-fn is_number(number: usize, other: Option<usize>) -> bool
-    ensures { result ≡ is_number number other }
-{
-    match other {
-        Some(other) => number == other,
-        None => false,
-    }
+    let stores = word_at(bytes, STORES_AT);
+    let least = in_stores(alloc, indexed, names, stores, tables.stores.as_slice())?;
+    let groups = word_at(bytes, GROUPS_AT);
+    let all = tables.groups.as_slice();
+    let judged = JudgedNames::new(alloc, names)?;
+    Ok(in_groups(bytes, &judged, least, groups, all))
 }
 
 /// Returns the least place of the causes of stores whose records begin at a place.
@@ -159,24 +80,103 @@ fn in_stores(
     Ok(least)
 }
 
-/// Returns the least place in a file with these tables that has a cause, if any.
-pub(crate) fn least_cause(
-    alloc: Global,
-    bytes: &[u8],
-    indexed: &IndexedTables<'_>,
-    names: &Called<'_>,
-    tables: &Tables,
-) -> Result<Option<u32>, Memory>
-    requires tables { tables.now ≡ tables_of bytes.now }
-    requires indexed { indexed.now ≡ tables.now }
-    requires names { names.now ≡ names_for tables.now }
-    requires valid { IsValid bytes.now }
-    ensures { IfOk result (λ place. place ≡ least (cause_places bytes.now)) }
+/// Returns the number of the store that contains the key dictionary: the first one if there are several.
+fn dictionary_number(stores: &[Store]) -> Option<usize>
+    ensures { result ≡ position is_dictionary stores.now }
 {
-    let stores = word_at(bytes, STORES_AT);
-    let least = in_stores(alloc, indexed, names, stores, tables.stores.as_slice())?;
-    let groups = word_at(bytes, GROUPS_AT);
-    let all = tables.groups.as_slice();
-    let judged = JudgedNames::new(alloc, names)?;
-    Ok(in_groups(bytes, &judged, least, groups, all))
+    stores
+        .iter()
+        .position(|store| store.system == KEY_DICTIONARY)
+}
+
+/// Returns whether another number is present and equal to this one.
+fn is_number(number: usize, other: Option<usize>) -> bool
+    ensures { result ≡ is_number number other }
+{
+    match other {
+        Some(other) => number == other,
+        None => false,
+    }
+}
+
+/// Returns the lesser of the least place so far and another, which counts only if it has a cause.
+fn lesser(least: Option<u32>, place: u32, cause: bool) -> Option<u32>
+    ensures { result ≡ lesser (at_cause place cause) least }
+{
+    if !cause {
+        return least;
+    }
+    match least {
+        Some(found) => Some(found.min(place)),
+        None => Some(place),
+    }
+}
+
+/// Returns the least place so far, including the causes of groups whose records begin at a place.
+fn in_groups(
+    bytes: &[u8],
+    names: &JudgedNames<'_>,
+    least: Option<u32>,
+    place: u32,
+    groups: &[Group],
+) -> Option<u32>
+    requires { HaveNearRecords bytes.now place groups.now }
+    ensures { result ≡ lesser (group_causes bytes.now names.now place groups.now) least }
+{
+    let mut least = least;
+    let mut place = place;
+    for group in groups {
+        least = in_group(bytes, names, least, place, group);
+        place += GROUP_BYTES as u32;
+    }
+    least
+}
+
+/// Returns the least place so far, including the causes of a group whose record begins at a place.
+#[tactic(auto, using(crate::proofs::LeastPlaces::lesser_append))]
+fn in_group(
+    bytes: &[u8],
+    names: &JudgedNames<'_>,
+    least: Option<u32>,
+    place: u32,
+    group: &Group,
+) -> Option<u32>
+    requires own { place + GROUP_BYTES < 2 ^ 32 }
+    requires rules { word_at bytes.now (place + GROUP_RULES_AT) + RULE_BYTES * length group.now.rules < 2 ^ 32 }
+    ensures { result ≡ lesser (group_causes bytes.now names.now place (group.now ∷ [])) least }
+{
+    let on_match = are_unspelled_outputs(names, group.on_match.as_slice());
+    let least = lesser(least, place + GROUP_MATCH_AT as u32, on_match);
+    let on_nomatch = are_unspelled_outputs(names, group.on_nomatch.as_slice());
+    let least = lesser(least, place + GROUP_NOMATCH_AT as u32, on_nomatch);
+    let rules = word_at(bytes, place as usize + GROUP_RULES_AT);
+    in_rules(names, least, rules, group.rules.as_slice())
+}
+
+/// Returns the least place so far, including the causes of successive records that begin at a place.
+fn in_rules(names: &JudgedNames<'_>, least: Option<u32>, place: u32, rules: &[Rule]) -> Option<u32>
+    requires { place + RULE_BYTES * length rules.now < 2 ^ 32 }
+    ensures { result ≡ lesser (rule_causes names.now place rules.now) least }
+{
+    let mut least = least;
+    let mut place = place;
+    for rule in rules {
+        least = in_rule(names, least, place, rule);
+        place += RULE_BYTES as u32;
+    }
+    least
+}
+
+/// Returns the least place so far, including the causes of a record that begins at a place.
+#[tactic(auto, using(crate::proofs::LeastPlaces::lesser_append))]
+fn in_rule(names: &JudgedNames<'_>, least: Option<u32>, place: u32, rule: &Rule) -> Option<u32>
+    requires { place + RULE_BYTES < 2 ^ 32 }
+    ensures { result ≡ lesser (rule_causes names.now place (rule.now ∷ [])) least }
+{
+    let key = is_unspelled_key(names.called(), &rule.key);
+    let least = lesser(least, place, key);
+    let outputs = are_unspelled_outputs(names, rule.output.as_slice());
+    let least = lesser(least, place + RULE_OUTPUT_AT as u32, outputs);
+    let context = is_unspelled_context(names, rule.context.as_slice());
+    lesser(least, place + RULE_CONTEXT_AT as u32, context)
 }

@@ -24,56 +24,6 @@ pub(crate) struct NumberedStore<'a> {
     pub(crate) is_dictionary: bool,
 }
 
-/// Returns whether the store of a number, which is used as an option, has no spelling.
-fn is_unspelled_option(names: &Called<'_>, number: u32, store: &Store) -> bool
-    ensures { result ≡ is_unspelled_option names.now number store.now }
-{
-    store.system != 0
-        || names.store(number) != store.name.as_slice()
-        || has_no_character(store.elements.as_slice())
-}
-
-/// Returns whether elements are the text `0`.
-fn is_layout_text(elements: &[Element]) -> bool
-    ensures { result ≡ is_layout_text elements.now }
-{
-    match elements {
-        [Element::Char(c)] => *c == '0',
-        _ => false,
-    }
-}
-
-/// Returns whether a system store has no spelling.
-fn is_unspelled_system(store: &Store) -> bool
-    ensures { result ≡ is_unspelled_system store.now }
-{
-    (store.system == BITMAP && has_no_character(store.elements.as_slice()))
-        || (store.system == MNEMONIC_LAYOUT && !is_layout_text(store.elements.as_slice()))
-}
-
-/// Returns whether some item uses the store of a number as an option.
-#[tactic(auto, using(crate::proofs::OptionStores::is_option), unfolding(rule_model::specs::Tab::tab))]
-fn is_option(indexed: &IndexedTables<'_>, number: u32) -> bool
-    requires { number < length indexed.now.stores }
-    ensures { result ≡ list_any (nat_eq number) (tab_options indexed.now) }
-{
-    indexed.option_number(number).is_some()
-}
-
-/// Returns whether the store of a number has no spelling as an option or as a system store.
-fn is_unspelled_otherwise(
-    indexed: &IndexedTables<'_>,
-    names: &Called<'_>,
-    number: u32,
-    store: &Store,
-) -> bool
-    requires { number < length indexed.now.stores }
-    ensures { result ≡ ((list_any (nat_eq number) (tab_options indexed.now) && is_unspelled_option names.now number store.now) || is_unspelled_system store.now) }
-{
-    (is_option(indexed, number) && is_unspelled_option(names, number, store))
-        || is_unspelled_system(store)
-}
-
 /// Returns whether a store with its number has no spelling.
 pub(crate) fn is_unspelled_store(
     alloc: Global,
@@ -93,4 +43,54 @@ pub(crate) fn is_unspelled_store(
         return Ok(true);
     }
     Ok(is_unspelled_otherwise(indexed, names, numbered.number, numbered.store))
+}
+
+/// Returns whether the store of a number has no spelling as an option or as a system store.
+fn is_unspelled_otherwise(
+    indexed: &IndexedTables<'_>,
+    names: &Called<'_>,
+    number: u32,
+    store: &Store,
+) -> bool
+    requires { number < length indexed.now.stores }
+    ensures { result ≡ ((list_any (nat_eq number) (tab_options indexed.now) && is_unspelled_option names.now number store.now) || is_unspelled_system store.now) }
+{
+    (is_option(indexed, number) && is_unspelled_option(names, number, store))
+        || is_unspelled_system(store)
+}
+
+/// Returns whether some item uses the store of a number as an option.
+#[tactic(auto, using(crate::proofs::OptionStores::is_option), unfolding(rule_model::specs::Tab::tab))]
+fn is_option(indexed: &IndexedTables<'_>, number: u32) -> bool
+    requires { number < length indexed.now.stores }
+    ensures { result ≡ list_any (nat_eq number) (tab_options indexed.now) }
+{
+    indexed.option_number(number).is_some()
+}
+
+/// Returns whether the store of a number, which is used as an option, has no spelling.
+fn is_unspelled_option(names: &Called<'_>, number: u32, store: &Store) -> bool
+    ensures { result ≡ is_unspelled_option names.now number store.now }
+{
+    store.system != 0
+        || names.store(number) != store.name.as_slice()
+        || has_no_character(store.elements.as_slice())
+}
+
+/// Returns whether a system store has no spelling.
+fn is_unspelled_system(store: &Store) -> bool
+    ensures { result ≡ is_unspelled_system store.now }
+{
+    (store.system == BITMAP && has_no_character(store.elements.as_slice()))
+        || (store.system == MNEMONIC_LAYOUT && !is_layout_text(store.elements.as_slice()))
+}
+
+/// Returns whether elements are the text `0`.
+fn is_layout_text(elements: &[Element]) -> bool
+    ensures { result ≡ is_layout_text elements.now }
+{
+    match elements {
+        [Element::Char(c)] => *c == '0',
+        _ => false,
+    }
 }

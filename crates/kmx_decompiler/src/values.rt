@@ -29,17 +29,20 @@ impl Model for WrittenValues {
     ghost view = { λ values. map (λ value. value.items) values.found.keys };
 }
 
-/// Returns the characters among elements.
-fn characters_of(alloc: Global, elements: &[Element]) -> Result<Vec<char>, Memory>
-    ensures { IfOk result (λ characters. characters.items ≡ filter_map element_char elements.now) }
+/// Returns the values of groups.
+#[tactic(auto, using(crate::proofs::ValueSets::with_values_append))]
+pub(crate) fn values_of(
+    alloc: Global,
+    names: &Called<'_>,
+    groups: &[Group],
+) -> Result<WrittenValues, Memory>
+    ensures { IfOk result (λ values. values ≡ with_values names.now [] (flat_map group_values groups.now)) }
 {
-    let mut characters = Vec::with_capacity(alloc, elements.len())?;
-    for element in elements {
-        if let Element::Char(c) = element {
-            characters.push(*c)?;
-        }
+    let mut values = WrittenValues::new(alloc);
+    for group in groups {
+        add_group(&mut values, names, group)?;
     }
-    Ok(characters)
+    Ok(values)
 }
 
 impl WrittenValues {
@@ -78,18 +81,34 @@ impl WrittenValues {
     }
 }
 
-/// Adds the value that a store contains, if a store is given.
-fn add_store(
-    values: &mut WrittenValues,
-    names: &Called<'_>,
-    store: Option<u32>,
-) -> Result<(), Memory>
-    ensures { OnOk result (values.new ≡ with_values names.now values.old (option_to_list store)) }
+/// Adds the values of a group.
+#[tactic(auto, using(crate::proofs::ValueSets::with_values_append))]
+fn add_group(values: &mut WrittenValues, names: &Called<'_>, group: &Group) -> Result<(), Memory>
+    ensures { OnOk result (values.new ≡ with_values names.now values.old (group_values group.now)) }
 {
-    match store {
-        Some(store) => values.add(names.value(store)),
-        None => Ok(()),
+    add_rules(values, names, group.rules.as_slice())?;
+    add_outputs(values, names, group.on_match.as_slice())?;
+    add_outputs(values, names, group.on_nomatch.as_slice())
+}
+
+/// Adds the values of records.
+#[tactic(auto, using(crate::proofs::ValueSets::with_values_append))]
+fn add_rules(values: &mut WrittenValues, names: &Called<'_>, rules: &[Rule]) -> Result<(), Memory>
+    ensures { OnOk result (values.new ≡ with_values names.now values.old (flat_map rule_values rules.now)) }
+{
+    for rule in rules {
+        add_rule(values, names, rule)?;
     }
+    Ok(())
+}
+
+/// Adds the values of a record.
+#[tactic(auto, using(crate::proofs::ValueSets::with_values_append))]
+fn add_rule(values: &mut WrittenValues, names: &Called<'_>, rule: &Rule) -> Result<(), Memory>
+    ensures { OnOk result (values.new ≡ with_values names.now values.old (rule_values rule.now)) }
+{
+    add_context(values, names, rule.context.as_slice())?;
+    add_outputs(values, names, rule.output.as_slice())
 }
 
 /// Adds the values of a context.
@@ -107,6 +126,20 @@ fn add_context(
     Ok(())
 }
 
+/// Adds the value that a store contains, if a store is given.
+fn add_store(
+    values: &mut WrittenValues,
+    names: &Called<'_>,
+    store: Option<u32>,
+) -> Result<(), Memory>
+    ensures { OnOk result (values.new ≡ with_values names.now values.old (option_to_list store)) }
+{
+    match store {
+        Some(store) => values.add(names.value(store)),
+        None => Ok(()),
+    }
+}
+
 /// Adds the values of an output.
 #[tactic(auto, using(crate::proofs::ValueSets::with_values_append))]
 fn add_outputs(
@@ -122,48 +155,15 @@ fn add_outputs(
     Ok(())
 }
 
-/// Adds the values of a record.
-#[tactic(auto, using(crate::proofs::ValueSets::with_values_append))]
-fn add_rule(values: &mut WrittenValues, names: &Called<'_>, rule: &Rule) -> Result<(), Memory>
-    ensures { OnOk result (values.new ≡ with_values names.now values.old (rule_values rule.now)) }
+/// Returns the characters among elements.
+fn characters_of(alloc: Global, elements: &[Element]) -> Result<Vec<char>, Memory>
+    ensures { IfOk result (λ characters. characters.items ≡ filter_map element_char elements.now) }
 {
-    add_context(values, names, rule.context.as_slice())?;
-    add_outputs(values, names, rule.output.as_slice())
-}
-
-/// Adds the values of records.
-#[tactic(auto, using(crate::proofs::ValueSets::with_values_append))]
-fn add_rules(values: &mut WrittenValues, names: &Called<'_>, rules: &[Rule]) -> Result<(), Memory>
-    ensures { OnOk result (values.new ≡ with_values names.now values.old (flat_map rule_values rules.now)) }
-{
-    for rule in rules {
-        add_rule(values, names, rule)?;
+    let mut characters = Vec::with_capacity(alloc, elements.len())?;
+    for element in elements {
+        if let Element::Char(c) = element {
+            characters.push(*c)?;
+        }
     }
-    Ok(())
-}
-
-/// Adds the values of a group.
-#[tactic(auto, using(crate::proofs::ValueSets::with_values_append))]
-fn add_group(values: &mut WrittenValues, names: &Called<'_>, group: &Group) -> Result<(), Memory>
-    ensures { OnOk result (values.new ≡ with_values names.now values.old (group_values group.now)) }
-{
-    add_rules(values, names, group.rules.as_slice())?;
-    add_outputs(values, names, group.on_match.as_slice())?;
-    add_outputs(values, names, group.on_nomatch.as_slice())
-}
-
-/// Returns the values of groups.
-#[tactic(auto, using(crate::proofs::ValueSets::with_values_append))]
-pub(crate) fn values_of(
-    alloc: Global,
-    names: &Called<'_>,
-    groups: &[Group],
-) -> Result<WrittenValues, Memory>
-    ensures { IfOk result (λ values. values ≡ with_values names.now [] (flat_map group_values groups.now)) }
-{
-    let mut values = WrittenValues::new(alloc);
-    for group in groups {
-        add_group(&mut values, names, group)?;
-    }
-    Ok(values)
+    Ok(characters)
 }

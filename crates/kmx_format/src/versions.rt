@@ -27,6 +27,13 @@ pub fn file_versions() -> &'static [(&'static str, u16)]
     &VERSIONS
 }
 
+/// Returns whether a number is the number of a version.
+pub fn is_version(number: u32) -> bool
+    ensures { result ≡ is_version number }
+{
+    has_number(&VERSIONS, number)
+}
+
 /// Returns whether a number is among the numbers of a table.
 fn has_number(table: &[(&str, u16)], number: u32) -> bool
     ensures { result ≡ list_any (nat_eq number) (map (λ (row : List ℕ × ℕ). row.1) (map (λ row. (row.0.now, row.1)) table.now)) }
@@ -39,11 +46,11 @@ fn has_number(table: &[(&str, u16)], number: u32) -> bool
     false
 }
 
-/// Returns whether a number is the number of a version.
-pub fn is_version(number: u32) -> bool
-    ensures { result ≡ is_version number }
+/// Returns the text of the version with a number, or an empty text if there is none.
+pub fn version_text(number: u16) -> &'static [u8]
+    ensures { result.now ≡ version_text number }
 {
-    has_number(&VERSIONS, number)
+    text_in(&VERSIONS, number)
 }
 
 /// Returns the text that a table has for a number, or an empty text if there is none.
@@ -56,11 +63,4 @@ fn text_in(table: &[(&'static str, u16)], number: u16) -> &'static [u8]
         }
     }
     b""
-}
-
-/// Returns the text of the version with a number, or an empty text if there is none.
-pub fn version_text(number: u16) -> &'static [u8]
-    ensures { result.now ≡ version_text number }
-{
-    text_in(&VERSIONS, number)
 }

@@ -26,37 +26,6 @@ use kmx_view::{ended_string, word_at};
 /// The number of context items that offsets can reach: an offset is one unit and counts from 1.
 const OFFSET_REACH: usize = 65_535;
 
-/// Appends the target of an item, unless offsets do not reach it.
-///
-/// Errors: `Memory` if an allocation fails.
-#[tactic(auto, using(crate::proofs::Reach::reached_all, crate::proofs::Reach::reached_full))]
-fn add_target(targets: &mut Vec<Target>, item: UnitItem) -> Result<(), VerifyError>
-    requires { length targets.old.items ≤ OFFSET_REACH }
-    ensures { MatchResult result
-        (λ _. targets.new.items ≡ reached (targets.old.items ++ target_of item ∷ []))
-        (λ error. error ≡ VerifyError.Memory) }
-{
-    if targets.len() == OFFSET_REACH {
-        return Ok(());
-    }
-    targets
-        .push(target_of(item))
-        .map_err(|_| VerifyError::Memory)
-}
-
-/// Checks an item of a context at a place. `targets` has the targets of the items before it, as far as offsets reach.
-fn check_context_item(
-    bytes: &[u8],
-    targets: &[Target],
-    item: UnitItem,
-    at: u32,
-) -> Result<(), VerifyError>
-    ensures { (before : List Target) → targets.now ≡ reached before → ReportsFault (item_fault bytes.now Context before item at) (Unit {0}) result }
-{
-    offset_is_unit(item);
-    Ok(check_item(bytes, StringKind::Context, targets, item, at)?)
-}
-
 /// Checks the items of a context whose first unit is at byte offset `at`, and sets `targets` to what offsets can point at in it.
 pub(crate) fn walk_context(
     bytes: &[u8],
@@ -85,32 +54,51 @@ pub(crate) fn walk_context(
     Ok(())
 }
 
-/// Checks the items of the context whose offset is stored at `place`, and sets `targets` to what offsets can point at in it.
-#[tactic(auto, unfolding(kmx_format::specs::TablesOf::items_of))]
-fn read_context(bytes: &[u8], place: usize, targets: &mut Vec<Target>) -> Result<(), VerifyError>
-    requires fits { length bytes.now ≤ FILE_BYTES }
-    requires place { place < FILE_BYTES }
-    ensures { ReportsFault (read_context_fault bytes.now place) (targets.new.items ≡ reached (context_targets bytes.now (word_at bytes.now place))) result }
+/// Checks an item of a context at a place. `targets` has the targets of the items before it, as far as offsets reach.
+fn check_context_item(
+    bytes: &[u8],
+    targets: &[Target],
+    item: UnitItem,
+    at: u32,
+) -> Result<(), VerifyError>
+    ensures { (before : List Target) → targets.now ≡ reached before → ReportsFault (item_fault bytes.now Context before item at) (Unit {0}) result }
 {
-    let offset = word_at(bytes, place);
-    match ended_string(bytes, offset) {
-        None => Err(VerifyError::Refused(Fault::of(Code::V10, place as u32))),
-        Some(string) => walk_context(bytes, offset, string, targets),
-    }
+    offset_is_unit(item);
+    Ok(check_item(bytes, StringKind::Context, targets, item, at)?)
 }
 
-/// Checks the context whose offset is stored at `place` and its number of items, and sets `targets` to the targets of its items.
-#[tactic(auto, using(crate::proofs::Reach::few_reached, crate::proofs::Reach::many_reached))]
-fn check_context(bytes: &[u8], place: usize, targets: &mut Vec<Target>) -> Result<(), VerifyError>
-    requires fits { length bytes.now ≤ FILE_BYTES }
-    requires place { place < FILE_BYTES }
-    ensures { ReportsFault (context_string_fault bytes.now place) (targets.new.items ≡ context_targets bytes.now (word_at bytes.now place)) result }
+/// Appends the target of an item, unless offsets do not reach it.
+///
+/// Errors: `Memory` if an allocation fails.
+#[tactic(auto, using(crate::proofs::Reach::reached_all, crate::proofs::Reach::reached_full))]
+fn add_target(targets: &mut Vec<Target>, item: UnitItem) -> Result<(), VerifyError>
+    requires { length targets.old.items ≤ OFFSET_REACH }
+    ensures { MatchResult result
+        (λ _. targets.new.items ≡ reached (targets.old.items ++ target_of item ∷ []))
+        (λ error. error ≡ VerifyError.Memory) }
 {
-    read_context(bytes, place, targets)?;
-    if targets.len() > CONTEXT_ITEMS {
-        return Err(VerifyError::Refused(Fault::of(Code::V15, place as u32)));
+    if targets.len() == OFFSET_REACH {
+        return Ok(());
     }
-    Ok(())
+    targets
+        .push(target_of(item))
+        .map_err(|_| VerifyError::Memory)
+}
+
+/// Checks the key record at `place`, and sets `targets` to what offsets can point at in its context.
+pub(crate) fn check_record(
+    bytes: &[u8],
+    using_keys: bool,
+    place: usize,
+    targets: &mut Vec<Target>,
+) -> Result<(), VerifyError>
+    requires fits { length bytes.now ≤ FILE_BYTES }
+    requires place { place + RULE_BYTES ≤ FILE_BYTES }
+    ensures { ReportsFault (record_fault bytes.now using_keys place) (targets.new.items ≡ context_targets bytes.now (word_at bytes.now (place + RULE_CONTEXT_AT))) result }
+{
+    check_flags(bytes, using_keys, place + RULE_FLAGS_AT)?;
+    check_context(bytes, place + RULE_CONTEXT_AT, targets)?;
+    Ok(check_output(bytes, StringKind::Output, targets, place + RULE_OUTPUT_AT)?)
 }
 
 /// Checks the shift flags of a key record.
@@ -129,20 +117,32 @@ fn check_flags(bytes: &[u8], using_keys: bool, place: usize) -> Result<(), Fault
     Ok(())
 }
 
-/// Checks the key record at `place`, and sets `targets` to what offsets can point at in its context.
-pub(crate) fn check_record(
-    bytes: &[u8],
-    using_keys: bool,
-    place: usize,
-    targets: &mut Vec<Target>,
-) -> Result<(), VerifyError>
+/// Checks the context whose offset is stored at `place` and its number of items, and sets `targets` to the targets of its items.
+#[tactic(auto, using(crate::proofs::Reach::few_reached, crate::proofs::Reach::many_reached))]
+fn check_context(bytes: &[u8], place: usize, targets: &mut Vec<Target>) -> Result<(), VerifyError>
     requires fits { length bytes.now ≤ FILE_BYTES }
-    requires place { place + RULE_BYTES ≤ FILE_BYTES }
-    ensures { ReportsFault (record_fault bytes.now using_keys place) (targets.new.items ≡ context_targets bytes.now (word_at bytes.now (place + RULE_CONTEXT_AT))) result }
+    requires place { place < FILE_BYTES }
+    ensures { ReportsFault (context_string_fault bytes.now place) (targets.new.items ≡ context_targets bytes.now (word_at bytes.now place)) result }
 {
-    check_flags(bytes, using_keys, place + RULE_FLAGS_AT)?;
-    check_context(bytes, place + RULE_CONTEXT_AT, targets)?;
-    Ok(check_output(bytes, StringKind::Output, targets, place + RULE_OUTPUT_AT)?)
+    read_context(bytes, place, targets)?;
+    if targets.len() > CONTEXT_ITEMS {
+        return Err(VerifyError::Refused(Fault::of(Code::V15, place as u32)));
+    }
+    Ok(())
+}
+
+/// Checks the items of the context whose offset is stored at `place`, and sets `targets` to what offsets can point at in it.
+#[tactic(auto, unfolding(kmx_format::specs::TablesOf::items_of))]
+fn read_context(bytes: &[u8], place: usize, targets: &mut Vec<Target>) -> Result<(), VerifyError>
+    requires fits { length bytes.now ≤ FILE_BYTES }
+    requires place { place < FILE_BYTES }
+    ensures { ReportsFault (read_context_fault bytes.now place) (targets.new.items ≡ reached (context_targets bytes.now (word_at bytes.now place))) result }
+{
+    let offset = word_at(bytes, place);
+    match ended_string(bytes, offset) {
+        None => Err(VerifyError::Refused(Fault::of(Code::V10, place as u32))),
+        Some(string) => walk_context(bytes, offset, string, targets),
+    }
 }
 
 /// Checks the key records of a group. `targets` is scratch space: its previous content is not read, and callers ignore what it

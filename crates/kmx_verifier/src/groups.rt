@@ -18,6 +18,52 @@ use kmx_format::places::{
 use kmx_format::sizes::{GROUP_BYTES, RULE_BYTES};
 use kmx_view::word_at;
 
+/// Checks `count` groups, whose records begin at `place`. `targets` is scratch space.
+pub(crate) fn check_groups(
+    bytes: &[u8],
+    place: u32,
+    count: u32,
+    targets: &mut Vec<Target>,
+) -> Result<(), VerifyError>
+    requires fits { length bytes.now ≤ FILE_BYTES }
+    requires stand { (count ≡ 0) ⊎ (place + GROUP_BYTES * count ≤ FILE_BYTES) }
+    ensures { ReportsFault (groups_fault bytes.now 0 place count) (Unit {0}) result }
+{
+    let mut records = 0;
+    for i in 0..count as usize {
+        records = check_group(bytes, records, place as usize + GROUP_BYTES * i, targets)?;
+    }
+    Ok(())
+}
+
+/// Checks the group whose record is at `place`, after `before` key records of earlier groups, and returns the number of key
+/// records so far. `targets` is scratch space.
+fn check_group(
+    bytes: &[u8],
+    before: usize,
+    place: usize,
+    targets: &mut Vec<Target>,
+) -> Result<usize, VerifyError>
+    requires fits { length bytes.now ≤ FILE_BYTES }
+    requires place { place + GROUP_BYTES ≤ FILE_BYTES }
+    requires before { before ≤ RECORDS }
+    ensures { MatchResult result
+        (λ count. (group_fault bytes.now before place ≡ None) × (count ≡ before + word_at bytes.now (place + GROUP_RULE_COUNT_AT)) × (count ≤ RECORDS))
+        (λ error. IsRefusal error (λ fault. group_fault bytes.now before place ≡ Some fault)) }
+{
+    let count = check_records_place(bytes, before, place)?;
+    check_group_strings(bytes, place)?;
+    let using_keys = word_at(bytes, place + GROUP_USING_KEYS_AT) != 0;
+    check_records(
+        bytes,
+        using_keys,
+        word_at(bytes, place + GROUP_RULES_AT),
+        word_at(bytes, place + GROUP_RULE_COUNT_AT),
+        targets,
+    )?;
+    Ok(count)
+}
+
 /// Checks the number of a group's key records, after `before` records of earlier groups, and that they are within the file.
 /// Returns the number of records so far.
 fn check_records_place(bytes: &[u8], before: usize, place: usize) -> Result<usize, Fault>
@@ -49,50 +95,4 @@ fn check_group_strings(bytes: &[u8], place: usize) -> Result<(), Fault>
     check_name(bytes, place)?;
     check_output(bytes, StringKind::Match, &[], place + GROUP_MATCH_AT)?;
     check_output(bytes, StringKind::Match, &[], place + GROUP_NOMATCH_AT)
-}
-
-/// Checks the group whose record is at `place`, after `before` key records of earlier groups, and returns the number of key
-/// records so far. `targets` is scratch space.
-fn check_group(
-    bytes: &[u8],
-    before: usize,
-    place: usize,
-    targets: &mut Vec<Target>,
-) -> Result<usize, VerifyError>
-    requires fits { length bytes.now ≤ FILE_BYTES }
-    requires place { place + GROUP_BYTES ≤ FILE_BYTES }
-    requires before { before ≤ RECORDS }
-    ensures { MatchResult result
-        (λ count. (group_fault bytes.now before place ≡ None) × (count ≡ before + word_at bytes.now (place + GROUP_RULE_COUNT_AT)) × (count ≤ RECORDS))
-        (λ error. IsRefusal error (λ fault. group_fault bytes.now before place ≡ Some fault)) }
-{
-    let count = check_records_place(bytes, before, place)?;
-    check_group_strings(bytes, place)?;
-    let using_keys = word_at(bytes, place + GROUP_USING_KEYS_AT) != 0;
-    check_records(
-        bytes,
-        using_keys,
-        word_at(bytes, place + GROUP_RULES_AT),
-        word_at(bytes, place + GROUP_RULE_COUNT_AT),
-        targets,
-    )?;
-    Ok(count)
-}
-
-/// Checks `count` groups, whose records begin at `place`. `targets` is scratch space.
-pub(crate) fn check_groups(
-    bytes: &[u8],
-    place: u32,
-    count: u32,
-    targets: &mut Vec<Target>,
-) -> Result<(), VerifyError>
-    requires fits { length bytes.now ≤ FILE_BYTES }
-    requires stand { (count ≡ 0) ⊎ (place + GROUP_BYTES * count ≤ FILE_BYTES) }
-    ensures { ReportsFault (groups_fault bytes.now 0 place count) (Unit {0}) result }
-{
-    let mut records = 0;
-    for i in 0..count as usize {
-        records = check_group(bytes, records, place as usize + GROUP_BYTES * i, targets)?;
-    }
-    Ok(())
 }

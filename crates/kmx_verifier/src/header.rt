@@ -63,14 +63,6 @@ pub(crate) fn check_header(bytes: &[u8]) -> Result<(), Fault>
     Ok(())
 }
 
-/// Returns whether `count` records of `size` bytes each are within the file from `place` on.
-fn stands(bytes: &[u8], place: u32, size: usize, count: u32) -> bool
-    requires { size ≤ GROUP_BYTES }
-    ensures { result ≡ is_within bytes.now place (size * count) }
-{
-    place as usize + size * count as usize <= bytes.len()
-}
-
 #[tactic(auto, unfolding(crate::specs::FaultOf::arrays_fault))]
 pub(crate) fn check_arrays(bytes: &[u8]) -> Result<(), Fault>
     ensures { Tells (arrays_fault bytes.now) result }
@@ -91,4 +83,12 @@ pub(crate) fn check_arrays(bytes: &[u8]) -> Result<(), Fault>
         return Err(Fault::of(Code::V16, PICTURE_AT as u32));
     }
     Ok(())
+}
+
+/// Returns whether `count` records of `size` bytes each are within the file from `place` on.
+fn stands(bytes: &[u8], place: u32, size: usize, count: u32) -> bool
+    requires { size ≤ GROUP_BYTES }
+    ensures { result ≡ is_within bytes.now place (size * count) }
+{
+    place as usize + size * count as usize <= bytes.len()
 }

@@ -18,6 +18,62 @@ const PLATFORM: u16 = system::PLATFORM as u16 + 1;
 /// The layer as an operand of an item, also counted from 1.
 const LAYER: u16 = system::LAYER as u16 + 1;
 
+/// Returns the number of bytes of an item.
+pub(crate) fn spelled_size(item: UnitItem) -> u32
+    ensures { result ≡ spelled_size item }
+{
+    2 * unit_count(item)
+}
+
+/// Returns what an offset finds at an item of a context.
+pub(crate) fn target_of(item: UnitItem) -> Target
+    ensures { result ≡ target_of item }
+{
+    match item {
+        UnitItem::Any(_) => Target::Any,
+        UnitItem::Test(_, _, _) | UnitItem::SystemTest(_, _, _) | UnitItem::Nul => Target::Nothing,
+        _ => Target::Pattern,
+    }
+}
+
+/// Checks an item at a place.
+pub(crate) fn check_item(
+    bytes: &[u8],
+    kind: StringKind,
+    targets: &[Target],
+    item: UnitItem,
+    at: u32,
+) -> Result<(), Fault>
+    ensures { Tells (item_fault bytes.now kind targets.now item at) result }
+{
+    if !is_permitted(kind, item) {
+        return Err(Fault {
+            code: Code::V14,
+            at,
+            unit: code_of(item),
+        });
+    }
+    if names_outside(bytes, item) {
+        return Err(Fault::of(Code::V12, at));
+    }
+    if !points_right(targets, item) {
+        return Err(Fault::of(Code::V13, at));
+    }
+    Ok(())
+}
+
+/// Returns whether an item is allowed in a string of a kind.
+fn is_permitted(kind: StringKind, item: UnitItem) -> bool
+    ensures { result ≡ is_permitted kind item }
+{
+    match kind {
+        StringKind::Store => is_allowed_in_store(item),
+        StringKind::Context => is_allowed_in_context(item),
+        StringKind::Output => is_allowed_in_output(item),
+        StringKind::Match => is_allowed_in_match(item),
+    }
+}
+
 fn is_allowed_in_store(item: UnitItem) -> bool
     ensures { result ≡ is_allowed_in_store item }
 {
@@ -44,6 +100,15 @@ fn is_allowed_in_context(item: UnitItem) -> bool
     }
 }
 
+fn is_allowed_in_output(item: UnitItem) -> bool
+    ensures { result ≡ is_allowed_in_output item }
+{
+    match item {
+        UnitItem::Index(_, _) | UnitItem::Context | UnitItem::ContextAt(_) => true,
+        _ => is_allowed_in_match(item),
+    }
+}
+
 fn is_allowed_in_match(item: UnitItem) -> bool
     ensures { result ≡ is_allowed_in_match item }
 {
@@ -59,27 +124,6 @@ fn is_allowed_in_match(item: UnitItem) -> bool
         | UnitItem::Stop => true,
         UnitItem::SetSystem(system, _) => system == LAYER,
         _ => false,
-    }
-}
-
-fn is_allowed_in_output(item: UnitItem) -> bool
-    ensures { result ≡ is_allowed_in_output item }
-{
-    match item {
-        UnitItem::Index(_, _) | UnitItem::Context | UnitItem::ContextAt(_) => true,
-        _ => is_allowed_in_match(item),
-    }
-}
-
-/// Returns whether an item is allowed in a string of a kind.
-fn is_permitted(kind: StringKind, item: UnitItem) -> bool
-    ensures { result ≡ is_permitted kind item }
-{
-    match kind {
-        StringKind::Store => is_allowed_in_store(item),
-        StringKind::Context => is_allowed_in_context(item),
-        StringKind::Output => is_allowed_in_output(item),
-        StringKind::Match => is_allowed_in_match(item),
     }
 }
 
@@ -109,13 +153,6 @@ fn code_of(item: UnitItem) -> u16
     }
 }
 
-/// Returns the number of bytes of an item.
-pub(crate) fn spelled_size(item: UnitItem) -> u32
-    ensures { result ≡ spelled_size item }
-{
-    2 * unit_count(item)
-}
-
 /// Returns whether an item names a store or group that the file doesn't have.
 fn names_outside(bytes: &[u8], item: UnitItem) -> bool
     ensures { result ≡ names_outside bytes.now item }
@@ -137,27 +174,6 @@ fn names_outside(bytes: &[u8], item: UnitItem) -> bool
     }
 }
 
-/// Returns what an offset finds at an item of a context.
-pub(crate) fn target_of(item: UnitItem) -> Target
-    ensures { result ≡ target_of item }
-{
-    match item {
-        UnitItem::Any(_) => Target::Any,
-        UnitItem::Test(_, _, _) | UnitItem::SystemTest(_, _, _) | UnitItem::Nul => Target::Nothing,
-        _ => Target::Pattern,
-    }
-}
-
-/// Returns what an offset, counted from 1, finds.
-fn target_at(targets: &[Target], offset: u16) -> Option<Target>
-    ensures { result ≡ target_at targets.now offset }
-{
-    if offset == 0 {
-        return None;
-    }
-    targets.get(offset as usize - 1).copied()
-}
-
 /// Returns whether the offset of an item points at an allowed target.
 fn points_right(targets: &[Target], item: UnitItem) -> bool
     ensures { result ≡ points_right targets.now item }
@@ -174,30 +190,14 @@ fn points_right(targets: &[Target], item: UnitItem) -> bool
     }
 }
 
-/// Checks an item at a place.
-pub(crate) fn check_item(
-    bytes: &[u8],
-    kind: StringKind,
-    targets: &[Target],
-    item: UnitItem,
-    at: u32,
-) -> Result<(), Fault>
-    ensures { Tells (item_fault bytes.now kind targets.now item at) result }
+/// Returns what an offset, counted from 1, finds.
+fn target_at(targets: &[Target], offset: u16) -> Option<Target>
+    ensures { result ≡ target_at targets.now offset }
 {
-    if !is_permitted(kind, item) {
-        return Err(Fault {
-            code: Code::V14,
-            at,
-            unit: code_of(item),
-        });
+    if offset == 0 {
+        return None;
     }
-    if names_outside(bytes, item) {
-        return Err(Fault::of(Code::V12, at));
-    }
-    if !points_right(targets, item) {
-        return Err(Fault::of(Code::V13, at));
-    }
-    Ok(())
+    targets.get(offset as usize - 1).copied()
 }
 
 /// Returns the fault of a place at which no item is spelled.

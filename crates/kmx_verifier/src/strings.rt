@@ -45,19 +45,6 @@ pub(crate) fn walk(
     Ok(count)
 }
 
-#[tactic(auto, using(crate::proofs::Walking::string_halved))]
-/// Returns the number of units of the string at an offset, or `None` if the string is outside the file or has no zero unit.
-fn unit_count(bytes: &[u8], offset: u32) -> Option<usize>
-    ensures { MatchOption result
-        (is_ended bytes.now offset ≡ false)
-        (λ count. (is_ended bytes.now offset ≡ true) × (count ≡ length (string_at bytes.now offset))) }
-{
-    match ended_string(bytes, offset) {
-        None => None,
-        Some(string) => Some(string.len() / 2),
-    }
-}
-
 /// Checks the name whose offset is stored at `place`.
 pub(crate) fn check_name(bytes: &[u8], place: usize) -> Result<(), Fault>
     requires place { place < FILE_BYTES }
@@ -72,6 +59,37 @@ pub(crate) fn check_name(bytes: &[u8], place: usize) -> Result<(), Fault>
             Ok(())
         }
     }
+}
+
+#[tactic(auto, using(crate::proofs::Walking::string_halved))]
+/// Returns the number of units of the string at an offset, or `None` if the string is outside the file or has no zero unit.
+fn unit_count(bytes: &[u8], offset: u32) -> Option<usize>
+    ensures { MatchOption result
+        (is_ended bytes.now offset ≡ false)
+        (λ count. (is_ended bytes.now offset ≡ true) × (count ≡ length (string_at bytes.now offset))) }
+{
+    match ended_string(bytes, offset) {
+        None => None,
+        Some(string) => Some(string.len() / 2),
+    }
+}
+
+/// Checks the output whose offset is stored at `place`. Its offsets point into the context that has these `targets`.
+pub(crate) fn check_output(
+    bytes: &[u8],
+    kind: StringKind,
+    targets: &[Target],
+    place: usize,
+) -> Result<(), Fault>
+    requires fits { length bytes.now ≤ FILE_BYTES }
+    requires place { place < FILE_BYTES }
+    ensures { Tells (string_fault bytes.now kind targets.now place (nat_lt OUTPUT_ITEMS)) result }
+{
+    let count = read_string(bytes, kind, targets, place)?;
+    if count > OUTPUT_ITEMS {
+        return Err(Fault::of(Code::V15, place as u32));
+    }
+    Ok(())
 }
 
 #[tactic(auto, unfolding(kmx_format::specs::TablesOf::items_of))]
@@ -93,24 +111,6 @@ fn read_string(
         None => Err(Fault::of(Code::V10, place as u32)),
         Some(string) => walk(bytes, kind, targets, offset, string),
     }
-}
-
-/// Checks the output whose offset is stored at `place`. Its offsets point into the context that has these `targets`.
-pub(crate) fn check_output(
-    bytes: &[u8],
-    kind: StringKind,
-    targets: &[Target],
-    place: usize,
-) -> Result<(), Fault>
-    requires fits { length bytes.now ≤ FILE_BYTES }
-    requires place { place < FILE_BYTES }
-    ensures { Tells (string_fault bytes.now kind targets.now place (nat_lt OUTPUT_ITEMS)) result }
-{
-    let count = read_string(bytes, kind, targets, place)?;
-    if count > OUTPUT_ITEMS {
-        return Err(Fault::of(Code::V15, place as u32));
-    }
-    Ok(())
 }
 
 /// Checks the content of a store after `before` elements of earlier stores, and returns the number of elements so far.

@@ -7,13 +7,16 @@ use kmx_parts::{FileGroup, FileRule, FileStore, FileTables};
 use rule_model::{Group, Rule, Store, Tables};
 use std::alloc::Global;
 
-fn copied_store(alloc: Global, store: &FileStore<'_>) -> Result<Store, Memory>
-    ensures { IfOk result (λ copy. copy ≡ store.now) }
+/// Copies the tables of a file.
+pub(crate) fn copied(alloc: Global, file: &FileTables<'_>) -> Result<Tables, Memory>
+    ensures { IfOk result (λ copy. copy ≡ file.now) }
 {
-    Ok(Store {
-        system: store.system(),
-        name: store.name(alloc)?,
-        elements: Seq::from_vec(store.elements().collect(alloc)?),
+    Ok(Tables {
+        version: file.version(),
+        start_ansi: file.start_ansi(),
+        start_unicode: file.start_unicode(),
+        stores: copied_stores(alloc, file)?,
+        groups: copied_groups(alloc, file)?,
     })
 }
 
@@ -27,26 +30,24 @@ fn copied_stores(alloc: Global, file: &FileTables<'_>) -> Result<Seq<Store>, Mem
     Ok(stores)
 }
 
-fn copied_rule(alloc: Global, rule: &FileRule<'_>) -> Result<Rule, Memory>
-    ensures { IfOk result (λ copy. copy ≡ rule.now) }
+fn copied_store(alloc: Global, store: &FileStore<'_>) -> Result<Store, Memory>
+    ensures { IfOk result (λ copy. copy ≡ store.now) }
 {
-    Ok(Rule {
-        line: rule.line(),
-        place: rule.source_place(),
-        key: rule.key(),
-        context: Seq::from_vec(rule.context().collect(alloc)?),
-        output: Seq::from_vec(rule.output().collect(alloc)?),
+    Ok(Store {
+        system: store.system(),
+        name: store.name(alloc)?,
+        elements: Seq::from_vec(store.elements().collect(alloc)?),
     })
 }
 
-fn copied_rules(alloc: Global, group: &FileGroup<'_>) -> Result<Seq<Rule>, Memory>
-    ensures { IfOk result (λ copy. copy ≡ group.now.rules) }
+fn copied_groups(alloc: Global, file: &FileTables<'_>) -> Result<Seq<Group>, Memory>
+    ensures { IfOk result (λ copy. copy ≡ file.now.groups) }
 {
-    let mut rules = Seq::new(alloc);
-    for rule in group.rules() {
-        rules.add(copied_rule(alloc, &rule)?)?;
+    let mut groups = Seq::new(alloc);
+    for group in file.groups() {
+        groups.add(copied_group(alloc, &group)?)?;
     }
-    Ok(rules)
+    Ok(groups)
 }
 
 fn copied_group(alloc: Global, group: &FileGroup<'_>) -> Result<Group, Memory>
@@ -61,25 +62,24 @@ fn copied_group(alloc: Global, group: &FileGroup<'_>) -> Result<Group, Memory>
     })
 }
 
-fn copied_groups(alloc: Global, file: &FileTables<'_>) -> Result<Seq<Group>, Memory>
-    ensures { IfOk result (λ copy. copy ≡ file.now.groups) }
+fn copied_rules(alloc: Global, group: &FileGroup<'_>) -> Result<Seq<Rule>, Memory>
+    ensures { IfOk result (λ copy. copy ≡ group.now.rules) }
 {
-    let mut groups = Seq::new(alloc);
-    for group in file.groups() {
-        groups.add(copied_group(alloc, &group)?)?;
+    let mut rules = Seq::new(alloc);
+    for rule in group.rules() {
+        rules.add(copied_rule(alloc, &rule)?)?;
     }
-    Ok(groups)
+    Ok(rules)
 }
 
-/// Copies the tables of a file.
-pub(crate) fn copied(alloc: Global, file: &FileTables<'_>) -> Result<Tables, Memory>
-    ensures { IfOk result (λ copy. copy ≡ file.now) }
+fn copied_rule(alloc: Global, rule: &FileRule<'_>) -> Result<Rule, Memory>
+    ensures { IfOk result (λ copy. copy ≡ rule.now) }
 {
-    Ok(Tables {
-        version: file.version(),
-        start_ansi: file.start_ansi(),
-        start_unicode: file.start_unicode(),
-        stores: copied_stores(alloc, file)?,
-        groups: copied_groups(alloc, file)?,
+    Ok(Rule {
+        line: rule.line(),
+        place: rule.source_place(),
+        key: rule.key(),
+        context: Seq::from_vec(rule.context().collect(alloc)?),
+        output: Seq::from_vec(rule.output().collect(alloc)?),
     })
 }

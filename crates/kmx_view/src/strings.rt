@@ -7,6 +7,20 @@ ghost use Rattle.kmx_view.specs.View.{is_ended};
 
 use kmn_base::slices::behind;
 
+/// Returns the bytes of the string at an offset, without its zero unit. Offset 0 is the empty string. A string without a zero
+/// unit ends at the last whole unit.
+#[tactic(auto, unfolding(kmx_format::specs::TablesOf::string_at))]
+pub fn string_bytes(bytes: &[u8], offset: u32) -> &[u8]
+    ensures units { result.now ≡ unit_bytes (string_at bytes.now offset) }
+    ensures within { length result.now ≤ length bytes.now }
+    ensures place { (length result.now ≡ 0) ⊎ (offset + length result.now ≤ length bytes.now) }
+{
+    if offset == 0 {
+        return &[];
+    }
+    bytes_before_zero(behind(bytes, offset as usize))
+}
+
 /// Returns the bytes before the first zero unit.
 fn bytes_before_zero(bytes: &[u8]) -> &[u8]
     ensures units { result.now ≡ unit_bytes (before_zero (whole_units bytes.now)) }
@@ -20,20 +34,6 @@ fn bytes_before_zero(bytes: &[u8]) -> &[u8]
         rest = behind;
     }
     &bytes[..bytes.len() - rest.len()]
-}
-
-/// Returns the bytes of the string at an offset, without its zero unit. Offset 0 is the empty string. A string without a zero
-/// unit ends at the last whole unit.
-#[tactic(auto, unfolding(kmx_format::specs::TablesOf::string_at))]
-pub fn string_bytes(bytes: &[u8], offset: u32) -> &[u8]
-    ensures units { result.now ≡ unit_bytes (string_at bytes.now offset) }
-    ensures within { length result.now ≤ length bytes.now }
-    ensures place { (length result.now ≡ 0) ⊎ (offset + length result.now ≤ length bytes.now) }
-{
-    if offset == 0 {
-        return &[];
-    }
-    bytes_before_zero(behind(bytes, offset as usize))
 }
 
 /// Returns the bytes of the string at an offset, without its zero unit. Offset 0 is the empty string. Returns None exactly when

@@ -14,17 +14,6 @@ use kmn_base::{Memory, Seq};
 use kmx_format::sizes::RULE_BYTES;
 use rule_model::Group;
 
-/// Returns the number of bytes of the strings of a group.
-fn strings_size(group: &Group) -> u64
-    requires spellable { IsSpellableGroup group.now }
-    requires fits { length (group_strings group.now) < 2 ^ 62 }
-    ensures { result ≡ length (group_strings group.now) }
-{
-    name_size(group.name.as_slice())
-        + string_size(group.on_match.as_slice())
-        + string_size(group.on_nomatch.as_slice())
-}
-
 /// Returns the number of bytes of the strings of all groups.
 pub(crate) fn all_strings_size(groups: &[Group]) -> u64
     requires spellable { All IsSpellableGroup groups.now }
@@ -38,6 +27,17 @@ pub(crate) fn all_strings_size(groups: &[Group]) -> u64
     size
 }
 
+/// Returns the number of bytes of the strings of a group.
+fn strings_size(group: &Group) -> u64
+    requires spellable { IsSpellableGroup group.now }
+    requires fits { length (group_strings group.now) < 2 ^ 62 }
+    ensures { result ≡ length (group_strings group.now) }
+{
+    name_size(group.name.as_slice())
+        + string_size(group.on_match.as_slice())
+        + string_size(group.on_nomatch.as_slice())
+}
+
 /// Returns the number of bytes of the strings of the key records of all groups.
 pub(crate) fn rule_strings_size(groups: &[Group]) -> u64
     requires spellable { All IsSpellableGroup groups.now }
@@ -49,6 +49,27 @@ pub(crate) fn rule_strings_size(groups: &[Group]) -> u64
         size += rules::all_strings_size(group.rules.as_slice());
     }
     size
+}
+
+/// Appends the group array. The key records of the groups begin at `rules_place`, and their strings at `place`.
+pub(crate) fn put_records(
+    out: &mut Seq<u8>,
+    rules_place: u32,
+    place: u32,
+    groups: &[Group],
+) -> Result<(), Memory>
+    requires spellable { All IsSpellableGroup groups.now }
+    requires rules_fit { rules_place + RULE_BYTES * length (flat_map rules_of groups.now) < 2 ^ 32 }
+    requires fits { place + length (flat_map group_strings groups.now) < 2 ^ 32 }
+    ensures { OnOk result (out.new ≡ out.old ++ group_records rules_place place groups.now) }
+{
+    let mut rules_place = rules_place;
+    let mut place = place;
+    for group in groups {
+        place = put_record(out, rules_place, place, group)?;
+        rules_place += (RULE_BYTES * group.rules.len()) as u32;
+    }
+    Ok(())
 }
 
 /// Appends the record of a group whose key records begin at `rules_place` and whose strings begin at `place`. Returns the
@@ -83,23 +104,13 @@ fn put_record(out: &mut Seq<u8>, rules_place: u32, place: u32, group: &Group) ->
     Ok(place + name_bytes + match_bytes + nomatch_bytes)
 }
 
-/// Appends the group array. The key records of the groups begin at `rules_place`, and their strings at `place`.
-pub(crate) fn put_records(
-    out: &mut Seq<u8>,
-    rules_place: u32,
-    place: u32,
-    groups: &[Group],
-) -> Result<(), Memory>
-    requires spellable { All IsSpellableGroup groups.now }
-    requires rules_fit { rules_place + RULE_BYTES * length (flat_map rules_of groups.now) < 2 ^ 32 }
-    requires fits { place + length (flat_map group_strings groups.now) < 2 ^ 32 }
-    ensures { OnOk result (out.new ≡ out.old ++ group_records rules_place place groups.now) }
+/// Appends the strings of groups.
+pub(crate) fn put_strings(out: &mut Seq<u8>, groups: &[Group]) -> Result<(), Memory>
+    requires { All IsSpellableGroup groups.now }
+    ensures { OnOk result (out.new ≡ out.old ++ flat_map group_strings groups.now) }
 {
-    let mut rules_place = rules_place;
-    let mut place = place;
     for group in groups {
-        place = put_record(out, rules_place, place, group)?;
-        rules_place += (RULE_BYTES * group.rules.len()) as u32;
+        put_group_strings(out, group)?;
     }
     Ok(())
 }
@@ -112,17 +123,6 @@ fn put_group_strings(out: &mut Seq<u8>, group: &Group) -> Result<(), Memory>
     put_name(out, group.name.as_slice())?;
     put_string(out, group.on_match.as_slice())?;
     put_string(out, group.on_nomatch.as_slice())
-}
-
-/// Appends the strings of groups.
-pub(crate) fn put_strings(out: &mut Seq<u8>, groups: &[Group]) -> Result<(), Memory>
-    requires { All IsSpellableGroup groups.now }
-    ensures { OnOk result (out.new ≡ out.old ++ flat_map group_strings groups.now) }
-{
-    for group in groups {
-        put_group_strings(out, group)?;
-    }
-    Ok(())
 }
 
 /// Appends the key arrays of groups. The strings of the key records begin at `place`.

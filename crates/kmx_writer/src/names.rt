@@ -11,14 +11,14 @@ use item_codec::{char_unit_count, put_char};
 use kmn_base::{Memory, Seq};
 use std::str;
 
-fn text_of(name: &[u8]) -> &str
-    requires { IsUtf8 name.now }
-    ensures { result.now ≡ name.now }
+/// Returns the number of bytes of the string of a name.
+#[tactic(auto, using(crate::proofs::Strings::length_string, crate::proofs::Strings::units_within))]
+pub(crate) fn name_size(name: &[u8]) -> u64
+    requires utf8 { IsUtf8 name.now }
+    requires fits { length (string (name_units name.now)) < 2 ^ 62 }
+    ensures { result ≡ length (string (name_units name.now)) }
 {
-    match str::from_utf8(name) {
-        Ok(text) => text,
-        Err(_) => unreachable!(),
-    }
+    size_of_units(name_unit_count(name))
 }
 
 /// Returns the number of units of a name.
@@ -35,26 +35,14 @@ fn name_unit_count(name: &[u8]) -> u64
     count
 }
 
-/// Appends the units of a name.
-#[tactic(auto, unfolding(kmx_format::specs::FileUnits::name_units))]
-fn put_name_units(out: &mut Seq<u8>, name: &[u8]) -> Result<(), Memory>
+fn text_of(name: &[u8]) -> &str
     requires { IsUtf8 name.now }
-    ensures { OnOk result (out.new ≡ out.old ++ unit_bytes (name_units name.now)) }
+    ensures { result.now ≡ name.now }
 {
-    for c in text_of(name).chars() {
-        put_char(out, c)?;
+    match str::from_utf8(name) {
+        Ok(text) => text,
+        Err(_) => unreachable!(),
     }
-    Ok(())
-}
-
-/// Returns the number of bytes of the string of a name.
-#[tactic(auto, using(crate::proofs::Strings::length_string, crate::proofs::Strings::units_within))]
-pub(crate) fn name_size(name: &[u8]) -> u64
-    requires utf8 { IsUtf8 name.now }
-    requires fits { length (string (name_units name.now)) < 2 ^ 62 }
-    ensures { result ≡ length (string (name_units name.now)) }
-{
-    size_of_units(name_unit_count(name))
 }
 
 /// Appends the string of a name.
@@ -67,4 +55,16 @@ pub(crate) fn put_name(out: &mut Seq<u8>, name: &[u8]) -> Result<(), Memory>
     }
     put_name_units(out, name)?;
     put_units(out, &[0])
+}
+
+/// Appends the units of a name.
+#[tactic(auto, unfolding(kmx_format::specs::FileUnits::name_units))]
+fn put_name_units(out: &mut Seq<u8>, name: &[u8]) -> Result<(), Memory>
+    requires { IsUtf8 name.now }
+    ensures { OnOk result (out.new ≡ out.old ++ unit_bytes (name_units name.now)) }
+{
+    for c in text_of(name).chars() {
+        put_char(out, c)?;
+    }
+    Ok(())
 }

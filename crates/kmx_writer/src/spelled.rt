@@ -11,6 +11,16 @@ use item_codec::{spell, unit_count};
 use kmn_base::{Memory, Seq};
 use kmx_format::Spelled;
 
+/// Returns the number of bytes of the string of these items.
+#[tactic(auto, using(crate::proofs::Strings::length_string, crate::proofs::Strings::units_within))]
+pub(crate) fn string_size<T: Spelled>(items: &[T]) -> u64
+    requires spellable { All (λ item. IsSpellable (T.spelled item)) items.now }
+    requires fits { length (string (item_units (map T.spelled items.now))) < 2 ^ 63 }
+    ensures { result ≡ length (string (item_units (map T.spelled items.now))) }
+{
+    size_of_units(item_unit_count(items))
+}
+
 /// Returns the number of units of the items.
 #[tactic(auto, unfolding(kmx_format::specs::FileUnits::item_units))]
 fn item_unit_count<T: Spelled>(items: &[T]) -> u64
@@ -25,28 +35,6 @@ fn item_unit_count<T: Spelled>(items: &[T]) -> u64
     count
 }
 
-/// Appends the units of items.
-#[tactic(auto, unfolding(kmx_format::specs::FileUnits::item_units))]
-fn put_items<T: Spelled>(out: &mut Seq<u8>, items: &[T]) -> Result<(), Memory>
-    requires { All (λ item. IsSpellable (T.spelled item)) items.now }
-    ensures { OnOk result (out.new ≡ out.old ++ unit_bytes (item_units (map T.spelled items.now))) }
-{
-    for item in items {
-        spell(out, item.unit_item())?;
-    }
-    Ok(())
-}
-
-/// Returns the number of bytes of the string of these items.
-#[tactic(auto, using(crate::proofs::Strings::length_string, crate::proofs::Strings::units_within))]
-pub(crate) fn string_size<T: Spelled>(items: &[T]) -> u64
-    requires spellable { All (λ item. IsSpellable (T.spelled item)) items.now }
-    requires fits { length (string (item_units (map T.spelled items.now))) < 2 ^ 63 }
-    ensures { result ≡ length (string (item_units (map T.spelled items.now))) }
-{
-    size_of_units(item_unit_count(items))
-}
-
 /// Appends the string of these items.
 pub(crate) fn put_string<T: Spelled>(out: &mut Seq<u8>, items: &[T]) -> Result<(), Memory>
     requires { All (λ item. IsSpellable (T.spelled item)) items.now }
@@ -57,4 +45,16 @@ pub(crate) fn put_string<T: Spelled>(out: &mut Seq<u8>, items: &[T]) -> Result<(
     }
     put_items(out, items)?;
     put_units(out, &[0])
+}
+
+/// Appends the units of items.
+#[tactic(auto, unfolding(kmx_format::specs::FileUnits::item_units))]
+fn put_items<T: Spelled>(out: &mut Seq<u8>, items: &[T]) -> Result<(), Memory>
+    requires { All (λ item. IsSpellable (T.spelled item)) items.now }
+    ensures { OnOk result (out.new ≡ out.old ++ unit_bytes (item_units (map T.spelled items.now))) }
+{
+    for item in items {
+        spell(out, item.unit_item())?;
+    }
+    Ok(())
 }

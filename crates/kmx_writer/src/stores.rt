@@ -11,15 +11,6 @@ use crate::units::{offset_of, put_words};
 use kmn_base::{Memory, Seq};
 use rule_model::Store;
 
-/// Returns the number of bytes of the strings of a store.
-fn strings_size(store: &Store) -> u64
-    requires writable { IsWritableStore store.now }
-    requires fits { length (store_strings store.now) < 2 ^ 62 }
-    ensures { result ≡ length (store_strings store.now) }
-{
-    name_size(store.name.as_slice()) + string_size(store.elements.as_slice())
-}
-
 /// Returns the number of bytes of the strings of all stores.
 pub(crate) fn all_strings_size(stores: &[Store]) -> u64
     requires writable { All IsWritableStore stores.now }
@@ -31,6 +22,28 @@ pub(crate) fn all_strings_size(stores: &[Store]) -> u64
         size += strings_size(store);
     }
     size
+}
+
+/// Returns the number of bytes of the strings of a store.
+fn strings_size(store: &Store) -> u64
+    requires writable { IsWritableStore store.now }
+    requires fits { length (store_strings store.now) < 2 ^ 62 }
+    ensures { result ≡ length (store_strings store.now) }
+{
+    name_size(store.name.as_slice()) + string_size(store.elements.as_slice())
+}
+
+/// Appends the store array. The strings of the stores begin at `place`.
+pub(crate) fn put_records(out: &mut Seq<u8>, place: u32, stores: &[Store]) -> Result<(), Memory>
+    requires writable { All IsWritableStore stores.now }
+    requires fits { place + length (flat_map store_strings stores.now) < 2 ^ 32 }
+    ensures { OnOk result (out.new ≡ out.old ++ store_records place stores.now) }
+{
+    let mut place = place;
+    for store in stores {
+        place = put_record(out, place, store)?;
+    }
+    Ok(())
 }
 
 /// Appends the record of a store whose strings begin at `place`, and returns the offset after them.
@@ -47,19 +60,6 @@ fn put_record(out: &mut Seq<u8>, place: u32, store: &Store) -> Result<u32, Memor
     let elements = offset_of(element_bytes, place + name_bytes);
     put_words(out, &[store.system, name, elements])?;
     Ok(place + name_bytes + element_bytes)
-}
-
-/// Appends the store array. The strings of the stores begin at `place`.
-pub(crate) fn put_records(out: &mut Seq<u8>, place: u32, stores: &[Store]) -> Result<(), Memory>
-    requires writable { All IsWritableStore stores.now }
-    requires fits { place + length (flat_map store_strings stores.now) < 2 ^ 32 }
-    ensures { OnOk result (out.new ≡ out.old ++ store_records place stores.now) }
-{
-    let mut place = place;
-    for store in stores {
-        place = put_record(out, place, store)?;
-    }
-    Ok(())
 }
 
 /// Appends the strings of stores.

@@ -17,27 +17,39 @@ use std::alloc::Global;
 use virtual_keys::codes::K_BKSP;
 use virtual_keys::{char_of, is_plain, named_chars};
 
-/// Returns whether a list has a character.
-fn has_character(items: &[Item]) -> bool
-    ensures { result ≡ nat_lt 0 (length (characters items.now)) }
+/// Performs the default of a group with keys.
+#[tactic(auto, unfolding(rule_model::specs::Enter::by_default))]
+pub fn by_default(
+    indexed: &IndexedTables,
+    press: KeyPress,
+    state: &mut EventState,
+) -> Result<(), Memory>
+    ensures { OnOk result (state.new ≡ by_default (tab indexed.now) press state.old) }
 {
-    for item in items {
-        if let Item::Char(_) = item {
-            return true;
-        }
+    match indexed.own_key(press.code) {
+        Some(name) => put_named(indexed.alloc(), name, state),
+        None => put_press(indexed.alloc(), press, state),
     }
-    false
 }
 
-/// Performs a key press that has no character: a plain backspace deletes the last character, if any. Any other press is passed on.
-fn delete_or_pass(press: KeyPress, state: &mut EventState)
-    ensures { state.new ≡ delete_or_pass press state.old }
+/// Puts the characters that a name denotes. Any other name has no effect.
+fn put_named(alloc: Global, name: &[u8], state: &mut EventState) -> Result<(), Memory>
+    ensures { OnOk result (state.new ≡ put_named (name_chars name.now) state.old) }
 {
-    if press.code == K_BKSP && is_plain(press) && has_character(state.left.as_slice()) {
-        take_character(&mut state.left);
-    } else {
-        state.pass = true;
+    match named_chars(name) {
+        Some(chars) => put_chars(alloc, chars.as_slice(), state),
+        None => Ok(()),
     }
+}
+
+/// Puts characters.
+fn put_chars(alloc: Global, chars: &[char], state: &mut EventState) -> Result<(), Memory>
+    ensures { OnOk result (state.new ≡ put_items (map Item.Char chars.now) state.old) }
+{
+    for c in chars {
+        put_item(alloc, Item::Char(*c), state)?;
+    }
+    Ok(())
 }
 
 /// Performs a press whose key is not in the key dictionary: puts its character, or deletes back or passes the press on.
@@ -53,37 +65,25 @@ fn put_press(alloc: Global, press: KeyPress, state: &mut EventState) -> Result<(
     }
 }
 
-/// Puts characters.
-fn put_chars(alloc: Global, chars: &[char], state: &mut EventState) -> Result<(), Memory>
-    ensures { OnOk result (state.new ≡ put_items (map Item.Char chars.now) state.old) }
+/// Performs a key press that has no character: a plain backspace deletes the last character, if any. Any other press is passed on.
+fn delete_or_pass(press: KeyPress, state: &mut EventState)
+    ensures { state.new ≡ delete_or_pass press state.old }
 {
-    for c in chars {
-        put_item(alloc, Item::Char(*c), state)?;
-    }
-    Ok(())
-}
-
-/// Puts the characters that a name denotes. Any other name has no effect.
-fn put_named(alloc: Global, name: &[u8], state: &mut EventState) -> Result<(), Memory>
-    ensures { OnOk result (state.new ≡ put_named (name_chars name.now) state.old) }
-{
-    match named_chars(name) {
-        Some(chars) => put_chars(alloc, chars.as_slice(), state),
-        None => Ok(()),
+    if press.code == K_BKSP && is_plain(press) && has_character(state.left.as_slice()) {
+        take_character(&mut state.left);
+    } else {
+        state.pass = true;
     }
 }
 
-/// Performs the default of a group with keys.
-#[tactic(auto, unfolding(rule_model::specs::Enter::by_default))]
-pub fn by_default(
-    indexed: &IndexedTables,
-    press: KeyPress,
-    state: &mut EventState,
-) -> Result<(), Memory>
-    ensures { OnOk result (state.new ≡ by_default (tab indexed.now) press state.old) }
+/// Returns whether a list has a character.
+fn has_character(items: &[Item]) -> bool
+    ensures { result ≡ nat_lt 0 (length (characters items.now)) }
 {
-    match indexed.own_key(press.code) {
-        Some(name) => put_named(indexed.alloc(), name, state),
-        None => put_press(indexed.alloc(), press, state),
+    for item in items {
+        if let Item::Char(_) = item {
+            return true;
+        }
     }
+    false
 }

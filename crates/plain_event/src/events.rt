@@ -20,6 +20,63 @@ use rule_model::{EventState, Tables, common_prefix, moved_caret};
 use std::alloc::Global;
 use virtual_keys::is_plain;
 
+/// Performs an event on a state, by the meaning of tables. Returns the new state and the lines of the rules that the event
+/// selected. Does not check the limits of an event's text.
+#[tactic(auto, unfolding(rule_model::specs::Event::happening))]
+pub fn traced_event(
+    alloc: Global,
+    tables: &Tables,
+    state: &PlainState,
+    event: &Event,
+) -> Result<Traced, Memory>
+    requires state { IsStateOf tables.now state.now }
+    requires places { IsWithin (whole_text (state_of tables.now state.now)) event.now }
+    ensures step { IfOk result (λ traced. IsPlainStep tables.now state.now event.now traced.state) }
+    ensures lines { IfOk result (λ traced. traced.lines ≡ chosen (tab tables.now) (state_of tables.now state.now) event.now) }
+{
+    let indexed = IndexedTables::new(alloc, tables)?;
+    match event {
+        Event::Key(press) => key_event(&indexed, *press, state),
+        Event::Setting { name, value } => {
+            let after = setting_event(&indexed, name.as_slice(), value.as_slice(), state)?;
+            Ok(without_lines(alloc, after))
+        }
+        Event::Caret(place) => {
+            let after = caret_event(alloc, *place, state)?;
+            Ok(without_lines(alloc, after))
+        }
+        Event::Edit { from, to, text } => {
+            let after = edit_event(alloc, *from, *to, text.as_slice(), state)?;
+            Ok(without_lines(alloc, after))
+        }
+    }
+}
+
+/// Performs a key press.
+fn key_event(indexed: &IndexedTables, press: KeyPress, state: &PlainState) -> Result<Traced, Memory>
+    requires { IsStateOf indexed.now state.now }
+    ensures made { IfOk result (λ traced. IsMadeBy indexed.now state.now (key_event (tab indexed.now) press (state_of indexed.now state.now)) traced.state) }
+    ensures lines { IfOk result (λ traced. traced.lines ≡ chosen (tab indexed.now) (state_of indexed.now state.now) (Event.Key press)) }
+{
+    let begun = begin_event(indexed, state)?;
+    let pressed = after_key(indexed, press, begun)?;
+    let event_state = pressed.state;
+    let lines = pressed.lines;
+    let outcome = outcome_of(indexed.alloc(), state.left.as_slice(), &event_state)?;
+    let after = acted(indexed, &event_state, outcome, state)?;
+    if !event_state.pass {
+        return Ok(Traced {
+            state: after,
+            lines,
+        });
+    }
+    let edited = by_editor(indexed.alloc(), press, &after)?;
+    Ok(Traced {
+        state: edited,
+        lines,
+    })
+}
+
 /// Returns the state with which an event begins, before it does anything.
 #[tactic(auto, using(crate::proofs::SpreadValues::picked_options))]
 fn begin_event(indexed: &IndexedTables, state: &PlainState) -> Result<EventState, Memory>
@@ -84,6 +141,29 @@ fn acted(
     })
 }
 
+/// A state after an event, and the source lines of the rules that the event selected, in the order of entry.
+#[derive(Drop)]
+pub struct Traced {
+    pub state: PlainState,
+    pub lines: Seq<u32>,
+}
+
+/// Performs the editor's default for a key that was passed on.
+fn by_editor(alloc: Global, press: KeyPress, state: &PlainState) -> Result<PlainState, Memory>
+    ensures after { IfOk result (λ after. (tables : Tables) → state_of tables after ≡ by_editor press (state_of tables state.now)) }
+    ensures others { IfOk result (λ after. after ≡ record state.now { left = after.left; right = after.right }) }
+{
+    let text = characters(alloc, state.left.as_slice())?;
+    let left = text.as_slice();
+    let right = state.right.as_slice();
+    if !is_plain(press) {
+        return text_becomes(alloc, left, right, state);
+    }
+    let before = editor_left(alloc, press.code, left, right)?;
+    let after = editor_right(alloc, press.code, left, right)?;
+    text_becomes(alloc, before.as_slice(), after.as_slice(), state)
+}
+
 /// Returns the state with these texts before and after the caret.
 fn text_becomes(
     alloc: Global,
@@ -105,73 +185,25 @@ fn text_becomes(
     })
 }
 
-/// Performs the editor's default for a key that was passed on.
-fn by_editor(alloc: Global, press: KeyPress, state: &PlainState) -> Result<PlainState, Memory>
-    ensures after { IfOk result (λ after. (tables : Tables) → state_of tables after ≡ by_editor press (state_of tables state.now)) }
-    ensures others { IfOk result (λ after. after ≡ record state.now { left = after.left; right = after.right }) }
-{
-    let text = characters(alloc, state.left.as_slice())?;
-    let left = text.as_slice();
-    let right = state.right.as_slice();
-    if !is_plain(press) {
-        return text_becomes(alloc, left, right, state);
-    }
-    let before = editor_left(alloc, press.code, left, right)?;
-    let after = editor_right(alloc, press.code, left, right)?;
-    text_becomes(alloc, before.as_slice(), after.as_slice(), state)
-}
-
-/// A state after an event, and the source lines of the rules that the event selected, in the order of entry.
-#[derive(Drop)]
-pub struct Traced {
-    pub state: PlainState,
-    pub lines: Seq<u32>,
-}
-
-/// Performs a key press.
-fn key_event(indexed: &IndexedTables, press: KeyPress, state: &PlainState) -> Result<Traced, Memory>
+/// Performs an option change: the host sets the value of an option.
+fn setting_event(
+    indexed: &IndexedTables,
+    name: &[u8],
+    value: &[char],
+    state: &PlainState,
+) -> Result<PlainState, Memory>
     requires { IsStateOf indexed.now state.now }
-    ensures made { IfOk result (λ traced. IsMadeBy indexed.now state.now (key_event (tab indexed.now) press (state_of indexed.now state.now)) traced.state) }
-    ensures lines { IfOk result (λ traced. traced.lines ≡ chosen (tab indexed.now) (state_of indexed.now state.now) (Event.Key press)) }
+    ensures { IfOk result (IsMadeBy indexed.now state.now (only_state (setting_event name.now value.now (state_of indexed.now state.now)))) }
 {
-    let begun = begin_event(indexed, state)?;
-    let pressed = after_key(indexed, press, begun)?;
-    let event_state = pressed.state;
-    let lines = pressed.lines;
-    let outcome = outcome_of(indexed.alloc(), state.left.as_slice(), &event_state)?;
-    let after = acted(indexed, &event_state, outcome, state)?;
-    if !event_state.pass {
-        return Ok(Traced {
-            state: after,
-            lines,
-        });
-    }
-    let edited = by_editor(indexed.alloc(), press, &after)?;
-    Ok(Traced {
-        state: edited,
-        lines,
-    })
-}
-
-/// Returns the outcome of an event that is not a key press.
-fn no_outcome() -> Outcome
-    ensures { result ≡ no_outcome }
-{
-    Outcome {
-        delete: 0,
-        pass: false,
-        beeps: 0,
-        entered: 0,
-        put: 0,
-        saved: 0,
-    }
-}
-
-/// Returns characters as elements.
-fn as_elements(alloc: Global, text: &[char]) -> Result<Vec<Element>, Memory>
-    ensures { IfOk result (λ value. value.items ≡ map Element.Char text.now) }
-{
-    Ok(text.iter().map(|c| Element::Char(*c)).collect(alloc)?)
+    let mut event_state = begin_event(indexed, state)?;
+    give(
+        indexed.alloc(),
+        indexed.option_named(name),
+        value,
+        &mut event_state,
+    )?;
+    let after = acted(indexed, &event_state, no_outcome(), state)?;
+    Ok(after)
 }
 
 /// Sets the current and the saved value of an option, if there is one.
@@ -193,24 +225,44 @@ fn give(
     Ok(())
 }
 
-/// Performs an option change: the host sets the value of an option.
-fn setting_event(
-    indexed: &IndexedTables,
-    name: &[u8],
-    value: &[char],
-    state: &PlainState,
-) -> Result<PlainState, Memory>
-    requires { IsStateOf indexed.now state.now }
-    ensures { IfOk result (IsMadeBy indexed.now state.now (only_state (setting_event name.now value.now (state_of indexed.now state.now)))) }
+/// Returns characters as elements.
+fn as_elements(alloc: Global, text: &[char]) -> Result<Vec<Element>, Memory>
+    ensures { IfOk result (λ value. value.items ≡ map Element.Char text.now) }
 {
-    let mut event_state = begin_event(indexed, state)?;
-    give(
-        indexed.alloc(),
-        indexed.option_named(name),
-        value,
-        &mut event_state,
-    )?;
-    let after = acted(indexed, &event_state, no_outcome(), state)?;
+    Ok(text.iter().map(|c| Element::Char(*c)).collect(alloc)?)
+}
+
+/// Returns the outcome of an event that is not a key press.
+fn no_outcome() -> Outcome
+    ensures { result ≡ no_outcome }
+{
+    Outcome {
+        delete: 0,
+        pass: false,
+        beeps: 0,
+        entered: 0,
+        put: 0,
+        saved: 0,
+    }
+}
+
+/// Returns the result of an event that selected no rule.
+fn without_lines(alloc: Global, state: PlainState) -> Traced
+    ensures { result ≡ record { state = state; lines = [] } }
+{
+    Traced {
+        state,
+        lines: Seq::new(alloc),
+    }
+}
+
+/// Moves the caret to a position.
+fn caret_event(alloc: Global, place: u32, state: &PlainState) -> Result<PlainState, Memory>
+    requires { place ≤ length (characters state.now.left ++ state.now.right) }
+    ensures { IfOk result (λ after. (tables : Tables) → IsMadeBy tables state.now (only_state (caret_event place (state_of tables state.now))) after) }
+{
+    let whole = whole_text(alloc, state)?;
+    let after = with_text(alloc, whole.as_slice(), place as usize, state)?;
     Ok(after)
 }
 
@@ -238,31 +290,6 @@ fn with_text(
     Ok(after)
 }
 
-/// Moves the caret to a position.
-fn caret_event(alloc: Global, place: u32, state: &PlainState) -> Result<PlainState, Memory>
-    requires { place ≤ length (characters state.now.left ++ state.now.right) }
-    ensures { IfOk result (λ after. (tables : Tables) → IsMadeBy tables state.now (only_state (caret_event place (state_of tables state.now))) after) }
-{
-    let whole = whole_text(alloc, state)?;
-    let after = with_text(alloc, whole.as_slice(), place as usize, state)?;
-    Ok(after)
-}
-
-/// Returns the whole text after an edit.
-fn edited_text(
-    alloc: Global,
-    from: usize,
-    to: usize,
-    text: &[char],
-    whole: &[char],
-) -> Result<Vec<char>, Memory>
-    requires { (from ≤ to) × (to ≤ length whole.now) }
-    ensures { IfOk result (λ edited. edited.items ≡ edited_text from to text.now whole.now) }
-{
-    let before = joined(alloc, &whole[..from], text)?;
-    joined(alloc, before.as_slice(), &whole[to..])
-}
-
 /// Performs an edit in which the application replaces characters.
 fn edit_event(
     alloc: Global,
@@ -282,46 +309,19 @@ fn edit_event(
     Ok(after)
 }
 
-/// Returns the result of an event that selected no rule.
-fn without_lines(alloc: Global, state: PlainState) -> Traced
-    ensures { result ≡ record { state = state; lines = [] } }
-{
-    Traced {
-        state,
-        lines: Seq::new(alloc),
-    }
-}
-
-/// Performs an event on a state, by the meaning of tables. Returns the new state and the lines of the rules that the event
-/// selected. Does not check the limits of an event's text.
-#[tactic(auto, unfolding(rule_model::specs::Event::happening))]
-pub fn traced_event(
+/// Returns the whole text after an edit.
+fn edited_text(
     alloc: Global,
-    tables: &Tables,
-    state: &PlainState,
-    event: &Event,
-) -> Result<Traced, Memory>
-    requires state { IsStateOf tables.now state.now }
-    requires places { IsWithin (whole_text (state_of tables.now state.now)) event.now }
-    ensures step { IfOk result (λ traced. IsPlainStep tables.now state.now event.now traced.state) }
-    ensures lines { IfOk result (λ traced. traced.lines ≡ chosen (tab tables.now) (state_of tables.now state.now) event.now) }
+    from: usize,
+    to: usize,
+    text: &[char],
+    whole: &[char],
+) -> Result<Vec<char>, Memory>
+    requires { (from ≤ to) × (to ≤ length whole.now) }
+    ensures { IfOk result (λ edited. edited.items ≡ edited_text from to text.now whole.now) }
 {
-    let indexed = IndexedTables::new(alloc, tables)?;
-    match event {
-        Event::Key(press) => key_event(&indexed, *press, state),
-        Event::Setting { name, value } => {
-            let after = setting_event(&indexed, name.as_slice(), value.as_slice(), state)?;
-            Ok(without_lines(alloc, after))
-        }
-        Event::Caret(place) => {
-            let after = caret_event(alloc, *place, state)?;
-            Ok(without_lines(alloc, after))
-        }
-        Event::Edit { from, to, text } => {
-            let after = edit_event(alloc, *from, *to, text.as_slice(), state)?;
-            Ok(without_lines(alloc, after))
-        }
-    }
+    let before = joined(alloc, &whole[..from], text)?;
+    joined(alloc, before.as_slice(), &whole[to..])
 }
 
 /// Performs an event on a state, by the meaning of tables. Does not check the limits of an event's text.

@@ -10,6 +10,15 @@ use kmn_base::limits::WINDOW_ITEMS;
 use kmn_base::{Item, Memory, Seq, end_marks};
 use std::alloc::Global;
 
+/// Returns the items with one more item, without the marks that are then before the window.
+pub fn with_item(alloc: Global, items: &[Item], item: Item) -> Result<Vec<Item>, Memory>
+    ensures { IfOk result (λ after. after.items ≡ put items.now item) }
+{
+    let mut more = Vec::from_slice(alloc, items)?;
+    more.push(item)?;
+    without_old_marks(alloc, more.as_slice())
+}
+
 /// Returns the items without the marks before the window.
 fn without_old_marks(alloc: Global, items: &[Item]) -> Result<Vec<Item>, Memory>
     ensures { IfOk result (λ after. after.items ≡ map Item.Char (characters (without_last WINDOW_ITEMS items.now)) ++ window items.now) }
@@ -18,15 +27,6 @@ fn without_old_marks(alloc: Global, items: &[Item]) -> Result<Vec<Item>, Memory>
     let mut after = as_items(alloc, before.as_slice())?;
     after.extend_from_slice(window(items))?;
     Ok(after)
-}
-
-/// Returns the items with one more item, without the marks that are then before the window.
-pub fn with_item(alloc: Global, items: &[Item], item: Item) -> Result<Vec<Item>, Memory>
-    ensures { IfOk result (λ after. after.items ≡ put items.now item) }
-{
-    let mut more = Vec::from_slice(alloc, items)?;
-    more.push(item)?;
-    without_old_marks(alloc, more.as_slice())
 }
 
 /// Removes the last `count` items.

@@ -43,31 +43,6 @@ pub fn put_any(alloc: Global, item: Option<Item>, state: &mut EventState) -> Res
     }
 }
 
-/// Puts an element, if there is one. A virtual key has no effect.
-fn put_element(
-    alloc: Global,
-    element: Option<Element>,
-    state: &mut EventState,
-) -> Result<(), Memory>
-    ensures { OnOk result (state.new ≡ put_element element state.old) }
-{
-    match element {
-        Some(element) => put_any(alloc, item_of(element), state),
-        None => Ok(()),
-    }
-}
-
-/// Returns the position that an `index` uses: the key's if the offset is one past the context, else the caught position.
-fn place_for_index(caught: &Caught, offset: u32) -> Option<usize>
-    ensures { result ≡ place_for_index caught.now offset }
-{
-    if offset > 0 && offset as usize - 1 == caught.catches.len() {
-        caught.key_place
-    } else {
-        place_caught(caught.catches.as_slice(), offset)
-    }
-}
-
 /// Performs `index`.
 pub fn put_index(
     indexed: &IndexedTables,
@@ -81,6 +56,31 @@ pub fn put_index(
 {
     let element = element(indexed, state, store, place_for_index(caught, offset));
     put_element(indexed.alloc(), element, state)
+}
+
+/// Returns the position that an `index` uses: the key's if the offset is one past the context, else the caught position.
+fn place_for_index(caught: &Caught, offset: u32) -> Option<usize>
+    ensures { result ≡ place_for_index caught.now offset }
+{
+    if offset > 0 && offset as usize - 1 == caught.catches.len() {
+        caught.key_place
+    } else {
+        place_caught(caught.catches.as_slice(), offset)
+    }
+}
+
+/// Puts an element, if there is one. A virtual key has no effect.
+fn put_element(
+    alloc: Global,
+    element: Option<Element>,
+    state: &mut EventState,
+) -> Result<(), Memory>
+    ensures { OnOk result (state.new ≡ put_element element state.old) }
+{
+    match element {
+        Some(element) => put_any(alloc, item_of(element), state),
+        None => Ok(()),
+    }
 }
 
 /// Performs `context`: puts all items that were matched.
@@ -143,16 +143,6 @@ pub fn save_current(
     Ok(())
 }
 
-/// Returns the saved value of an option, or else the value that the keyboard states.
-fn value_to_reset<'a>(state: &'a EventState, option: usize, stated: &'a [Element]) -> &'a [Element]
-    ensures { result.now ≡ value_to_reset (slice_get state.now.saved option) stated.now }
-{
-    match state.saved.as_slice().get(option) {
-        Some(Some(value)) => value.as_slice(),
-        _ => stated,
-    }
-}
-
 /// Performs `reset`.
 pub fn reset_current(
     indexed: &IndexedTables,
@@ -169,4 +159,14 @@ pub fn reset_current(
     let value = Seq::from_slice(indexed.alloc(), value)?;
     set_value(&mut state.current, option, value);
     Ok(())
+}
+
+/// Returns the saved value of an option, or else the value that the keyboard states.
+fn value_to_reset<'a>(state: &'a EventState, option: usize, stated: &'a [Element]) -> &'a [Element]
+    ensures { result.now ≡ value_to_reset (slice_get state.now.saved option) stated.now }
+{
+    match state.saved.as_slice().get(option) {
+        Some(Some(value)) => value.as_slice(),
+        _ => stated,
+    }
 }

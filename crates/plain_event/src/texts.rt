@@ -42,14 +42,6 @@ pub fn window(items: &[Item]) -> &[Item]
     behind(items, items.len().saturating_sub(WINDOW_ITEMS))
 }
 
-/// Returns whether a text ends with the characters of the kept items, and these items fill the window or are the whole text.
-fn is_still_suffix(kept: &[Item], last: &[char], text: &[char]) -> bool
-    requires { last.now ≡ characters kept.now }
-    ensures { result ≡ is_still_suffix kept.now text.now }
-{
-    text.ends_with(last) && (kept.len() == WINDOW_ITEMS || text.len() == last.len())
-}
-
 /// Returns the items of a text that is read again, with the marks that keep their positions.
 pub fn read_again(alloc: Global, items: &[Item], text: &[char]) -> Result<Vec<Item>, Memory>
     ensures { IfOk result (λ left. left.items ≡ read_again items.now text.now) }
@@ -62,4 +54,12 @@ pub fn read_again(alloc: Global, items: &[Item], text: &[char]) -> Result<Vec<It
     let mut left = as_items(alloc, &text[..text.len() - last.len()])?;
     left.extend_from_slice(kept)?;
     Ok(left)
+}
+
+/// Returns whether a text ends with the characters of the kept items, and these items fill the window or are the whole text.
+fn is_still_suffix(kept: &[Item], last: &[char], text: &[char]) -> bool
+    requires { last.now ≡ characters kept.now }
+    ensures { result ≡ is_still_suffix kept.now text.now }
+{
+    text.ends_with(last) && (kept.len() == WINDOW_ITEMS || text.len() == last.len())
 }

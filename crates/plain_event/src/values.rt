@@ -58,16 +58,6 @@ pub fn picked<V: Value>(indexed: &IndexedTables, values: &[V]) -> Result<Seq<V>,
     Ok(Seq::from_vec(options))
 }
 
-/// Returns the value of an option number, or the other value if there is none.
-fn option_value<'a, V: Value>(options: &'a [V], number: Option<usize>, other: &'a V) -> &'a V
-    ensures { result.now ≡ option_value options.now number other.now }
-{
-    match number {
-        Some(number) => options.get(number).unwrap_or(other),
-        None => other,
-    }
-}
-
 /// Returns the values by store number, with the values of options at the positions of the option stores.
 #[tactic(auto, using(std::proofs::lemmas::Grind::common_steps, crate::proofs::SpreadValues::spread_ended))]
 pub fn spread<V: Value>(
@@ -84,6 +74,16 @@ pub fn spread<V: Value>(
         all.push(value.copied(indexed.alloc())?)?;
     }
     Ok(Seq::from_vec(all))
+}
+
+/// Returns the value of an option number, or the other value if there is none.
+fn option_value<'a, V: Value>(options: &'a [V], number: Option<usize>, other: &'a V) -> &'a V
+    ensures { result.now ≡ option_value options.now number other.now }
+{
+    match number {
+        Some(number) => options.get(number).unwrap_or(other),
+        None => other,
+    }
 }
 
 /// Sets the value at an index. An index past the end has no effect.

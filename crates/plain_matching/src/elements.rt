@@ -14,18 +14,18 @@ pub fn same_value(value: &[Element], other: &[Element]) -> bool
     value == other
 }
 
-/// Returns the catch at an offset, which counts from 1.
-fn catch_at(catches: &[Catch], offset: u32) -> Option<Catch>
-    ensures { result ≡ catch_at catches.now offset }
-{
-    catches.get((offset as usize).checked_sub(1)?).copied()
-}
-
 /// Returns the item that was caught at an offset.
 pub fn item_caught(catches: &[Catch], offset: u32) -> Option<Item>
     ensures { result ≡ item_caught catches.now offset }
 {
     catch_at(catches, offset)?.item
+}
+
+/// Returns the catch at an offset, which counts from 1.
+fn catch_at(catches: &[Catch], offset: u32) -> Option<Catch>
+    ensures { result ≡ catch_at catches.now offset }
+{
+    catches.get((offset as usize).checked_sub(1)?).copied()
 }
 
 /// Returns the position that was caught at an offset.

@@ -28,40 +28,18 @@ pub enum LineKind {
     Expect,
 }
 
-/// Returns the kind of a line with this first word, if any.
-fn kind_of(word: &[u8]) -> Option<LineKind>
-    ensures { result ≡ kind_of word.now }
-{
-    if word == b"caret".as_slice() {
-        Some(LineKind::Caret)
-    } else if word == b"edit".as_slice() {
-        Some(LineKind::Edit)
-    } else if word == b"option".as_slice() {
-        Some(LineKind::Setting)
-    } else if word == b"expect".as_slice() {
-        Some(LineKind::Expect)
-    } else {
-        None
-    }
-}
-
-/// Reads the rest of a line by the kind of the line. A line without a kind breaks P02.
-fn read_kind(
+/// Reads a line. Checks all rules except P01 and P06, which apply to a whole script. After an error, the content of the reader
+/// is unspecified: it may have the first entries of the line.
+pub fn read_line(
     alloc: Global,
+    dictionary: &KeyDictionary,
     line: u32,
-    kind: Option<LineKind>,
-    rest: &[u8],
+    text: &[u8],
     reader: &mut Reader,
 ) -> Result<(), ScriptError>
-    ensures { Leaves (with_found (Ok reader.old) (kind_found line kind rest.now)) reader.new result }
+    ensures { Leaves (with_found (Ok reader.old) (line_found dictionary.now line text.now)) reader.new result }
 {
-    match kind {
-        Some(LineKind::Caret) => read_caret(line, rest, reader),
-        Some(LineKind::Edit) => read_edit(alloc, line, rest, reader),
-        Some(LineKind::Setting) => read_option(alloc, line, rest, reader),
-        Some(LineKind::Expect) => read_expect(alloc, line, rest, reader),
-        None => Err(refused(line, Code::P02)),
-    }
+    read_text(alloc, dictionary, line, without_blanks(text), reader)
 }
 
 /// Reads a line that does not begin with a blank.
@@ -87,46 +65,39 @@ fn read_text(
     }
 }
 
-/// Reads a line. Checks all rules except P01 and P06, which apply to a whole script. After an error, the content of the reader
-/// is unspecified: it may have the first entries of the line.
-pub fn read_line(
+/// Reads the rest of a line by the kind of the line. A line without a kind breaks P02.
+fn read_kind(
     alloc: Global,
-    dictionary: &KeyDictionary,
     line: u32,
-    text: &[u8],
+    kind: Option<LineKind>,
+    rest: &[u8],
     reader: &mut Reader,
 ) -> Result<(), ScriptError>
-    ensures { Leaves (with_found (Ok reader.old) (line_found dictionary.now line text.now)) reader.new result }
+    ensures { Leaves (with_found (Ok reader.old) (kind_found line kind rest.now)) reader.new result }
 {
-    read_text(alloc, dictionary, line, without_blanks(text), reader)
+    match kind {
+        Some(LineKind::Caret) => read_caret(line, rest, reader),
+        Some(LineKind::Edit) => read_edit(alloc, line, rest, reader),
+        Some(LineKind::Setting) => read_option(alloc, line, rest, reader),
+        Some(LineKind::Expect) => read_expect(alloc, line, rest, reader),
+        None => Err(refused(line, Code::P02)),
+    }
 }
 
-/// Returns the position of the first line end.
-fn first_end(text: &[u8]) -> Option<usize>
-    ensures { result ≡ position is_end text.now }
+/// Returns the kind of a line with this first word, if any.
+fn kind_of(word: &[u8]) -> Option<LineKind>
+    ensures { result ≡ kind_of word.now }
 {
-    text.iter()
-        .position(|byte| *byte == b'\n' || *byte == b'\r')
-}
-
-/// Returns the length of the first line in bytes.
-#[tactic(auto, using(crate::proofs::WordLaws::place_of_first))]
-fn line_length(text: &[u8]) -> usize
-    ensures within { result ≤ length text.now }
-    ensures is { result ≡ position_or_len is_end text.now }
-{
-    first_end(text).unwrap_or(text.len())
-}
-
-/// Returns the size in bytes of the line end with which a text begins.
-fn end_size(text: &[u8]) -> usize
-    ensures is { result ≡ end_size text.now }
-    ensures few { result ≤ 2 }
-{
-    match text {
-        [] => 0,
-        [b'\r', b'\n', ..] => 2,
-        _ => 1,
+    if word == b"caret".as_slice() {
+        Some(LineKind::Caret)
+    } else if word == b"edit".as_slice() {
+        Some(LineKind::Edit)
+    } else if word == b"option".as_slice() {
+        Some(LineKind::Setting)
+    } else if word == b"expect".as_slice() {
+        Some(LineKind::Expect)
+    } else {
+        None
     }
 }
 
@@ -144,26 +115,33 @@ pub fn first_line(text: &[u8]) -> (&[u8], &[u8])
     (&text[..end], behind(text, end + size))
 }
 
-/// Reads the lines of a text.
-#[tactic(auto, using(crate::proofs::LineLaws::next_line))]
-fn read_lines(
-    alloc: Global,
-    dictionary: &KeyDictionary,
-    text: &[u8],
-) -> Result<Seq<Entry>, ScriptError>
-    requires { length text.now ≤ TEXT_BYTES }
-    ensures { Answers (entries_of (with_found (Ok first_script) (lines_found dictionary.now 1 (text_lines text.now)))) result }
+/// Returns the length of the first line in bytes.
+#[tactic(auto, using(crate::proofs::WordLaws::place_of_first))]
+fn line_length(text: &[u8]) -> usize
+    ensures within { result ≤ length text.now }
+    ensures is { result ≡ position_or_len is_end text.now }
 {
-    let mut reader = Reader::new(alloc);
-    let mut rest = text;
-    let mut line = 1;
-    while !rest.is_empty() {
-        let (first, behind) = first_line(rest);
-        read_line(alloc, dictionary, line, first, &mut reader)?;
-        rest = behind;
-        line += 1;
+    first_end(text).unwrap_or(text.len())
+}
+
+/// Returns the position of the first line end.
+fn first_end(text: &[u8]) -> Option<usize>
+    ensures { result ≡ position is_end text.now }
+{
+    text.iter()
+        .position(|byte| *byte == b'\n' || *byte == b'\r')
+}
+
+/// Returns the size in bytes of the line end with which a text begins.
+fn end_size(text: &[u8]) -> usize
+    ensures is { result ≡ end_size text.now }
+    ensures few { result ≤ 2 }
+{
+    match text {
+        [] => 0,
+        [b'\r', b'\n', ..] => 2,
+        _ => 1,
     }
-    Ok(reader.into_entries())
 }
 
 /// Returns the text of a script without a leading U+FEFF.
@@ -195,4 +173,26 @@ pub fn read_script(
     ensures { Answers (entries names.now bytes.now) result }
 {
     read_lines(alloc, names, script_text(bytes)?)
+}
+
+/// Reads the lines of a text.
+#[tactic(auto, using(crate::proofs::LineLaws::next_line))]
+fn read_lines(
+    alloc: Global,
+    dictionary: &KeyDictionary,
+    text: &[u8],
+) -> Result<Seq<Entry>, ScriptError>
+    requires { length text.now ≤ TEXT_BYTES }
+    ensures { Answers (entries_of (with_found (Ok first_script) (lines_found dictionary.now 1 (text_lines text.now)))) result }
+{
+    let mut reader = Reader::new(alloc);
+    let mut rest = text;
+    let mut line = 1;
+    while !rest.is_empty() {
+        let (first, behind) = first_line(rest);
+        read_line(alloc, dictionary, line, first, &mut reader)?;
+        rest = behind;
+        line += 1;
+    }
+    Ok(reader.into_entries())
 }

@@ -115,30 +115,6 @@ pub fn needed_number(line: u32, text: &[u8]) -> Result<u32, ScriptError>
     }
 }
 
-/// Returns the string that the rest of a line denotes.
-///
-/// Errors: P04 if the rest is not a string; `Memory` if an allocation fails.
-fn needed_string(alloc: Global, line: u32, text: &[u8]) -> Result<Seq<char>, ScriptError>
-    ensures { NeedsMade line P04 (string text.now) result }
-{
-    match string(alloc, text)? {
-        Some(value) => Ok(value),
-        None => Err(refused(line, Code::P04)),
-    }
-}
-
-/// Returns the name with which a text begins.
-///
-/// Errors: P04 if the text does not begin with a name.
-fn needed_name<'a>(line: u32, text: &'a [u8]) -> Result<&'a [u8], ScriptError>
-    ensures { MatchResult result (λ name. some_name (first_word text.now) ≡ Some name.now) (λ error. (some_name (first_word text.now) ≡ None) × (error ≡ ScriptError.Refused (record { line = line; code = P04 }))) }
-{
-    match name(first_word(text)) {
-        Some(name) => Ok(name),
-        None => Err(refused(line, Code::P04)),
-    }
-}
-
 /// Checks that no text follows a complete line.
 ///
 /// Errors: P08 if some text follows.
@@ -176,6 +152,18 @@ pub(crate) fn read_edit(
     reader.act(line, Event::Edit { from, to, text })
 }
 
+/// Returns the string that the rest of a line denotes.
+///
+/// Errors: P04 if the rest is not a string; `Memory` if an allocation fails.
+fn needed_string(alloc: Global, line: u32, text: &[u8]) -> Result<Seq<char>, ScriptError>
+    ensures { NeedsMade line P04 (string text.now) result }
+{
+    match string(alloc, text)? {
+        Some(value) => Ok(value),
+        None => Err(refused(line, Code::P04)),
+    }
+}
+
 /// Reads the text after `option`.
 pub(crate) fn read_option(
     alloc: Global,
@@ -189,6 +177,18 @@ pub(crate) fn read_option(
     let value = needed_string(alloc, line, rest_after_word(text))?;
     let name = Seq::from_slice(alloc, name)?;
     reader.act(line, Event::Setting { name, value })
+}
+
+/// Returns the name with which a text begins.
+///
+/// Errors: P04 if the text does not begin with a name.
+fn needed_name<'a>(line: u32, text: &'a [u8]) -> Result<&'a [u8], ScriptError>
+    ensures { MatchResult result (λ name. some_name (first_word text.now) ≡ Some name.now) (λ error. (some_name (first_word text.now) ≡ None) × (error ≡ ScriptError.Refused (record { line = line; code = P04 }))) }
+{
+    match name(first_word(text)) {
+        Some(name) => Ok(name),
+        None => Err(refused(line, Code::P04)),
+    }
 }
 
 /// Reads the text after `expect`.

@@ -13,89 +13,16 @@ use kmn_base::texts::{NO_CHARACTER, decoded};
 use kmn_base::{Memory, Seq};
 use std::alloc::Global;
 
-/// Returns the character that a text names by its code point, if any.
-fn code_point(text: &[u8]) -> Option<char>
-    ensures { result ≡ code_point text.now }
+/// Returns the string that a text denotes, if any.
+pub(crate) fn string(alloc: Global, text: &[u8]) -> Result<Option<Seq<char>>, Memory>
+    ensures { IfOk result (λ read. read ≡ string text.now) }
 {
-    let [u, plus, digits @ ..] = text else {
-        return None;
-    };
-    if *u == b'U' && *plus == b'+' && has_digits(16, 4, 6, digits) {
-        char::from_u32(bounded_value(NO_CHARACTER, 16, digits))
-    } else {
-        None
+    if text.is_empty() {
+        return Ok(None);
     }
-}
-
-/// Returns the position of the first quote of a kind.
-fn first_quote(quote: u8, text: &[u8]) -> Option<usize>
-    ensures place { result ≡ position (λ b. nat_eq b quote) text.now }
-    ensures within { IfSome result (λ place. place < length text.now) }
-{
-    text.iter().position(|byte| *byte == quote)
-}
-
-/// Returns the characters of a quoted token and its size in bytes, or `None` if it has no closing quote. The opening quote
-/// precedes the text.
-fn quoted_token(alloc: Global, quote: u8, text: &[u8]) -> Result<Option<(Seq<char>, usize)>, Memory>
-    ensures { IfOk result (λ token. token ≡ quoted_token text.now (position (λ b. nat_eq b quote) text.now)) }
-{
-    match first_quote(quote, text) {
-        Some(end) => Ok(Some((decoded(alloc, &text[..end])?, end + 2))),
+    match tokens_chars(alloc, text)? {
+        Some(characters) => Ok(short(characters)),
         None => Ok(None),
-    }
-}
-
-/// Returns the position of the first byte that ends an unquoted token.
-fn first_end(text: &[u8]) -> Option<usize>
-    ensures { result ≡ position ends_token text.now }
-{
-    text.iter()
-        .position(|byte| is_blank(*byte) || is_quote(*byte))
-}
-
-/// Returns the bytes of the unquoted token with which a text begins.
-#[tactic(auto, using(crate::proofs::WordLaws::place_of_first))]
-fn unquoted(text: &[u8]) -> &[u8]
-    ensures { result.now ≡ unquoted text.now }
-{
-    &text[..first_end(text).unwrap_or(text.len())]
-}
-
-/// Returns the characters and the size of an unquoted token, which names a character by its code point.
-fn written_token(alloc: Global, written: &[u8]) -> Result<Option<(Seq<char>, usize)>, Memory>
-    ensures { IfOk result (λ token. token ≡ written_token written.now) }
-{
-    match code_point(written) {
-        Some(c) => Ok(Some((Seq::from_slice(alloc, &[c])?, written.len()))),
-        None => Ok(None),
-    }
-}
-
-/// Returns the token with which a text begins. The text is `first` followed by `inside`.
-fn begun_token(
-    alloc: Global,
-    first: u8,
-    inside: &[u8],
-    text: &[u8],
-) -> Result<Option<(Seq<char>, usize)>, Memory>
-    requires { text.now ≡ first ∷ inside.now }
-    ensures { IfOk result (λ token. token ≡ string_token (first ∷ inside.now)) }
-{
-    if is_quote(first) {
-        quoted_token(alloc, first, inside)
-    } else {
-        written_token(alloc, unquoted(text))
-    }
-}
-
-/// Returns the string token with which a text begins, if any.
-fn string_token(alloc: Global, text: &[u8]) -> Result<Option<(Seq<char>, usize)>, Memory>
-    ensures { IfOk result (λ token. token ≡ string_token text.now) }
-{
-    match text {
-        [first, inside @ ..] => begun_token(alloc, *first, inside, text),
-        [] => Ok(None),
     }
 }
 
@@ -118,6 +45,92 @@ fn tokens_chars(alloc: Global, text: &[u8]) -> Result<Option<Seq<char>>, Memory>
     Ok(Some(all))
 }
 
+/// Returns the string token with which a text begins, if any.
+fn string_token(alloc: Global, text: &[u8]) -> Result<Option<(Seq<char>, usize)>, Memory>
+    ensures { IfOk result (λ token. token ≡ string_token text.now) }
+{
+    match text {
+        [first, inside @ ..] => begun_token(alloc, *first, inside, text),
+        [] => Ok(None),
+    }
+}
+
+/// Returns the token with which a text begins. The text is `first` followed by `inside`.
+fn begun_token(
+    alloc: Global,
+    first: u8,
+    inside: &[u8],
+    text: &[u8],
+) -> Result<Option<(Seq<char>, usize)>, Memory>
+    requires { text.now ≡ first ∷ inside.now }
+    ensures { IfOk result (λ token. token ≡ string_token (first ∷ inside.now)) }
+{
+    if is_quote(first) {
+        quoted_token(alloc, first, inside)
+    } else {
+        written_token(alloc, unquoted(text))
+    }
+}
+
+/// Returns the characters of a quoted token and its size in bytes, or `None` if it has no closing quote. The opening quote
+/// precedes the text.
+fn quoted_token(alloc: Global, quote: u8, text: &[u8]) -> Result<Option<(Seq<char>, usize)>, Memory>
+    ensures { IfOk result (λ token. token ≡ quoted_token text.now (position (λ b. nat_eq b quote) text.now)) }
+{
+    match first_quote(quote, text) {
+        Some(end) => Ok(Some((decoded(alloc, &text[..end])?, end + 2))),
+        None => Ok(None),
+    }
+}
+
+/// Returns the position of the first quote of a kind.
+fn first_quote(quote: u8, text: &[u8]) -> Option<usize>
+    ensures place { result ≡ position (λ b. nat_eq b quote) text.now }
+    ensures within { IfSome result (λ place. place < length text.now) }
+{
+    text.iter().position(|byte| *byte == quote)
+}
+
+/// Returns the characters and the size of an unquoted token, which names a character by its code point.
+fn written_token(alloc: Global, written: &[u8]) -> Result<Option<(Seq<char>, usize)>, Memory>
+    ensures { IfOk result (λ token. token ≡ written_token written.now) }
+{
+    match code_point(written) {
+        Some(c) => Ok(Some((Seq::from_slice(alloc, &[c])?, written.len()))),
+        None => Ok(None),
+    }
+}
+
+/// Returns the character that a text names by its code point, if any.
+fn code_point(text: &[u8]) -> Option<char>
+    ensures { result ≡ code_point text.now }
+{
+    let [u, plus, digits @ ..] = text else {
+        return None;
+    };
+    if *u == b'U' && *plus == b'+' && has_digits(16, 4, 6, digits) {
+        char::from_u32(bounded_value(NO_CHARACTER, 16, digits))
+    } else {
+        None
+    }
+}
+
+/// Returns the bytes of the unquoted token with which a text begins.
+#[tactic(auto, using(crate::proofs::WordLaws::place_of_first))]
+fn unquoted(text: &[u8]) -> &[u8]
+    ensures { result.now ≡ unquoted text.now }
+{
+    &text[..first_end(text).unwrap_or(text.len())]
+}
+
+/// Returns the position of the first byte that ends an unquoted token.
+fn first_end(text: &[u8]) -> Option<usize>
+    ensures { result ≡ position ends_token text.now }
+{
+    text.iter()
+        .position(|byte| is_blank(*byte) || is_quote(*byte))
+}
+
 /// Returns the characters if they are not too many for a string.
 fn short(characters: Seq<char>) -> Option<Seq<char>>
     ensures { result ≡ short characters }
@@ -126,18 +139,5 @@ fn short(characters: Seq<char>) -> Option<Seq<char>>
         Some(characters)
     } else {
         None
-    }
-}
-
-/// Returns the string that a text denotes, if any.
-pub(crate) fn string(alloc: Global, text: &[u8]) -> Result<Option<Seq<char>>, Memory>
-    ensures { IfOk result (λ read. read ≡ string text.now) }
-{
-    if text.is_empty() {
-        return Ok(None);
-    }
-    match tokens_chars(alloc, text)? {
-        Some(characters) => Ok(short(characters)),
-        None => Ok(None),
     }
 }

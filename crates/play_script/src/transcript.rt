@@ -32,6 +32,39 @@ pub fn line_of(
     Ok(Text::from_string(line))
 }
 
+/// Appends items joined by dots, or `-` if there are none.
+fn put_items(line: &mut String, items: &[Item]) -> Result<(), AllocError>
+    ensures { IfOk result (λ _. string_bytes line.new ≡ string_bytes line.old ++ joined (map item_text items.now)) }
+{
+    let [first, rest @ ..] = items else {
+        return line.push_str("-");
+    };
+    put_item(line, *first)?;
+    for item in rest {
+        line.push_str(".")?;
+        put_item(line, *item)?;
+    }
+    Ok(())
+}
+
+/// Appends a character as its code point, or a mark (a deadkey in the item list) as `d` and its number.
+fn put_item(line: &mut String, item: Item) -> Result<(), AllocError>
+    ensures { IfOk result (λ _. string_bytes line.new ≡ string_bytes line.old ++ item_text item) }
+{
+    match item {
+        Item::Char(c) => put_code(line, c as u32),
+        Item::Mark(mark) => write!(line, "d{mark}"),
+    }
+}
+
+/// Appends a code in at least four hexadecimal digits.
+#[tactic(auto, using(crate::proofs::Hexadecimal::padded_hexadecimal))]
+fn put_code(line: &mut String, code: u32) -> Result<(), AllocError>
+    ensures { IfOk result (λ _. string_bytes line.new ≡ string_bytes line.old ++ hexadecimal code) }
+{
+    write!(line, "{code:04X}")
+}
+
 /// Appends whether the key was passed on, the number of beeps and the number of groups entered. If an allocation fails, the
 /// content of the line is unspecified.
 pub fn put_counts(line: &mut String, outcome: Outcome) -> Result<(), AllocError>
@@ -75,6 +108,40 @@ fn value_word(saved: bool) -> &'static [u8]
     ensures { result.now ≡ (if saved then codes "save " else codes "opt ") }
 {
     if saved { b"save " } else { b"opt " }
+}
+
+/// Appends elements joined by dots, or `-` if there are none.
+fn put_elements(line: &mut String, elements: &[Element]) -> Result<(), AllocError>
+    ensures { IfOk result (λ _. string_bytes line.new ≡ string_bytes line.old ++ joined (map element_text elements.now)) }
+{
+    let [first, rest @ ..] = elements else {
+        return line.push_str("-");
+    };
+    put_element(line, *first)?;
+    for element in rest {
+        line.push_str(".")?;
+        put_element(line, *element)?;
+    }
+    Ok(())
+}
+
+/// Appends a character as its code point, a mark as `d` and its number, or a virtual key as `k` and its code.
+fn put_element(line: &mut String, element: Element) -> Result<(), AllocError>
+    ensures { IfOk result (λ _. string_bytes line.new ≡ string_bytes line.old ++ element_text element) }
+{
+    match element {
+        Element::Char(c) => put_code(line, c as u32),
+        Element::Mark(mark) => write!(line, "d{mark}"),
+        Element::Key { code, .. } => put_key(line, code),
+    }
+}
+
+/// Appends a virtual key as `k` and its code.
+fn put_key(line: &mut String, code: u16) -> Result<(), AllocError>
+    ensures { IfOk result (λ _. string_bytes line.new ≡ string_bytes line.old ++ (codes "k" ++ hexadecimal code)) }
+{
+    line.push_str("k")?;
+    put_code(line, u32::from(code))
 }
 
 /// Returns the line for an expected text that differs, with its line in the script.
@@ -130,71 +197,4 @@ pub fn put_characters(line: &mut String, characters: &[char]) -> Result<(), Allo
         put_code(line, *c as u32)?;
     }
     Ok(())
-}
-
-/// Appends items joined by dots, or `-` if there are none.
-fn put_items(line: &mut String, items: &[Item]) -> Result<(), AllocError>
-    ensures { IfOk result (λ _. string_bytes line.new ≡ string_bytes line.old ++ joined (map item_text items.now)) }
-{
-    let [first, rest @ ..] = items else {
-        return line.push_str("-");
-    };
-    put_item(line, *first)?;
-    for item in rest {
-        line.push_str(".")?;
-        put_item(line, *item)?;
-    }
-    Ok(())
-}
-
-/// Appends elements joined by dots, or `-` if there are none.
-fn put_elements(line: &mut String, elements: &[Element]) -> Result<(), AllocError>
-    ensures { IfOk result (λ _. string_bytes line.new ≡ string_bytes line.old ++ joined (map element_text elements.now)) }
-{
-    let [first, rest @ ..] = elements else {
-        return line.push_str("-");
-    };
-    put_element(line, *first)?;
-    for element in rest {
-        line.push_str(".")?;
-        put_element(line, *element)?;
-    }
-    Ok(())
-}
-
-/// Appends a character as its code point, or a mark (a deadkey in the item list) as `d` and its number.
-fn put_item(line: &mut String, item: Item) -> Result<(), AllocError>
-    ensures { IfOk result (λ _. string_bytes line.new ≡ string_bytes line.old ++ item_text item) }
-{
-    match item {
-        Item::Char(c) => put_code(line, c as u32),
-        Item::Mark(mark) => write!(line, "d{mark}"),
-    }
-}
-
-/// Appends a character as its code point, a mark as `d` and its number, or a virtual key as `k` and its code.
-fn put_element(line: &mut String, element: Element) -> Result<(), AllocError>
-    ensures { IfOk result (λ _. string_bytes line.new ≡ string_bytes line.old ++ element_text element) }
-{
-    match element {
-        Element::Char(c) => put_code(line, c as u32),
-        Element::Mark(mark) => write!(line, "d{mark}"),
-        Element::Key { code, .. } => put_key(line, code),
-    }
-}
-
-/// Appends a virtual key as `k` and its code.
-fn put_key(line: &mut String, code: u16) -> Result<(), AllocError>
-    ensures { IfOk result (λ _. string_bytes line.new ≡ string_bytes line.old ++ (codes "k" ++ hexadecimal code)) }
-{
-    line.push_str("k")?;
-    put_code(line, u32::from(code))
-}
-
-/// Appends a code in at least four hexadecimal digits.
-#[tactic(auto, using(crate::proofs::Hexadecimal::padded_hexadecimal))]
-fn put_code(line: &mut String, code: u32) -> Result<(), AllocError>
-    ensures { IfOk result (λ _. string_bytes line.new ≡ string_bytes line.old ++ hexadecimal code) }
-{
-    write!(line, "{code:04X}")
 }

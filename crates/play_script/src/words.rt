@@ -27,13 +27,6 @@ pub fn without_blanks(text: &[u8]) -> &[u8]
     rest
 }
 
-/// Returns the position of the first blank.
-fn first_blank(text: &[u8]) -> Option<usize>
-    ensures { result ≡ position is_blank text.now }
-{
-    text.iter().position(|byte| is_blank(*byte))
-}
-
 /// Returns the number of bytes before the first blank, or the length of the text if it has no blank.
 #[tactic(auto, using(crate::proofs::WordLaws::place_of_first))]
 pub(crate) fn word_length(text: &[u8]) -> usize
@@ -41,6 +34,13 @@ pub(crate) fn word_length(text: &[u8]) -> usize
     ensures is { result ≡ position_or_len is_blank text.now }
 {
     first_blank(text).unwrap_or(text.len())
+}
+
+/// Returns the position of the first blank.
+fn first_blank(text: &[u8]) -> Option<usize>
+    ensures { result ≡ position is_blank text.now }
+{
+    text.iter().position(|byte| is_blank(*byte))
 }
 
 /// Returns the word with which a text begins.

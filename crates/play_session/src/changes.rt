@@ -65,27 +65,6 @@ fn put_current_change(
     }
 }
 
-/// Appends the change of an option's saved value, if it changed.
-fn put_saved_change(
-    changes: &mut Vec<Change>,
-    store: u32,
-    option: usize,
-    engine: &Engine,
-    before: &[Cell],
-)
-    requires number { option_number (tab engine.now.tables).stores (Numbered store) ≡ Some option }
-    requires within { option < length before.now }
-    requires room { vec_len changes.old < vec_capacity changes.old }
-    ensures changes { changes.new.items ≡ changes.old.items ++ saved_change (values_in engine.now.tables before.now) (values_now engine.now) store option }
-    ensures few { vec_len changes.new ≤ vec_len changes.old + 1 }
-    ensures room { vec_capacity changes.new ≡ vec_capacity changes.old }
-{
-    let was = saved_before(engine, before, option);
-    if is_newly_saved(was, engine.saved_of(store)) {
-        changes.push_reserved(Change { store, saved: true });
-    }
-}
-
 /// Returns whether the current value of an option is unchanged.
 #[tactic(auto, using(crate::proofs::Comparing::cell_has_value))]
 fn current_stays(engine: &Engine, before: &[Cell], store: u32, option: usize) -> bool
@@ -117,6 +96,27 @@ fn are_of_one_store(a: Held, b: Held) -> bool
     match (a, b) {
         (Held::Store(a), Held::Store(b)) => a == b,
         _ => false,
+    }
+}
+
+/// Appends the change of an option's saved value, if it changed.
+fn put_saved_change(
+    changes: &mut Vec<Change>,
+    store: u32,
+    option: usize,
+    engine: &Engine,
+    before: &[Cell],
+)
+    requires number { option_number (tab engine.now.tables).stores (Numbered store) ≡ Some option }
+    requires within { option < length before.now }
+    requires room { vec_len changes.old < vec_capacity changes.old }
+    ensures changes { changes.new.items ≡ changes.old.items ++ saved_change (values_in engine.now.tables before.now) (values_now engine.now) store option }
+    ensures few { vec_len changes.new ≤ vec_len changes.old + 1 }
+    ensures room { vec_capacity changes.new ≡ vec_capacity changes.old }
+{
+    let was = saved_before(engine, before, option);
+    if is_newly_saved(was, engine.saved_of(store)) {
+        changes.push_reserved(Change { store, saved: true });
     }
 }
 

@@ -28,6 +28,32 @@ pub(crate) struct Places {
     pub(crate) to: u32,
 }
 
+/// Performs a key event. Reserves space for all that it may insert first, so the text is unchanged if an allocation fails.
+#[tactic(auto, using(crate::proofs::Moves::same_text))]
+pub(crate) fn key_event(
+    alloc: Global,
+    engine: &mut Engine,
+    editor: &mut Editor,
+    press: KeyPress,
+) -> Result<Outcome, Memory>
+    requires together { AreTogether TEXT_CHARS_AT_KEY engine.old editor.old }
+    ensures together { AreTogether TEXT_CHARS engine.new editor.new }
+    ensures tables { engine.new.tables ≡ engine.old.tables }
+    ensures outcome { IfOk result (λ outcome. outcome ≡ (key_event (tab engine.old.tables) press (stands_for engine.old editor.old)).outcome) }
+    ensures state { IfOk result (λ _. stands_for engine.new editor.new ≡ (key_event (tab engine.old.tables) press (stands_for engine.old editor.old)).after) }
+    ensures inserted { IfOk result (λ _. engine.new.inserted ≡ (key_event (tab engine.old.tables) press (stands_for engine.old editor.old)).inserted) }
+    ensures chosen { IfOk result (λ _. engine.new.chosen ≡ chosen (tab engine.old.tables) (stands_for engine.old editor.old) (event.Key press)) }
+    ensures unchanged { IfErr result (λ _. stands_for engine.new editor.new ≡ stands_for engine.old editor.old) }
+    ensures engine { IfErr result (λ _. engine.new ≡ engine.old) }
+{
+    editor.reserve(alloc, KEY_CHARS)?;
+    let outcome = press_key(engine, editor, press);
+    if outcome.pass {
+        pass_on(engine, editor, press);
+    }
+    Ok(outcome)
+}
+
 /// Presses a key and makes its edit before the caret.
 fn press_key(engine: &mut Engine, editor: &mut Editor, press: KeyPress) -> Outcome
     requires together { AreTogether TEXT_CHARS_AT_KEY engine.old editor.old }
@@ -57,32 +83,6 @@ fn pass_on(engine: &mut Engine, editor: &mut Editor, press: KeyPress)
 {
     editor.passed(press);
     engine.sync(editor.left());
-}
-
-/// Performs a key event. Reserves space for all that it may insert first, so the text is unchanged if an allocation fails.
-#[tactic(auto, using(crate::proofs::Moves::same_text))]
-pub(crate) fn key_event(
-    alloc: Global,
-    engine: &mut Engine,
-    editor: &mut Editor,
-    press: KeyPress,
-) -> Result<Outcome, Memory>
-    requires together { AreTogether TEXT_CHARS_AT_KEY engine.old editor.old }
-    ensures together { AreTogether TEXT_CHARS engine.new editor.new }
-    ensures tables { engine.new.tables ≡ engine.old.tables }
-    ensures outcome { IfOk result (λ outcome. outcome ≡ (key_event (tab engine.old.tables) press (stands_for engine.old editor.old)).outcome) }
-    ensures state { IfOk result (λ _. stands_for engine.new editor.new ≡ (key_event (tab engine.old.tables) press (stands_for engine.old editor.old)).after) }
-    ensures inserted { IfOk result (λ _. engine.new.inserted ≡ (key_event (tab engine.old.tables) press (stands_for engine.old editor.old)).inserted) }
-    ensures chosen { IfOk result (λ _. engine.new.chosen ≡ chosen (tab engine.old.tables) (stands_for engine.old editor.old) (event.Key press)) }
-    ensures unchanged { IfErr result (λ _. stands_for engine.new editor.new ≡ stands_for engine.old editor.old) }
-    ensures engine { IfErr result (λ _. engine.new ≡ engine.old) }
-{
-    editor.reserve(alloc, KEY_CHARS)?;
-    let outcome = press_key(engine, editor, press);
-    if outcome.pass {
-        pass_on(engine, editor, press);
-    }
-    Ok(outcome)
 }
 
 /// Returns what a key press would do. Changes neither the engine nor the editor.

@@ -63,14 +63,6 @@ fn put_never(alloc: Global, text: &mut String, hits: &[Hit]) -> Result<(), Alloc
     text.push_str("\n")
 }
 
-/// Appends the last line: the number of events.
-#[tactic(auto, unfolding(crate::specs::TraceText::events_line))]
-fn put_events(text: &mut String, events: usize) -> Result<(), AllocError>
-    ensures { IfOk result (λ _. string_bytes text.new ≡ string_bytes text.old ++ events_line events) }
-{
-    write!(text, "end events={events}\n")
-}
-
 /// Returns the lines of the hits whose count is 0.
 fn never_chosen(alloc: Global, hits: &[Hit]) -> Result<Vec<u32>, AllocError>
     ensures { IfOk result (λ lines. lines.items ≡ never_chosen hits.now) }
@@ -82,4 +74,12 @@ fn never_chosen(alloc: Global, hits: &[Hit]) -> Result<Vec<u32>, AllocError>
         }
     }
     Ok(lines)
+}
+
+/// Appends the last line: the number of events.
+#[tactic(auto, unfolding(crate::specs::TraceText::events_line))]
+fn put_events(text: &mut String, events: usize) -> Result<(), AllocError>
+    ensures { IfOk result (λ _. string_bytes text.new ≡ string_bytes text.old ++ events_line events) }
+{
+    write!(text, "end events={events}\n")
 }

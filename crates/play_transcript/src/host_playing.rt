@@ -133,57 +133,6 @@ fn open_field(alloc: Global, play: &mut Play) -> Result<Played, WriteError>
     }
 }
 
-/// Performs an event in the current field, and prints its lines.
-#[tactic(auto, using(crate::proofs::PrintingLaws::faults))]
-fn play_event<S: Sink>(
-    alloc: Global,
-    play: &mut Play,
-    event: &Event,
-    out: &mut S,
-) -> Result<Played, WriteError>
-    requires events { play.old.events < 2 ^ 64 - 1 }
-    requires options { AreSessions play.old.host }
-    ensures counts { WriteCounts (S.faults out.old) (S.faults out.new) result }
-    ensures told { S.told out.new ≡ S.told out.old }
-    ensures plays { IfOk result (PlaysBy (refusal_in (turned_to play.old) event.now) (stepped play.old event.now (turned_to play.old)) play.new) }
-    ensures prints { IsTrue (S.told out.old) → Prints (S.written out.old) (S.written out.new) (event_lines play.old event.now) result }
-{
-    let number = play.asked.saturating_add(1);
-    match play.host.step(alloc, play.field, event) {
-        Ok(step) => {
-            put_field_step(alloc, &play.host, play.field, step, out)?;
-            play.asked = number;
-            play.events += 1;
-            Ok(Played::On)
-        }
-        Err(error) => {
-            let code = refused_with(error)?;
-            put_refusal(alloc, number, code, out)
-        }
-    }
-}
-
-/// Prints what the last event of a field did.
-#[tactic(auto, using(crate::proofs::PrintingLaws::faults, crate::proofs::PrintingLaws::nothing_put))]
-fn put_field_step<S: Sink>(
-    alloc: Global,
-    host: &Host,
-    field: u32,
-    step: Step,
-    out: &mut S,
-) -> Result<(), WriteError>
-    requires { ReportsStoreFault (field_of host.now field) }
-    ensures counts { WriteCounts (S.faults out.old) (S.faults out.new) result }
-    ensures told { S.told out.new ≡ S.told out.old }
-    ensures prints { IsTrue (S.told out.old) → Prints (S.written out.old) (S.written out.new) (told_lines field step (field_of host.now field)) result }
-{
-    let Some(session) = host.field(field) else {
-        return Ok(());
-    };
-    let front = front(alloc, field)?;
-    put_step(alloc, front.as_slice(), session, step, out)
-}
-
 /// Prints what a key press would do in the current field.
 #[tactic(auto, using(crate::proofs::PrintingLaws::faults))]
 fn play_preview<S: Sink>(
@@ -243,6 +192,57 @@ fn put_refusal<S: Sink>(
     let line = refused_event_line(alloc, number, code)?;
     put_all(out, line.as_slice())?;
     Ok(Played::Refused)
+}
+
+/// Performs an event in the current field, and prints its lines.
+#[tactic(auto, using(crate::proofs::PrintingLaws::faults))]
+fn play_event<S: Sink>(
+    alloc: Global,
+    play: &mut Play,
+    event: &Event,
+    out: &mut S,
+) -> Result<Played, WriteError>
+    requires events { play.old.events < 2 ^ 64 - 1 }
+    requires options { AreSessions play.old.host }
+    ensures counts { WriteCounts (S.faults out.old) (S.faults out.new) result }
+    ensures told { S.told out.new ≡ S.told out.old }
+    ensures plays { IfOk result (PlaysBy (refusal_in (turned_to play.old) event.now) (stepped play.old event.now (turned_to play.old)) play.new) }
+    ensures prints { IsTrue (S.told out.old) → Prints (S.written out.old) (S.written out.new) (event_lines play.old event.now) result }
+{
+    let number = play.asked.saturating_add(1);
+    match play.host.step(alloc, play.field, event) {
+        Ok(step) => {
+            put_field_step(alloc, &play.host, play.field, step, out)?;
+            play.asked = number;
+            play.events += 1;
+            Ok(Played::On)
+        }
+        Err(error) => {
+            let code = refused_with(error)?;
+            put_refusal(alloc, number, code, out)
+        }
+    }
+}
+
+/// Prints what the last event of a field did.
+#[tactic(auto, using(crate::proofs::PrintingLaws::faults, crate::proofs::PrintingLaws::nothing_put))]
+fn put_field_step<S: Sink>(
+    alloc: Global,
+    host: &Host,
+    field: u32,
+    step: Step,
+    out: &mut S,
+) -> Result<(), WriteError>
+    requires { ReportsStoreFault (field_of host.now field) }
+    ensures counts { WriteCounts (S.faults out.old) (S.faults out.new) result }
+    ensures told { S.told out.new ≡ S.told out.old }
+    ensures prints { IsTrue (S.told out.old) → Prints (S.written out.old) (S.written out.new) (told_lines field step (field_of host.now field)) result }
+{
+    let Some(session) = host.field(field) else {
+        return Ok(());
+    };
+    let front = front(alloc, field)?;
+    put_step(alloc, front.as_slice(), session, step, out)
 }
 
 /// Compares the whole text of the current field with an expected text, and prints a line if they differ.

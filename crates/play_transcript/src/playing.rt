@@ -154,6 +154,71 @@ fn play_event<S: Sink>(
     }
 }
 
+/// Prints the refusal of an event.
+#[tactic(auto, using(crate::proofs::PrintingLaws::faults))]
+fn put_refusal<S: Sink>(
+    alloc: Global,
+    number: u32,
+    code: Code,
+    out: &mut S,
+) -> Result<Played, WriteError>
+    ensures counts { WriteCounts (S.faults out.old) (S.faults out.new) result }
+    ensures told { S.told out.new ≡ S.told out.old }
+    ensures refused { IfOk result (λ played. played ≡ Played.Refused) }
+    ensures prints { IsTrue (S.told out.old) → Prints (S.written out.old) (S.written out.new) (refused_event_line number code) result }
+{
+    let line = refused_event_line(alloc, number, code)?;
+    put_all(out, line.as_slice())?;
+    Ok(Played::Refused)
+}
+
+/// Compares the whole text with an expected text, and prints a line if they differ.
+#[tactic(auto, using(crate::proofs::PrintingLaws::faults))]
+fn play_expect<S: Sink>(
+    alloc: Global,
+    session: &Session,
+    counts: Counts,
+    expected: Expected<'_>,
+    out: &mut S,
+) -> Result<Played, WriteError>
+    requires failed { counts.failed < 2 ^ 64 - 1 }
+    ensures counts { WriteCounts (S.faults out.old) (S.faults out.new) result }
+    ensures told { S.told out.new ≡ S.told out.old }
+    ensures plays { IfOk result (PlaysExpect session.now session.now counts expected.entry.text.now) }
+    ensures prints { IsTrue (S.told out.old) → Prints (S.written out.old) (S.written out.new) (expect_lines session.now.state expected.entry.line expected.entry.text.now) result }
+{
+    let editor = session.editor();
+    if is_text(editor.left(), editor.right(), expected.text) {
+        return Ok(Played::On(counts));
+    }
+    let line = expect_line(alloc, expected.line)?;
+    put_all(out, line.as_slice())?;
+    Ok(Played::On(Counts {
+        failed: counts.failed + 1,
+        ..counts
+    }))
+}
+
+/// Prints the text and the counts, and returns how the play ends.
+#[tactic(auto, using(crate::proofs::PrintingLaws::faults))]
+fn put_end<S: Sink>(
+    alloc: Global,
+    session: &Session,
+    counts: Counts,
+    out: &mut S,
+) -> Result<PlayEnd, WriteError>
+    ensures counts { WriteCounts (S.faults out.old) (S.faults out.new) result }
+    ensures told { S.told out.new ≡ S.told out.old }
+    ensures ends { IfOk result (λ end. end ≡ end_after None counts.failed) }
+    ensures prints { IsTrue (S.told out.old) → Prints (S.written out.old) (S.written out.new) (end_lines session.now counts) result }
+{
+    let text = text_line(alloc, session.editor().left(), session.editor().right())?;
+    let end = end_line(alloc, counts.events, counts.failed)?;
+    put_all(out, text.as_slice())?;
+    put_all(out, end.as_slice())?;
+    Ok(end_after(counts.failed))
+}
+
 /// Returns the code of a refused event. Errors: `Memory` if the session ran out of memory.
 pub fn refused_with(error: StepError) -> Result<Code, Memory>
     ensures code { IfOk result (λ code. code_of error ≡ Some code) }
@@ -232,18 +297,6 @@ fn put_change<S: Sink>(
     put_all(out, line.as_slice())
 }
 
-/// Returns a line with `front` at its front.
-pub fn fronted(alloc: Global, front: &[u8], line: Text) -> Result<Text, Memory>
-    ensures { IfOk result (λ all. all ≡ front.now ++ line) }
-{
-    if front.is_empty() {
-        return Ok(line);
-    }
-    let mut all = Seq::from_slice(alloc, front)?;
-    all.extend_from_slice(line.as_slice())?;
-    Ok(all)
-}
-
 /// Returns the line of an option's new value.
 fn change_line(alloc: Global, session: &Session, change: Change) -> Result<Text, Memory>
     requires { change.store < length (tab session.now.tables).stores }
@@ -264,49 +317,16 @@ fn elements_of(value: &Option<Seq<Element>>) -> &[Element]
     }
 }
 
-/// Prints the refusal of an event.
-#[tactic(auto, using(crate::proofs::PrintingLaws::faults))]
-fn put_refusal<S: Sink>(
-    alloc: Global,
-    number: u32,
-    code: Code,
-    out: &mut S,
-) -> Result<Played, WriteError>
-    ensures counts { WriteCounts (S.faults out.old) (S.faults out.new) result }
-    ensures told { S.told out.new ≡ S.told out.old }
-    ensures refused { IfOk result (λ played. played ≡ Played.Refused) }
-    ensures prints { IsTrue (S.told out.old) → Prints (S.written out.old) (S.written out.new) (refused_event_line number code) result }
+/// Returns a line with `front` at its front.
+pub fn fronted(alloc: Global, front: &[u8], line: Text) -> Result<Text, Memory>
+    ensures { IfOk result (λ all. all ≡ front.now ++ line) }
 {
-    let line = refused_event_line(alloc, number, code)?;
-    put_all(out, line.as_slice())?;
-    Ok(Played::Refused)
-}
-
-/// Compares the whole text with an expected text, and prints a line if they differ.
-#[tactic(auto, using(crate::proofs::PrintingLaws::faults))]
-fn play_expect<S: Sink>(
-    alloc: Global,
-    session: &Session,
-    counts: Counts,
-    expected: Expected<'_>,
-    out: &mut S,
-) -> Result<Played, WriteError>
-    requires failed { counts.failed < 2 ^ 64 - 1 }
-    ensures counts { WriteCounts (S.faults out.old) (S.faults out.new) result }
-    ensures told { S.told out.new ≡ S.told out.old }
-    ensures plays { IfOk result (PlaysExpect session.now session.now counts expected.entry.text.now) }
-    ensures prints { IsTrue (S.told out.old) → Prints (S.written out.old) (S.written out.new) (expect_lines session.now.state expected.entry.line expected.entry.text.now) result }
-{
-    let editor = session.editor();
-    if is_text(editor.left(), editor.right(), expected.text) {
-        return Ok(Played::On(counts));
+    if front.is_empty() {
+        return Ok(line);
     }
-    let line = expect_line(alloc, expected.line)?;
-    put_all(out, line.as_slice())?;
-    Ok(Played::On(Counts {
-        failed: counts.failed + 1,
-        ..counts
-    }))
+    let mut all = Seq::from_slice(alloc, front)?;
+    all.extend_from_slice(line.as_slice())?;
+    Ok(all)
 }
 
 /// Returns whether a text before the caret and a text after it together are this text.
@@ -315,26 +335,6 @@ pub fn is_text(left: &[char], right: &[char], text: &[char]) -> bool
     ensures { result ≡ bytes_eq (left.now ++ right.now) text.now }
 {
     left == before(text, left.len()) && right == behind(text, left.len())
-}
-
-/// Prints the text and the counts, and returns how the play ends.
-#[tactic(auto, using(crate::proofs::PrintingLaws::faults))]
-fn put_end<S: Sink>(
-    alloc: Global,
-    session: &Session,
-    counts: Counts,
-    out: &mut S,
-) -> Result<PlayEnd, WriteError>
-    ensures counts { WriteCounts (S.faults out.old) (S.faults out.new) result }
-    ensures told { S.told out.new ≡ S.told out.old }
-    ensures ends { IfOk result (λ end. end ≡ end_after None counts.failed) }
-    ensures prints { IsTrue (S.told out.old) → Prints (S.written out.old) (S.written out.new) (end_lines session.now counts) result }
-{
-    let text = text_line(alloc, session.editor().left(), session.editor().right())?;
-    let end = end_line(alloc, counts.events, counts.failed)?;
-    put_all(out, text.as_slice())?;
-    put_all(out, end.as_slice())?;
-    Ok(end_after(counts.failed))
 }
 
 /// Returns how a play ends after its whole script is played.

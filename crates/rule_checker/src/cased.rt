@@ -21,51 +21,22 @@ pub struct StoreCodes {
     pub codes: Seq<KeyCodes>,
 }
 
-/// Returns the codes of the keys that the store of a name has.
-fn codes_named(before: &StoreCodes, name: &[u8]) -> KeyCodes
-    ensures { result ≡ codes_named before.now name.now }
+/// Returns the codes of the cased keys.
+pub(crate) fn cased_codes(alloc: Global, stores: &[StoreDef]) -> Result<KeyCodes, Memory>
+    ensures { IfOk result (λ codes. codes ≡ codes_of_cased stores.now) }
 {
-    match before.names.place_of(name) {
-        Some(place) => match before.codes.as_slice().get(place) {
-            Some(codes) => *codes,
-            None => KeyCodes::new(),
-        },
-        None => KeyCodes::new(),
+    if has_cased(stores) {
+        first_codes(alloc, stores)
+    } else {
+        Ok(KeyCodes::new())
     }
 }
 
-/// Adds the codes that an item adds to a store.
-fn add_item_codes(codes: &mut KeyCodes, before: &StoreCodes, item: &SrcItem)
-    ensures { codes.new ≡ with_item_codes before.now codes.old item.now }
+/// Returns whether a statement of `&casedkeys` is among stores.
+fn has_cased(stores: &[StoreDef]) -> bool
+    ensures { result ≡ list_any needs_plain_keys stores.now }
 {
-    match item {
-        SrcItem::Key(key) => codes.add(key.code),
-        SrcItem::Outs(name) => codes.join(&codes_named(before, name.as_slice())),
-        _ => {}
-    }
-}
-
-/// Returns the codes that items add to a store.
-fn codes_of_items(before: &StoreCodes, items: &[SrcItem]) -> KeyCodes
-    ensures { result ≡ with_items_codes before.now no_codes items.now }
-{
-    let mut codes = KeyCodes::new();
-    for item in items {
-        add_item_codes(&mut codes, before, item);
-    }
-    codes
-}
-
-/// Appends the codes of a store, unless its statement is dropped.
-fn add_store_codes(before: &mut StoreCodes, store: &StoreDef) -> Result<(), Memory>
-    ensures { OnOk result (before.new ≡ with_store_codes before.old store.now) }
-{
-    if store.system == DROPPED {
-        return Ok(());
-    }
-    let codes = codes_of_items(before, store.items.as_slice());
-    before.names.push(store.name.as_slice())?;
-    before.codes.add(codes)
+    stores.iter().any(|store| store.system == CASED_KEYS)
 }
 
 /// Returns the codes of the first `&casedkeys`.
@@ -85,20 +56,49 @@ fn first_codes(alloc: Global, stores: &[StoreDef]) -> Result<KeyCodes, Memory>
     Ok(KeyCodes::new())
 }
 
-/// Returns whether a statement of `&casedkeys` is among stores.
-fn has_cased(stores: &[StoreDef]) -> bool
-    ensures { result ≡ list_any needs_plain_keys stores.now }
+/// Returns the codes that items add to a store.
+fn codes_of_items(before: &StoreCodes, items: &[SrcItem]) -> KeyCodes
+    ensures { result ≡ with_items_codes before.now no_codes items.now }
 {
-    stores.iter().any(|store| store.system == CASED_KEYS)
+    let mut codes = KeyCodes::new();
+    for item in items {
+        add_item_codes(&mut codes, before, item);
+    }
+    codes
 }
 
-/// Returns the codes of the cased keys.
-pub(crate) fn cased_codes(alloc: Global, stores: &[StoreDef]) -> Result<KeyCodes, Memory>
-    ensures { IfOk result (λ codes. codes ≡ codes_of_cased stores.now) }
+/// Adds the codes that an item adds to a store.
+fn add_item_codes(codes: &mut KeyCodes, before: &StoreCodes, item: &SrcItem)
+    ensures { codes.new ≡ with_item_codes before.now codes.old item.now }
 {
-    if has_cased(stores) {
-        first_codes(alloc, stores)
-    } else {
-        Ok(KeyCodes::new())
+    match item {
+        SrcItem::Key(key) => codes.add(key.code),
+        SrcItem::Outs(name) => codes.join(&codes_named(before, name.as_slice())),
+        _ => {}
     }
+}
+
+/// Returns the codes of the keys that the store of a name has.
+fn codes_named(before: &StoreCodes, name: &[u8]) -> KeyCodes
+    ensures { result ≡ codes_named before.now name.now }
+{
+    match before.names.place_of(name) {
+        Some(place) => match before.codes.as_slice().get(place) {
+            Some(codes) => *codes,
+            None => KeyCodes::new(),
+        },
+        None => KeyCodes::new(),
+    }
+}
+
+/// Appends the codes of a store, unless its statement is dropped.
+fn add_store_codes(before: &mut StoreCodes, store: &StoreDef) -> Result<(), Memory>
+    ensures { OnOk result (before.new ≡ with_store_codes before.old store.now) }
+{
+    if store.system == DROPPED {
+        return Ok(());
+    }
+    let codes = codes_of_items(before, store.items.as_slice());
+    before.names.push(store.name.as_slice())?;
+    before.codes.add(codes)
 }

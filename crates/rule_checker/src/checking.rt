@@ -65,40 +65,13 @@ impl Checked {
     }
 }
 
-/// Returns whether there is a `begin Unicode`.
-fn is_started(begins: &[BeginDef]) -> bool
-    ensures { result ≡ list_any is_unicode begins.now }
+/// Returns the program if it is not refused, or its first refusal: C01 to C22, or C25.
+pub fn check(alloc: Global, program: Program) -> Result<Checked, CompileError>
+    requires { IsRead program }
+    ensures { Answers (or_refusal program (refused program)) result }
 {
-    for start in begins {
-        if start.unicode {
-            return true;
-        }
-    }
-    false
-}
-
-/// Returns the refusal of a program without a start.
-fn start_refusal(program: &Program) -> Option<Refusal>
-    ensures { result ≡ start_refusal program.now }
-{
-    if is_started(program.begins.as_slice()) {
-        None
-    } else {
-        Some(Refusal {
-            line: 1,
-            code: Code::C01,
-        })
-    }
-}
-
-/// Returns the first refusal for items, then for limits.
-fn later_refusal(alloc: Global, program: &Program) -> Result<Option<Refusal>, Memory>
-    ensures { IfOk result (λ refusal. refusal ≡ option_or (items_refusal program.now) (limits_refusal program.now)) }
-{
-    match items_refusal(alloc, program)? {
-        Some(refusal) => Ok(Some(refusal)),
-        None => limits_refusal(alloc, program),
-    }
+    let names = checked_names(alloc, &program)?;
+    Ok(Checked { program, names })
 }
 
 /// Returns the names of a program, or its first refusal.
@@ -117,11 +90,38 @@ fn checked_names(alloc: Global, program: &Program) -> Result<Names, CompileError
     }
 }
 
-/// Returns the program if it is not refused, or its first refusal: C01 to C22, or C25.
-pub fn check(alloc: Global, program: Program) -> Result<Checked, CompileError>
-    requires { IsRead program }
-    ensures { Answers (or_refusal program (refused program)) result }
+/// Returns the refusal of a program without a start.
+fn start_refusal(program: &Program) -> Option<Refusal>
+    ensures { result ≡ start_refusal program.now }
 {
-    let names = checked_names(alloc, &program)?;
-    Ok(Checked { program, names })
+    if is_started(program.begins.as_slice()) {
+        None
+    } else {
+        Some(Refusal {
+            line: 1,
+            code: Code::C01,
+        })
+    }
+}
+
+/// Returns whether there is a `begin Unicode`.
+fn is_started(begins: &[BeginDef]) -> bool
+    ensures { result ≡ list_any is_unicode begins.now }
+{
+    for start in begins {
+        if start.unicode {
+            return true;
+        }
+    }
+    false
+}
+
+/// Returns the first refusal for items, then for limits.
+fn later_refusal(alloc: Global, program: &Program) -> Result<Option<Refusal>, Memory>
+    ensures { IfOk result (λ refusal. refusal ≡ option_or (items_refusal program.now) (limits_refusal program.now)) }
+{
+    match items_refusal(alloc, program)? {
+        Some(refusal) => Ok(Some(refusal)),
+        None => limits_refusal(alloc, program),
+    }
 }

@@ -8,18 +8,18 @@ use virtual_keys::FIRST_OWN_CODE;
 /// The number of codes that a set can mark: the codes below those of custom keys.
 const ROOM: usize = FIRST_OWN_CODE as usize;
 
-/// Returns whether a code is in the key table.
-fn is_table_code(code: u16) -> bool
-    ensures { result ≡ is_table_code code }
-{
-    0 < code && code < FIRST_OWN_CODE
-}
-
 /// Returns whether at least one of two conditions is true.
 pub(crate) fn either(one: bool, other: bool) -> bool
     ensures { result ≡ (one || other) }
 {
     one || other
+}
+
+/// Returns whether a code is in the key table.
+fn is_table_code(code: u16) -> bool
+    ensures { result ≡ is_table_code code }
+{
+    0 < code && code < FIRST_OWN_CODE
 }
 
 /// A set of codes of the key table.

@@ -16,6 +16,15 @@ use rule_model::{GroupDef, Program};
 use std::alloc::Global;
 use store_table::{at_line, earlier};
 
+/// Returns the first refusal for limits, if any.
+#[tactic(auto, unfolding(crate::specs::Limits::limits_refusal))]
+pub(crate) fn limits_refusal(alloc: Global, program: &Program) -> Result<Option<Refusal>, Memory>
+    ensures { IfOk result (λ refusal. refusal ≡ limits_refusal program.now) }
+{
+    let statements = statements_refusal(alloc, program)?;
+    Ok(earlier(statements, groups_refusal(program.groups.as_slice())))
+}
+
 /// Returns the first refusal for C16 to C19, C21 and C22.
 #[tactic(auto, using(crate::proofs::FirstPassed::first_passed))]
 fn statements_refusal(alloc: Global, program: &Program) -> Result<Option<Refusal>, Memory>
@@ -24,18 +33,6 @@ fn statements_refusal(alloc: Global, program: &Program) -> Result<Option<Refusal
     let cased = cased_codes(alloc, program.stores.as_slice())?;
     let counted = count_stores(alloc, cased, program.stores.as_slice())?;
     first_passed(alloc, &counted, program)
-}
-
-/// Returns the refusal C20 of a group that follows `before` other groups, if there are too many.
-fn group_refusal(before: usize, group: &GroupDef) -> Option<Refusal>
-    ensures { (others : List GroupDef) → before ≡ length others → result ≡ group_refusal others group.now }
-{
-    let code = if before < GROUPS {
-        None
-    } else {
-        Some(Code::C20)
-    };
-    at_line(group.line, code)
 }
 
 /// Returns the first refusal for C20.
@@ -50,11 +47,14 @@ fn groups_refusal(groups: &[GroupDef]) -> Option<Refusal>
     first
 }
 
-/// Returns the first refusal for limits, if any.
-#[tactic(auto, unfolding(crate::specs::Limits::limits_refusal))]
-pub(crate) fn limits_refusal(alloc: Global, program: &Program) -> Result<Option<Refusal>, Memory>
-    ensures { IfOk result (λ refusal. refusal ≡ limits_refusal program.now) }
+/// Returns the refusal C20 of a group that follows `before` other groups, if there are too many.
+fn group_refusal(before: usize, group: &GroupDef) -> Option<Refusal>
+    ensures { (others : List GroupDef) → before ≡ length others → result ≡ group_refusal others group.now }
 {
-    let statements = statements_refusal(alloc, program)?;
-    Ok(earlier(statements, groups_refusal(program.groups.as_slice())))
+    let code = if before < GROUPS {
+        None
+    } else {
+        Some(Code::C20)
+    };
+    at_line(group.line, code)
 }

@@ -47,15 +47,16 @@ pub struct Totals {
     pub records: u32,
 }
 
-/// Returns a length as a count, or the maximum of `u32` if it is larger.
-fn size_of(len: usize) -> u32
-    ensures { result ≡ capped len }
+/// Counts a store statement.
+pub(crate) fn add_store(
+    totals: &mut Totals,
+    counted: &StoreCounts,
+    store: &StoreDef,
+) -> Result<(), Memory>
+    ensures { OnOk result (totals.new ≡ after_store counted.now totals.old store.now) }
 {
-    if len < 0xFFFF_FFFF {
-        len as u32
-    } else {
-        0xFFFF_FFFF
-    }
+    add_store_size(totals, counted, store);
+    add_names(totals, store.items.as_slice())
 }
 
 impl Totals {
@@ -75,6 +76,51 @@ impl Totals {
             has_large_store: false,
             records: 0,
         }
+    }
+}
+
+/// Counts the store of a statement, unless the statement is dropped.
+fn add_store_size(totals: &mut Totals, counted: &StoreCounts, store: &StoreDef)
+    ensures { totals.new ≡ with_store_size counted.now totals.old store.now }
+{
+    if store.system != DROPPED {
+        add_size(totals, store_count(counted, store.items.as_slice()));
+    }
+}
+
+/// Counts a store with this number of elements.
+fn add_size(totals: &mut Totals, size: u32)
+    ensures { totals.new ≡ with_size totals.old size }
+{
+    totals.stores = totals.stores.saturating_add(1);
+    totals.elements = totals.elements.saturating_add(size);
+    totals.has_large_store = either(totals.has_large_store, (STORE_ELEMENTS as u32) < size);
+}
+
+/// Counts the deadkeys and dictionary keys that items name.
+fn add_names(totals: &mut Totals, items: &[SrcItem]) -> Result<(), Memory>
+    ensures { OnOk result (totals.new ≡ with_names totals.old items.now) }
+{
+    for item in items {
+        add_names_of(totals, item)?;
+    }
+    Ok(())
+}
+
+/// Counts the deadkey or dictionary key that an item names.
+fn add_names_of(totals: &mut Totals, item: &SrcItem) -> Result<(), Memory>
+    ensures { OnOk result (totals.new ≡ with_names_of totals.old item.now) }
+{
+    match item {
+        SrcItem::Dead(name) => add_mark(totals, name.as_slice()),
+        SrcItem::Key(key) => {
+            if key.code == 0 {
+                add_key(totals, key.name.as_slice())
+            } else {
+                Ok(())
+            }
+        }
+        _ => Ok(()),
     }
 }
 
@@ -102,42 +148,56 @@ fn add_key(totals: &mut Totals, name: &[u8]) -> Result<(), Memory>
     Ok(())
 }
 
-/// Counts a value if it is new.
-fn add_value(totals: &mut Totals, value: &[char]) -> Result<(), Memory>
-    ensures { OnOk result (totals.new ≡ with_value totals.old value.now) }
+/// Counts a rule, match or nomatch statement.
+pub(crate) fn add_rule(
+    totals: &mut Totals,
+    counted: &StoreCounts,
+    rule: &RuleDef,
+) -> Result<(), Memory>
+    ensures { OnOk result (totals.new ≡ after_rule counted.now totals.old rule.now) }
 {
-    if totals.values.has(value) {
-        return Ok(());
-    }
-    totals.values.push(value)?;
-    totals.value_elements = totals.value_elements.saturating_add(size_of(value.len()));
-    totals.has_large_value = either(totals.has_large_value, STORE_ELEMENTS < value.len());
+    add_rule_names(totals, rule)?;
+    add_rule_values(totals, rule)?;
+    add_records(totals, counted, rule);
     Ok(())
 }
 
-/// Counts the deadkey or dictionary key that an item names.
-fn add_names_of(totals: &mut Totals, item: &SrcItem) -> Result<(), Memory>
-    ensures { OnOk result (totals.new ≡ with_names_of totals.old item.now) }
+/// Counts the deadkeys and dictionary keys that the items of a rule name.
+#[tactic(auto, using(crate::proofs::Walked::names_append))]
+fn add_rule_names(totals: &mut Totals, rule: &RuleDef) -> Result<(), Memory>
+    ensures { OnOk result (totals.new ≡ with_names totals.old (rule_items rule.now)) }
 {
-    match item {
-        SrcItem::Dead(name) => add_mark(totals, name.as_slice()),
-        SrcItem::Key(key) => {
-            if key.code == 0 {
-                add_key(totals, key.name.as_slice())
-            } else {
-                Ok(())
-            }
-        }
-        _ => Ok(()),
+    add_names(totals, rule.context.as_slice())?;
+    add_key_names(totals, &rule.key)?;
+    add_names(totals, rule.output.as_slice())
+}
+
+/// Counts the dictionary key that the key of a rule names.
+fn add_key_names(totals: &mut Totals, key: &Option<SrcItem>) -> Result<(), Memory>
+    ensures { OnOk result (totals.new ≡ with_names totals.old (option_to_list key.now)) }
+{
+    match key {
+        Some(item) => add_names_of(totals, item),
+        None => Ok(()),
     }
 }
 
-/// Counts the deadkeys and dictionary keys that items name.
-fn add_names(totals: &mut Totals, items: &[SrcItem]) -> Result<(), Memory>
-    ensures { OnOk result (totals.new ≡ with_names totals.old items.now) }
+/// Counts the values of the items of a rule.
+#[tactic(auto, using(crate::proofs::Walked::values_append))]
+fn add_rule_values(totals: &mut Totals, rule: &RuleDef) -> Result<(), Memory>
+    ensures { OnOk result (totals.new ≡ with_values totals.old (rule_items rule.now)) }
+{
+    add_values(totals, rule.context.as_slice())?;
+    add_key_value(totals, &rule.key)?;
+    add_values(totals, rule.output.as_slice())
+}
+
+/// Counts the values of items.
+fn add_values(totals: &mut Totals, items: &[SrcItem]) -> Result<(), Memory>
+    ensures { OnOk result (totals.new ≡ with_values totals.old items.now) }
 {
     for item in items {
-        add_names_of(totals, item)?;
+        add_value_of(totals, item)?;
     }
     Ok(())
 }
@@ -157,23 +217,27 @@ fn add_value_of(totals: &mut Totals, item: &SrcItem) -> Result<(), Memory>
     }
 }
 
-/// Counts the values of items.
-fn add_values(totals: &mut Totals, items: &[SrcItem]) -> Result<(), Memory>
-    ensures { OnOk result (totals.new ≡ with_values totals.old items.now) }
+/// Counts a value if it is new.
+fn add_value(totals: &mut Totals, value: &[char]) -> Result<(), Memory>
+    ensures { OnOk result (totals.new ≡ with_value totals.old value.now) }
 {
-    for item in items {
-        add_value_of(totals, item)?;
+    if totals.values.has(value) {
+        return Ok(());
     }
+    totals.values.push(value)?;
+    totals.value_elements = totals.value_elements.saturating_add(size_of(value.len()));
+    totals.has_large_value = either(totals.has_large_value, STORE_ELEMENTS < value.len());
     Ok(())
 }
 
-/// Counts the dictionary key that the key of a rule names.
-fn add_key_names(totals: &mut Totals, key: &Option<SrcItem>) -> Result<(), Memory>
-    ensures { OnOk result (totals.new ≡ with_names totals.old (option_to_list key.now)) }
+/// Returns a length as a count, or the maximum of `u32` if it is larger.
+fn size_of(len: usize) -> u32
+    ensures { result ≡ capped len }
 {
-    match key {
-        Some(item) => add_names_of(totals, item),
-        None => Ok(()),
+    if len < 0xFFFF_FFFF {
+        len as u32
+    } else {
+        0xFFFF_FFFF
     }
 }
 
@@ -187,53 +251,11 @@ fn add_key_value(totals: &mut Totals, key: &Option<SrcItem>) -> Result<(), Memor
     }
 }
 
-/// Counts the deadkeys and dictionary keys that the items of a rule name.
-#[tactic(auto, using(crate::proofs::Walked::names_append))]
-fn add_rule_names(totals: &mut Totals, rule: &RuleDef) -> Result<(), Memory>
-    ensures { OnOk result (totals.new ≡ with_names totals.old (rule_items rule.now)) }
+/// Counts the records of a statement.
+fn add_records(totals: &mut Totals, counted: &StoreCounts, rule: &RuleDef)
+    ensures { totals.new ≡ with_records counted.now totals.old rule.now }
 {
-    add_names(totals, rule.context.as_slice())?;
-    add_key_names(totals, &rule.key)?;
-    add_names(totals, rule.output.as_slice())
-}
-
-/// Counts the values of the items of a rule.
-#[tactic(auto, using(crate::proofs::Walked::values_append))]
-fn add_rule_values(totals: &mut Totals, rule: &RuleDef) -> Result<(), Memory>
-    ensures { OnOk result (totals.new ≡ with_values totals.old (rule_items rule.now)) }
-{
-    add_values(totals, rule.context.as_slice())?;
-    add_key_value(totals, &rule.key)?;
-    add_values(totals, rule.output.as_slice())
-}
-
-/// Counts a store with this number of elements.
-fn add_size(totals: &mut Totals, size: u32)
-    ensures { totals.new ≡ with_size totals.old size }
-{
-    totals.stores = totals.stores.saturating_add(1);
-    totals.elements = totals.elements.saturating_add(size);
-    totals.has_large_store = either(totals.has_large_store, (STORE_ELEMENTS as u32) < size);
-}
-
-/// Counts the store of a statement, unless the statement is dropped.
-fn add_store_size(totals: &mut Totals, counted: &StoreCounts, store: &StoreDef)
-    ensures { totals.new ≡ with_store_size counted.now totals.old store.now }
-{
-    if store.system != DROPPED {
-        add_size(totals, store_count(counted, store.items.as_slice()));
-    }
-}
-
-/// Returns the number of records of a plain rule with this key.
-fn key_count(counted: &StoreCounts, key: &Option<SrcItem>) -> u32
-    ensures { result ≡ key_count_of counted.now key.now }
-{
-    match key {
-        Some(SrcItem::Key(key)) => virtual_count(counted, key),
-        Some(SrcItem::Any(store)) => records_named(counted, store.as_slice()),
-        _ => 1,
-    }
+    totals.records = totals.records.saturating_add(record_count(counted, rule));
 }
 
 /// Returns the number of records of a statement.
@@ -246,64 +268,15 @@ fn record_count(counted: &StoreCounts, rule: &RuleDef) -> u32
     }
 }
 
-/// Counts the records of a statement.
-fn add_records(totals: &mut Totals, counted: &StoreCounts, rule: &RuleDef)
-    ensures { totals.new ≡ with_records counted.now totals.old rule.now }
+/// Returns the number of records of a plain rule with this key.
+fn key_count(counted: &StoreCounts, key: &Option<SrcItem>) -> u32
+    ensures { result ≡ key_count_of counted.now key.now }
 {
-    totals.records = totals.records.saturating_add(record_count(counted, rule));
-}
-
-/// Counts a store statement.
-pub(crate) fn add_store(
-    totals: &mut Totals,
-    counted: &StoreCounts,
-    store: &StoreDef,
-) -> Result<(), Memory>
-    ensures { OnOk result (totals.new ≡ after_store counted.now totals.old store.now) }
-{
-    add_store_size(totals, counted, store);
-    add_names(totals, store.items.as_slice())
-}
-
-/// Counts a rule, match or nomatch statement.
-pub(crate) fn add_rule(
-    totals: &mut Totals,
-    counted: &StoreCounts,
-    rule: &RuleDef,
-) -> Result<(), Memory>
-    ensures { OnOk result (totals.new ≡ after_rule counted.now totals.old rule.now) }
-{
-    add_rule_names(totals, rule)?;
-    add_rule_values(totals, rule)?;
-    add_records(totals, counted, rule);
-    Ok(())
-}
-
-/// Returns the number of elements of the key dictionary.
-fn dictionary_count(totals: &Totals) -> u64
-    ensures { result ≡ dictionary_count totals.now }
-{
-    (totals.key_characters as u64) + (size_of(totals.keys.len().saturating_sub(1)) as u64)
-}
-
-/// Returns the number of stores of the file.
-fn store_count_of(totals: &Totals) -> u64
-    ensures { result ≡ store_count totals.now }
-{
-    let dictionary = if totals.keys.len() == 0 { 0 } else { 1 };
-    (totals.stores as u64) + dictionary + (size_of(totals.values.len()) as u64)
-}
-
-/// Returns whether one store has too many elements, or all stores together have.
-fn passes_elements(totals: &Totals) -> bool
-    ensures { result ≡ passes_elements totals.now }
-{
-    let dictionary = dictionary_count(totals);
-    totals.has_large_store
-        || totals.has_large_value
-        || (STORE_ELEMENTS as u64) < dictionary
-        || (ALL_ELEMENTS as u64)
-            < (totals.elements as u64) + dictionary + (totals.value_elements as u64)
+    match key {
+        Some(SrcItem::Key(key)) => virtual_count(counted, key),
+        Some(SrcItem::Any(store)) => records_named(counted, store.as_slice()),
+        _ => 1,
+    }
 }
 
 /// Returns the code of the first limit that is passed, if any. `context` and `output` are whether the last statement passes C16 or C17.
@@ -325,4 +298,31 @@ pub(crate) fn totals_code(totals: &Totals, context: bool, output: bool) -> Optio
     } else {
         None
     }
+}
+
+/// Returns whether one store has too many elements, or all stores together have.
+fn passes_elements(totals: &Totals) -> bool
+    ensures { result ≡ passes_elements totals.now }
+{
+    let dictionary = dictionary_count(totals);
+    totals.has_large_store
+        || totals.has_large_value
+        || (STORE_ELEMENTS as u64) < dictionary
+        || (ALL_ELEMENTS as u64)
+            < (totals.elements as u64) + dictionary + (totals.value_elements as u64)
+}
+
+/// Returns the number of elements of the key dictionary.
+fn dictionary_count(totals: &Totals) -> u64
+    ensures { result ≡ dictionary_count totals.now }
+{
+    (totals.key_characters as u64) + (size_of(totals.keys.len().saturating_sub(1)) as u64)
+}
+
+/// Returns the number of stores of the file.
+fn store_count_of(totals: &Totals) -> u64
+    ensures { result ≡ store_count totals.now }
+{
+    let dictionary = if totals.keys.len() == 0 { 0 } else { 1 };
+    (totals.stores as u64) + dictionary + (size_of(totals.values.len()) as u64)
 }

@@ -22,52 +22,41 @@ pub struct Walk {
     pub first: Option<Refusal>,
 }
 
-/// Counts a store statement.
-fn walk_store(walk: &mut Walk, counted: &StoreCounts, store: &StoreDef) -> Result<(), Memory>
-    ensures { OnOk result (walk.new ≡ after_store_walk counted.now walk.old store.now) }
+/// Returns the first refusal for a limit that a statement passes.
+pub(crate) fn first_passed(
+    alloc: Global,
+    counted: &StoreCounts,
+    program: &Program,
+) -> Result<Option<Refusal>, Memory>
+    ensures { IfOk result (λ first. first ≡ (walked counted.now no_walk (in_line_order program.now.stores (all_rules program.now))).first) }
 {
-    add_store(&mut walk.totals, counted, store)?;
-    let code = totals_code(&walk.totals, false, false);
-    walk.first = earlier(walk.first, at_line(store.line, code));
-    Ok(())
+    let mut walk = Walk {
+        totals: Totals::new(alloc),
+        first: None,
+    };
+    walk_all(
+        &mut walk,
+        counted,
+        program.stores.as_slice(),
+        program.groups.as_slice(),
+    )?;
+    Ok(walk.first)
 }
 
-/// Counts a rule, match or nomatch statement.
-fn walk_rule(walk: &mut Walk, counted: &StoreCounts, rule: &RuleDef) -> Result<(), Memory>
-    ensures { OnOk result (walk.new ≡ after_rule_walk counted.now walk.old rule.now) }
-{
-    add_rule(&mut walk.totals, counted, rule)?;
-    let context = CONTEXT_ITEMS < rule.context.len();
-    let output = is_long_output(counted, rule.output.as_slice());
-    let code = totals_code(&walk.totals, context, output);
-    walk.first = earlier(walk.first, at_line(rule.line, code));
-    Ok(())
-}
-
-/// Counts store statements.
-#[tactic(auto, using(crate::proofs::Walked::walked_store))]
-fn walk_stores(walk: &mut Walk, counted: &StoreCounts, stores: &[StoreDef]) -> Result<(), Memory>
-    ensures { OnOk result (walk.new ≡ walked counted.now walk.old (map OfStore stores.now)) }
-{
-    for store in stores {
-        walk_store(walk, counted, store)?;
-    }
-    Ok(())
-}
-
-/// Counts the stores before a line and returns the others.
-fn walk_before<'a>(
+/// Counts stores and the rules of groups.
+fn walk_all(
     walk: &mut Walk,
     counted: &StoreCounts,
-    stores: &'a [StoreDef],
-    line: u32,
-) -> Result<&'a [StoreDef], Memory>
-    ensures rest { IfOk result (λ rest. rest.now ≡ stores_after line stores.now) }
-    ensures walked { OnOk result (walk.new ≡ walked counted.now walk.old (map OfStore (stores_before line stores.now))) }
+    stores: &[StoreDef],
+    groups: &[GroupDef],
+) -> Result<(), Memory>
+    ensures { OnOk result (walk.new ≡ walked counted.now walk.old (in_line_order stores.now (flat_map (λ (group : GroupDef). group.rules) groups.now))) }
 {
-    let (before, others) = parted_by_line(stores, line);
-    walk_stores(walk, counted, before)?;
-    Ok(others)
+    let mut waiting = stores;
+    for group in groups {
+        waiting = walk_group(walk, counted, waiting, group.rules.as_slice())?;
+    }
+    walk_stores(walk, counted, waiting)
 }
 
 /// Counts the rules of a group, each after the stores before its line, and returns the other stores.
@@ -88,39 +77,50 @@ fn walk_group<'a>(
     Ok(waiting)
 }
 
-/// Counts stores and the rules of groups.
-fn walk_all(
+/// Counts the stores before a line and returns the others.
+fn walk_before<'a>(
     walk: &mut Walk,
     counted: &StoreCounts,
-    stores: &[StoreDef],
-    groups: &[GroupDef],
-) -> Result<(), Memory>
-    ensures { OnOk result (walk.new ≡ walked counted.now walk.old (in_line_order stores.now (flat_map (λ (group : GroupDef). group.rules) groups.now))) }
+    stores: &'a [StoreDef],
+    line: u32,
+) -> Result<&'a [StoreDef], Memory>
+    ensures rest { IfOk result (λ rest. rest.now ≡ stores_after line stores.now) }
+    ensures walked { OnOk result (walk.new ≡ walked counted.now walk.old (map OfStore (stores_before line stores.now))) }
 {
-    let mut waiting = stores;
-    for group in groups {
-        waiting = walk_group(walk, counted, waiting, group.rules.as_slice())?;
-    }
-    walk_stores(walk, counted, waiting)
+    let (before, others) = parted_by_line(stores, line);
+    walk_stores(walk, counted, before)?;
+    Ok(others)
 }
 
-/// Returns the first refusal for a limit that a statement passes.
-pub(crate) fn first_passed(
-    alloc: Global,
-    counted: &StoreCounts,
-    program: &Program,
-) -> Result<Option<Refusal>, Memory>
-    ensures { IfOk result (λ first. first ≡ (walked counted.now no_walk (in_line_order program.now.stores (all_rules program.now))).first) }
+/// Counts store statements.
+#[tactic(auto, using(crate::proofs::Walked::walked_store))]
+fn walk_stores(walk: &mut Walk, counted: &StoreCounts, stores: &[StoreDef]) -> Result<(), Memory>
+    ensures { OnOk result (walk.new ≡ walked counted.now walk.old (map OfStore stores.now)) }
 {
-    let mut walk = Walk {
-        totals: Totals::new(alloc),
-        first: None,
-    };
-    walk_all(
-        &mut walk,
-        counted,
-        program.stores.as_slice(),
-        program.groups.as_slice(),
-    )?;
-    Ok(walk.first)
+    for store in stores {
+        walk_store(walk, counted, store)?;
+    }
+    Ok(())
+}
+
+/// Counts a store statement.
+fn walk_store(walk: &mut Walk, counted: &StoreCounts, store: &StoreDef) -> Result<(), Memory>
+    ensures { OnOk result (walk.new ≡ after_store_walk counted.now walk.old store.now) }
+{
+    add_store(&mut walk.totals, counted, store)?;
+    let code = totals_code(&walk.totals, false, false);
+    walk.first = earlier(walk.first, at_line(store.line, code));
+    Ok(())
+}
+
+/// Counts a rule, match or nomatch statement.
+fn walk_rule(walk: &mut Walk, counted: &StoreCounts, rule: &RuleDef) -> Result<(), Memory>
+    ensures { OnOk result (walk.new ≡ after_rule_walk counted.now walk.old rule.now) }
+{
+    add_rule(&mut walk.totals, counted, rule)?;
+    let context = CONTEXT_ITEMS < rule.context.len();
+    let output = is_long_output(counted, rule.output.as_slice());
+    let code = totals_code(&walk.totals, context, output);
+    walk.first = earlier(walk.first, at_line(rule.line, code));
+    Ok(())
 }

@@ -13,21 +13,6 @@ use rule_index::IndexedKeyboard;
 use rule_model::has_name;
 use std::alloc::Global;
 
-/// Returns the name of the layer or of the platform, or an empty name for a number after theirs.
-#[tactic(auto, using(crate::proofs::Stores::layer_name, crate::proofs::Stores::platform_name, crate::proofs::Stores::no_name))]
-fn system_name(indexed: &IndexedKeyboard<'_>, store: u32) -> &'static [u8]
-    requires { length indexed.now.stores ≤ store }
-    ensures { result.now ≡ name_of indexed.now store }
-{
-    if store == indexed.layer() {
-        b"&layer"
-    } else if store == indexed.platform() {
-        b"&platform"
-    } else {
-        &[]
-    }
-}
-
 /// Returns the name of a store of the file, or of the layer or the platform, which have the next two numbers. The name is empty
 /// if there is no such store. Each call reads it from the file.
 /// Errors: `Memory` if an allocation fails.
@@ -41,20 +26,19 @@ pub fn name_of(alloc: Global, indexed: &IndexedKeyboard<'_>, store: u32) -> Resu
     }
 }
 
-/// Returns whether a store is an option with a name.
-fn is_option_named(
-    alloc: Global,
-    name: &[u8],
-    indexed: &IndexedKeyboard<'_>,
-    store: u32,
-) -> Result<bool, Memory>
-    ensures { IfOk result (λ found. found ≡ (is_some (option_number (tab indexed.now).stores (Numbered store)) && has_name name.now (name_of indexed.now store))) }
+/// Returns the name of the layer or of the platform, or an empty name for a number after theirs.
+#[tactic(auto, using(crate::proofs::Stores::layer_name, crate::proofs::Stores::platform_name, crate::proofs::Stores::no_name))]
+fn system_name(indexed: &IndexedKeyboard<'_>, store: u32) -> &'static [u8]
+    requires { length indexed.now.stores ≤ store }
+    ensures { result.now ≡ name_of indexed.now store }
 {
-    if indexed.option_number(store).is_none() {
-        return Ok(false);
+    if store == indexed.layer() {
+        b"&layer"
+    } else if store == indexed.platform() {
+        b"&platform"
+    } else {
+        &[]
     }
-    let other = name_of(alloc, indexed, store)?;
-    Ok(has_name(name, other.as_slice()))
 }
 
 /// Returns the first store with a name that is an option: the stores of the file come before the layer and the platform.
@@ -75,4 +59,20 @@ pub fn store_named(
         }
     }
     Ok(None)
+}
+
+/// Returns whether a store is an option with a name.
+fn is_option_named(
+    alloc: Global,
+    name: &[u8],
+    indexed: &IndexedKeyboard<'_>,
+    store: u32,
+) -> Result<bool, Memory>
+    ensures { IfOk result (λ found. found ≡ (is_some (option_number (tab indexed.now).stores (Numbered store)) && has_name name.now (name_of indexed.now store))) }
+{
+    if indexed.option_number(store).is_none() {
+        return Ok(false);
+    }
+    let other = name_of(alloc, indexed, store)?;
+    Ok(has_name(name, other.as_slice()))
 }

@@ -29,15 +29,6 @@ pub fn put_any(item: Option<Item>, event: &mut PressEvent)
     }
 }
 
-/// Outputs the item of an element, if there is one. A virtual key has no item.
-fn put_element(element: Option<Element>, event: &mut PressEvent)
-    ensures { event.new ≡ record event.old { state = put_element element event.old.state } }
-{
-    if let Some(element) = element {
-        put_any(item_of(element), event);
-    }
-}
-
 /// Performs `index`: outputs the element of a store at the position that was caught at an offset.
 pub fn put_index(caught: &MatchedItems, store: u32, offset: u32, event: &mut PressEvent)
     ensures { event.new ≡ record event.old {
@@ -48,6 +39,15 @@ pub fn put_index(caught: &MatchedItems, store: u32, offset: u32, event: &mut Pre
     let place = caught.place_for_index(offset);
     let element = event.moment().element_at(store, place);
     put_element(element, event);
+}
+
+/// Outputs the item of an element, if there is one. A virtual key has no item.
+fn put_element(element: Option<Element>, event: &mut PressEvent)
+    ensures { event.new ≡ record event.old { state = put_element element event.old.state } }
+{
+    if let Some(element) = element {
+        put_any(item_of(element), event);
+    }
 }
 
 /// Performs `context`: outputs all items that were matched.

@@ -21,26 +21,11 @@ const CAPS: u32 = keys::CAPS as u32;
 
 const NO_CAPS: u32 = keys::NO_CAPS as u32;
 
-/// Returns the elements of the first `&casedkeys`.
-fn cased_elements(stores: &[Store]) -> &[Element]
-    ensures { result.now ≡ store_elements (find is_cased_keys stores.now) }
+/// Returns the codes of the cased keys, each once, as a set that finds a code by hash.
+pub fn cased_codes(alloc: Global, stores: &[Store]) -> Result<IndexSet<u16>, Memory>
+    ensures { IfOk result (λ codes. HasCodes codes.keys (cased_codes stores.now)) }
 {
-    for store in stores {
-        if store.system == CASED_KEYS {
-            return store.elements.as_slice();
-        }
-    }
-    &[]
-}
-
-/// Adds the code of an element if the element is a key.
-fn add_code(codes: &mut IndexSet<u16>, element: Element) -> Result<(), Memory>
-    ensures { OnOk result (codes.new.keys ≡ with_code codes.old.keys element) }
-{
-    if let Element::Key { code, .. } = element {
-        codes.insert(code)?;
-    }
-    Ok(())
+    codes_among(alloc, cased_elements(stores))
 }
 
 /// Returns the codes of the keys among elements, each once.
@@ -54,11 +39,26 @@ fn codes_among(alloc: Global, elements: &[Element]) -> Result<IndexSet<u16>, Mem
     Ok(codes)
 }
 
-/// Returns the codes of the cased keys, each once, as a set that finds a code by hash.
-pub fn cased_codes(alloc: Global, stores: &[Store]) -> Result<IndexSet<u16>, Memory>
-    ensures { IfOk result (λ codes. HasCodes codes.keys (cased_codes stores.now)) }
+/// Adds the code of an element if the element is a key.
+fn add_code(codes: &mut IndexSet<u16>, element: Element) -> Result<(), Memory>
+    ensures { OnOk result (codes.new.keys ≡ with_code codes.old.keys element) }
 {
-    codes_among(alloc, cased_elements(stores))
+    if let Element::Key { code, .. } = element {
+        codes.insert(code)?;
+    }
+    Ok(())
+}
+
+/// Returns the elements of the first `&casedkeys`.
+fn cased_elements(stores: &[Store]) -> &[Element]
+    ensures { result.now ≡ store_elements (find is_cased_keys stores.now) }
+{
+    for store in stores {
+        if store.system == CASED_KEYS {
+            return store.elements.as_slice();
+        }
+    }
+    &[]
 }
 
 /// Returns whether a key has two records.
@@ -73,14 +73,16 @@ pub fn has_halves(numbers: &Lookups<'_>, key: RuleKey) -> bool
     }
 }
 
-/// Returns the flags with SHIFT inverted.
-fn with_other_shift(flags: u32) -> u32
-    ensures { result ≡ with_other_shift flags }
+/// Returns a half of a key.
+pub fn half_key(half: u32, key: RuleKey) -> RuleKey
+    ensures { result ≡ half_key half key }
 {
-    if flags & SHIFT == 0 {
-        flags | SHIFT
-    } else {
-        flags & !SHIFT
+    match key {
+        RuleKey::Virtual { flags, code } => RuleKey::Virtual {
+            flags: half_flags(half, flags),
+            code,
+        },
+        _ => key,
     }
 }
 
@@ -95,15 +97,13 @@ fn half_flags(half: u32, flags: u32) -> u32
     }
 }
 
-/// Returns a half of a key.
-pub fn half_key(half: u32, key: RuleKey) -> RuleKey
-    ensures { result ≡ half_key half key }
+/// Returns the flags with SHIFT inverted.
+fn with_other_shift(flags: u32) -> u32
+    ensures { result ≡ with_other_shift flags }
 {
-    match key {
-        RuleKey::Virtual { flags, code } => RuleKey::Virtual {
-            flags: half_flags(half, flags),
-            code,
-        },
-        _ => key,
+    if flags & SHIFT == 0 {
+        flags | SHIFT
+    } else {
+        flags & !SHIFT
     }
 }

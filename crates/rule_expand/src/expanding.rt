@@ -28,48 +28,60 @@ use rule_model::{BeginDef, Program, Store, Tables};
 use std::alloc::Global;
 use store_table::Names;
 
-/// Returns the number of the group that `begin Unicode` names.
-fn unicode_start(numbers: &Lookups<'_>, begins: &[BeginDef]) -> u32
-    ensures { result ≡ number_of_start numbers.now (find is_unicode begins.now) }
+/// Returns the tables of an accepted program, each group with the records of its rules in their order.
+pub fn expand(alloc: Global, checked: &Checked) -> Result<Tables, Memory>
+    ensures { IfOk result (λ tables. tables ≡ expanded_tables checked.now) }
 {
-    for start in begins {
-        if start.unicode {
-            return numbers.group(start.group.as_slice());
-        }
-    }
-    NO_GROUP
+    expanded(alloc, checked.program(), checked.names())
 }
 
-/// Returns the number of the group that `begin ANSI` names.
-fn ansi_start(numbers: &Lookups<'_>, begins: &[BeginDef]) -> u32
-    ensures { result ≡ number_of_start numbers.now (find is_ansi begins.now) }
+/// Returns the tables of a program with these names.
+#[tactic(auto, using(crate::proofs::ExpandedTables::tables_are))]
+fn expanded(alloc: Global, program: &Program, names: &Names) -> Result<Tables, Memory>
+    requires tables { HasTables program.now }
+    requires names { names.now ≡ lists_of program.now }
+    ensures { IfOk result (λ tables. tables ≡ expanded_tables program.now) }
 {
-    for start in begins {
-        if !start.unicode {
-            return numbers.group(start.group.as_slice());
-        }
-    }
-    NO_GROUP
+    let values = values_of(alloc, program)?;
+    let mut stores = stores_of(alloc, program, names, values.len().saturating_add(1))?;
+    let mut tables = numbered(alloc, program, names, stores.as_slice(), &values)?;
+    add_stores(alloc, &mut stores, program, names, &values)?;
+    tables.stores = Seq::from_vec(stores);
+    Ok(tables)
 }
 
-/// Returns the tables of a program with these numbers, without stores.
-fn without_stores(
+/// Returns the stores of the statements of a program, with capacity for `room` further stores.
+#[tactic(auto, using(crate::proofs::ExpandedTables::stores_are))]
+fn stores_of(
     alloc: Global,
-    numbers: &Lookups<'_>,
     program: &Program,
-    version: u16,
-) -> Result<Tables, Memory>
-    requires { list_all (have_unit_keys numbers.now.stores) program.now.groups ≡ true }
-    ensures { IfOk result (λ tables. tables ≡ without_stores numbers.now program.now version) }
+    names: &Names,
+    room: usize,
+) -> Result<Vec<Store>, Memory>
+    requires tables { HasTables program.now }
+    requires names { names.now ≡ lists_of program.now }
+    ensures { IfOk result (λ stores. stores.items ≡ stores_of program.now) }
 {
-    let begins = program.begins.as_slice();
-    Ok(Tables {
-        version,
-        start_ansi: ansi_start(numbers, begins),
-        start_unicode: unicode_start(numbers, begins),
-        stores: Seq::new(alloc),
-        groups: groups_of(alloc, numbers, program.groups.as_slice())?,
-    })
+    statement_stores(alloc, names, program.stores.as_slice(), room)
+}
+
+/// Returns the tables of a program with these stores of its statements and these values, without stores.
+fn numbered(
+    alloc: Global,
+    program: &Program,
+    names: &Names,
+    stores: &[Store],
+    values: &Values<'_>,
+) -> Result<Tables, Memory>
+    requires tables { HasTables program.now }
+    requires names { names.now ≡ lists_of program.now }
+    requires stores { stores.now ≡ stores_of program.now }
+    requires values { values.now ≡ values_of program.now }
+    ensures { IfOk result (λ tables. tables ≡ without_stores (numbers_of program.now) program.now (version_of program.now)) }
+{
+    let cased = cased_codes(alloc, stores)?;
+    let numbers = numbers_of(program, names, stores, values, &cased);
+    without_stores(alloc, &numbers, program, version_of(stores))
 }
 
 /// Returns the numbers of a program, whose cased keys have these codes.
@@ -92,19 +104,48 @@ fn numbers_of<'a>(
     Lookups::new(names, stores, values, first, cased)
 }
 
-/// Returns the stores of the statements of a program, with capacity for `room` further stores.
-#[tactic(auto, using(crate::proofs::ExpandedTables::stores_are))]
-fn stores_of(
+/// Returns the tables of a program with these numbers, without stores.
+fn without_stores(
     alloc: Global,
+    numbers: &Lookups<'_>,
     program: &Program,
-    names: &Names,
-    room: usize,
-) -> Result<Vec<Store>, Memory>
-    requires tables { HasTables program.now }
-    requires names { names.now ≡ lists_of program.now }
-    ensures { IfOk result (λ stores. stores.items ≡ stores_of program.now) }
+    version: u16,
+) -> Result<Tables, Memory>
+    requires { list_all (have_unit_keys numbers.now.stores) program.now.groups ≡ true }
+    ensures { IfOk result (λ tables. tables ≡ without_stores numbers.now program.now version) }
 {
-    statement_stores(alloc, names, program.stores.as_slice(), room)
+    let begins = program.begins.as_slice();
+    Ok(Tables {
+        version,
+        start_ansi: ansi_start(numbers, begins),
+        start_unicode: unicode_start(numbers, begins),
+        stores: Seq::new(alloc),
+        groups: groups_of(alloc, numbers, program.groups.as_slice())?,
+    })
+}
+
+/// Returns the number of the group that `begin ANSI` names.
+fn ansi_start(numbers: &Lookups<'_>, begins: &[BeginDef]) -> u32
+    ensures { result ≡ number_of_start numbers.now (find is_ansi begins.now) }
+{
+    for start in begins {
+        if !start.unicode {
+            return numbers.group(start.group.as_slice());
+        }
+    }
+    NO_GROUP
+}
+
+/// Returns the number of the group that `begin Unicode` names.
+fn unicode_start(numbers: &Lookups<'_>, begins: &[BeginDef]) -> u32
+    ensures { result ≡ number_of_start numbers.now (find is_unicode begins.now) }
+{
+    for start in begins {
+        if start.unicode {
+            return numbers.group(start.group.as_slice());
+        }
+    }
+    NO_GROUP
 }
 
 /// Appends the stores that a file has in addition to those of the statements.
@@ -126,53 +167,37 @@ fn add_stores(
     add_values(alloc, stores, values)
 }
 
-/// Returns the tables of a program with these stores of its statements and these values, without stores.
-fn numbered(
-    alloc: Global,
-    program: &Program,
-    names: &Names,
-    stores: &[Store],
-    values: &Values<'_>,
-) -> Result<Tables, Memory>
-    requires tables { HasTables program.now }
-    requires names { names.now ≡ lists_of program.now }
-    requires stores { stores.now ≡ stores_of program.now }
-    requires values { values.now ≡ values_of program.now }
-    ensures { IfOk result (λ tables. tables ≡ without_stores (numbers_of program.now) program.now (version_of program.now)) }
-{
-    let cased = cased_codes(alloc, stores)?;
-    let numbers = numbers_of(program, names, stores, values, &cased);
-    without_stores(alloc, &numbers, program, version_of(stores))
-}
-
-/// Returns the tables of a program with these names.
-#[tactic(auto, using(crate::proofs::ExpandedTables::tables_are))]
-fn expanded(alloc: Global, program: &Program, names: &Names) -> Result<Tables, Memory>
-    requires tables { HasTables program.now }
-    requires names { names.now ≡ lists_of program.now }
-    ensures { IfOk result (λ tables. tables ≡ expanded_tables program.now) }
-{
-    let values = values_of(alloc, program)?;
-    let mut stores = stores_of(alloc, program, names, values.len().saturating_add(1))?;
-    let mut tables = numbered(alloc, program, names, stores.as_slice(), &values)?;
-    add_stores(alloc, &mut stores, program, names, &values)?;
-    tables.stores = Seq::from_vec(stores);
-    Ok(tables)
-}
-
-/// Returns the tables of an accepted program, each group with the records of its rules in their order.
-pub fn expand(alloc: Global, checked: &Checked) -> Result<Tables, Memory>
-    ensures { IfOk result (λ tables. tables ≡ expanded_tables checked.now) }
-{
-    expanded(alloc, checked.program(), checked.names())
-}
-
 /// The tables of a program without their records, and the size of the records.
 #[derive(Drop)]
 pub struct Outline {
     pub tables: Tables,
     /// The bytes of all records and their strings.
     pub records: u64,
+}
+
+/// Returns the tables of an accepted program without their records, and the size of the records. It does not build a record, so the
+/// memory that it needs does not grow with their number.
+pub fn outline_of(alloc: Global, checked: &Checked) -> Result<Outline, Memory>
+    ensures tables { IfOk result (λ outline. outline.tables ≡ without_records (expanded_tables checked.now)) }
+    ensures records { IfOk result (λ outline. outline.records ≡ records_size (all_rules (expanded_tables checked.now))) }
+{
+    outline_named(alloc, checked.program(), checked.names())
+}
+
+/// Returns the outline of a program with these names.
+#[tactic(auto, using(crate::proofs::FileSizes::outline_is, crate::proofs::FileSizes::records_are))]
+fn outline_named(alloc: Global, program: &Program, names: &Names) -> Result<Outline, Memory>
+    requires tables { HasTables program.now }
+    requires names { names.now ≡ lists_of program.now }
+    ensures tables { IfOk result (λ outline. outline.tables ≡ without_records (expanded_tables program.now)) }
+    ensures records { IfOk result (λ outline. outline.records ≡ records_size (all_rules (expanded_tables program.now))) }
+{
+    let values = values_of(alloc, program)?;
+    let mut stores = stores_of(alloc, program, names, values.len().saturating_add(1))?;
+    let mut outline = outlined(alloc, program, names, stores.as_slice(), &values)?;
+    add_stores(alloc, &mut stores, program, names, &values)?;
+    outline.tables.stores = Seq::from_vec(stores);
+    Ok(outline)
 }
 
 /// Returns the outline of a program with these stores of its statements and these values, without stores.
@@ -203,29 +228,4 @@ fn outlined(
         groups: outlines_of(alloc, &numbers, program.groups.as_slice())?,
     };
     Ok(Outline { tables, records })
-}
-
-/// Returns the outline of a program with these names.
-#[tactic(auto, using(crate::proofs::FileSizes::outline_is, crate::proofs::FileSizes::records_are))]
-fn outline_named(alloc: Global, program: &Program, names: &Names) -> Result<Outline, Memory>
-    requires tables { HasTables program.now }
-    requires names { names.now ≡ lists_of program.now }
-    ensures tables { IfOk result (λ outline. outline.tables ≡ without_records (expanded_tables program.now)) }
-    ensures records { IfOk result (λ outline. outline.records ≡ records_size (all_rules (expanded_tables program.now))) }
-{
-    let values = values_of(alloc, program)?;
-    let mut stores = stores_of(alloc, program, names, values.len().saturating_add(1))?;
-    let mut outline = outlined(alloc, program, names, stores.as_slice(), &values)?;
-    add_stores(alloc, &mut stores, program, names, &values)?;
-    outline.tables.stores = Seq::from_vec(stores);
-    Ok(outline)
-}
-
-/// Returns the tables of an accepted program without their records, and the size of the records. It does not build a record, so the
-/// memory that it needs does not grow with their number.
-pub fn outline_of(alloc: Global, checked: &Checked) -> Result<Outline, Memory>
-    ensures tables { IfOk result (λ outline. outline.tables ≡ without_records (expanded_tables checked.now)) }
-    ensures records { IfOk result (λ outline. outline.records ≡ records_size (all_rules (expanded_tables checked.now))) }
-{
-    outline_named(alloc, checked.program(), checked.names())
 }

@@ -23,6 +23,92 @@ pub enum Piece {
     AtKey(Option<u32>),
 }
 
+/// Returns the pieces of the output of a rule that has `count` context items.
+pub fn pieces_of(
+    alloc: Global,
+    numbers: &Lookups<'_>,
+    count: usize,
+    items: &[SrcItem],
+) -> Result<Seq<Piece>, Memory>
+    ensures { IfOk result (λ pieces. pieces ≡ flat_map (item_pieces numbers.now count) items.now) }
+{
+    let mut pieces = Vec::with_capacity(alloc, items.len())?;
+    for item in items {
+        add_item(&mut pieces, numbers, count, item)?;
+    }
+    Ok(Seq::from_vec(pieces))
+}
+
+/// Appends the pieces of an output item of a rule that has `count` context items.
+fn add_item(
+    pieces: &mut Vec<Piece>,
+    numbers: &Lookups<'_>,
+    count: usize,
+    item: &SrcItem,
+) -> Result<(), Memory>
+    ensures { OnOk result (pieces.new.items ≡ pieces.old.items ++ item_pieces numbers.now count item.now) }
+{
+    match item {
+        SrcItem::Index(store, offset) => {
+            pieces.push(index_piece(numbers, count, store.as_slice(), *offset))?
+        }
+        SrcItem::Outs(store) => add_elements(pieces, numbers.elements(store.as_slice()))?,
+        _ => pieces.push(Piece::Fixed(one_output(numbers, item)))?,
+    }
+    Ok(())
+}
+
+/// Returns the piece of an `index`.
+fn index_piece(numbers: &Lookups<'_>, count: usize, store: &[u8], offset: u32) -> Piece
+    ensures { (result ∷ []) ≡ item_pieces numbers.now count (source.Index store.now offset) }
+{
+    if is_key_place(count, offset) {
+        Piece::AtKey(numbers.store_place(store))
+    } else {
+        Piece::Fixed(Out::Index(numbers.store(store), offset))
+    }
+}
+
+/// Returns whether an offset is the offset of the key, which follows `count` context items.
+fn is_key_place(count: usize, offset: u32) -> bool
+    ensures { result ≡ nat_eq offset (count + 1) }
+{
+    count.checked_add(1) == Some(offset as usize)
+}
+
+/// Appends elements as pieces, except virtual keys.
+#[tactic(auto, using(crate::proofs::PieceLaws::elements_more))]
+fn add_elements(pieces: &mut Vec<Piece>, elements: &[Element]) -> Result<(), Memory>
+    ensures { OnOk result (pieces.new.items ≡ pieces.old.items ++ map Fixed (flat_map element_outs elements.now)) }
+{
+    for element in elements {
+        add_element(pieces, *element)?;
+    }
+    Ok(())
+}
+
+/// Appends an element as a piece, unless it is a virtual key.
+fn add_element(pieces: &mut Vec<Piece>, element: Element) -> Result<(), Memory>
+    ensures { OnOk result (pieces.new.items ≡ pieces.old.items ++ map Fixed (element_outs element)) }
+{
+    match element_out(element) {
+        Some(out) => pieces.push(Piece::Fixed(out))?,
+        None => {}
+    }
+    Ok(())
+}
+
+/// Returns an element as an output, or `None` for a virtual key.
+fn element_out(element: Element) -> Option<Out>
+    ensures { option_to_list result ≡ element_outs element }
+{
+    match element {
+        Element::Char(c) => Some(Out::Char(c)),
+        Element::Mark(mark) => Some(Out::Mark(mark)),
+        Element::Key { .. } => None,
+    }
+}
+
 /// Returns the output of an item that is neither `outs` nor an `index` with the offset of the key.
 fn one_output(numbers: &Lookups<'_>, item: &SrcItem) -> Out
     ensures { result ≡ one_output numbers.now item.now }
@@ -47,97 +133,14 @@ fn one_output(numbers: &Lookups<'_>, item: &SrcItem) -> Out
     }
 }
 
-/// Returns whether an offset is the offset of the key, which follows `count` context items.
-fn is_key_place(count: usize, offset: u32) -> bool
-    ensures { result ≡ nat_eq offset (count + 1) }
+/// Returns the output of a piece, if any, if the key has this position in its store.
+pub fn piece_out(numbers: &Lookups<'_>, place: Option<u32>, piece: Piece) -> Option<Out>
+    ensures { option_to_list result ≡ piece_outs numbers.now.stores place piece }
 {
-    count.checked_add(1) == Some(offset as usize)
-}
-
-/// Returns the piece of an `index`.
-fn index_piece(numbers: &Lookups<'_>, count: usize, store: &[u8], offset: u32) -> Piece
-    ensures { (result ∷ []) ≡ item_pieces numbers.now count (source.Index store.now offset) }
-{
-    if is_key_place(count, offset) {
-        Piece::AtKey(numbers.store_place(store))
-    } else {
-        Piece::Fixed(Out::Index(numbers.store(store), offset))
+    match piece {
+        Piece::Fixed(out) => Some(out),
+        Piece::AtKey(store) => out_at(numbers.elements_at(store), place),
     }
-}
-
-/// Returns an element as an output, or `None` for a virtual key.
-fn element_out(element: Element) -> Option<Out>
-    ensures { option_to_list result ≡ element_outs element }
-{
-    match element {
-        Element::Char(c) => Some(Out::Char(c)),
-        Element::Mark(mark) => Some(Out::Mark(mark)),
-        Element::Key { .. } => None,
-    }
-}
-
-/// Appends an element as a piece, unless it is a virtual key.
-fn add_element(pieces: &mut Vec<Piece>, element: Element) -> Result<(), Memory>
-    ensures { OnOk result (pieces.new.items ≡ pieces.old.items ++ map Fixed (element_outs element)) }
-{
-    match element_out(element) {
-        Some(out) => pieces.push(Piece::Fixed(out))?,
-        None => {}
-    }
-    Ok(())
-}
-
-/// Appends elements as pieces, except virtual keys.
-#[tactic(auto, using(crate::proofs::PieceLaws::elements_more))]
-fn add_elements(pieces: &mut Vec<Piece>, elements: &[Element]) -> Result<(), Memory>
-    ensures { OnOk result (pieces.new.items ≡ pieces.old.items ++ map Fixed (flat_map element_outs elements.now)) }
-{
-    for element in elements {
-        add_element(pieces, *element)?;
-    }
-    Ok(())
-}
-
-/// Appends the pieces of an output item of a rule that has `count` context items.
-fn add_item(
-    pieces: &mut Vec<Piece>,
-    numbers: &Lookups<'_>,
-    count: usize,
-    item: &SrcItem,
-) -> Result<(), Memory>
-    ensures { OnOk result (pieces.new.items ≡ pieces.old.items ++ item_pieces numbers.now count item.now) }
-{
-    match item {
-        SrcItem::Index(store, offset) => {
-            pieces.push(index_piece(numbers, count, store.as_slice(), *offset))?
-        }
-        SrcItem::Outs(store) => add_elements(pieces, numbers.elements(store.as_slice()))?,
-        _ => pieces.push(Piece::Fixed(one_output(numbers, item)))?,
-    }
-    Ok(())
-}
-
-/// Returns the pieces of the output of a rule that has `count` context items.
-pub fn pieces_of(
-    alloc: Global,
-    numbers: &Lookups<'_>,
-    count: usize,
-    items: &[SrcItem],
-) -> Result<Seq<Piece>, Memory>
-    ensures { IfOk result (λ pieces. pieces ≡ flat_map (item_pieces numbers.now count) items.now) }
-{
-    let mut pieces = Vec::with_capacity(alloc, items.len())?;
-    for item in items {
-        add_item(&mut pieces, numbers, count, item)?;
-    }
-    Ok(Seq::from_vec(pieces))
-}
-
-/// Returns the element at a position, if any.
-fn element_at(elements: &[Element], place: Option<u32>) -> Option<Element>
-    ensures { result ≡ element_at elements.now place }
-{
-    elements.get(place? as usize).copied()
 }
 
 /// Returns the output of the element at a position, or `None` if there is no element or it is a virtual key.
@@ -150,30 +153,11 @@ fn out_at(elements: &[Element], place: Option<u32>) -> Option<Out>
     }
 }
 
-/// Returns the output of a piece, if any, if the key has this position in its store.
-pub fn piece_out(numbers: &Lookups<'_>, place: Option<u32>, piece: Piece) -> Option<Out>
-    ensures { option_to_list result ≡ piece_outs numbers.now.stores place piece }
+/// Returns the element at a position, if any.
+fn element_at(elements: &[Element], place: Option<u32>) -> Option<Element>
+    ensures { result ≡ element_at elements.now place }
 {
-    match piece {
-        Piece::Fixed(out) => Some(out),
-        Piece::AtKey(store) => out_at(numbers.elements_at(store), place),
-    }
-}
-
-/// Appends the output of a piece, if any.
-fn add_out(
-    output: &mut Vec<Out>,
-    numbers: &Lookups<'_>,
-    place: Option<u32>,
-    piece: Piece,
-) -> Result<(), Memory>
-    ensures { OnOk result (output.new.items ≡ output.old.items ++ piece_outs numbers.now.stores place piece) }
-{
-    match piece_out(numbers, place, piece) {
-        Some(out) => output.push(out)?,
-        None => {}
-    }
-    Ok(())
+    elements.get(place? as usize).copied()
 }
 
 /// Returns the output of pieces if the key has this position in its store, or a `nul` if the output is empty.
@@ -193,4 +177,20 @@ pub fn outputs_at(
         output.push(Out::Nul)?;
     }
     Ok(Seq::from_vec(output))
+}
+
+/// Appends the output of a piece, if any.
+fn add_out(
+    output: &mut Vec<Out>,
+    numbers: &Lookups<'_>,
+    place: Option<u32>,
+    piece: Piece,
+) -> Result<(), Memory>
+    ensures { OnOk result (output.new.items ≡ output.old.items ++ piece_outs numbers.now.stores place piece) }
+{
+    match piece_out(numbers, place, piece) {
+        Some(out) => output.push(out)?,
+        None => {}
+    }
+    Ok(())
 }

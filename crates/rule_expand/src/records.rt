@@ -23,6 +23,30 @@ pub struct Template {
     pub pieces: Seq<Piece>,
 }
 
+/// Returns what the records of a rule have in common.
+pub fn template_of(alloc: Global, numbers: &Lookups<'_>, rule: &RuleDef) -> Result<Template, Memory>
+    ensures { IfOk result (λ template. template ≡ template_of numbers.now rule.now) }
+{
+    let context = context_of(alloc, numbers, rule.context.as_slice())?;
+    let pieces = pieces_of(alloc, numbers, rule.context.len(), rule.output.as_slice())?;
+    Ok(Template {
+        line: rule.line,
+        context,
+        pieces,
+    })
+}
+
+/// Returns the context of a rule.
+fn context_of(alloc: Global, numbers: &Lookups<'_>, items: &[SrcItem]) -> Result<Seq<Pat>, Memory>
+    ensures { IfOk result (λ context. context ≡ map (file_pattern numbers.now) items.now) }
+{
+    let mut context = Vec::with_capacity(alloc, items.len())?;
+    for item in items {
+        context.push(pattern_of(numbers, item))?;
+    }
+    Ok(Seq::from_vec(context))
+}
+
 /// Returns the pattern of a context item.
 fn pattern_of(numbers: &Lookups<'_>, item: &SrcItem) -> Pat
     ensures { result ≡ file_pattern numbers.now item.now }
@@ -48,30 +72,6 @@ fn pattern_of(numbers: &Lookups<'_>, item: &SrcItem) -> Pat
         }
         _ => Pat::Nul,
     }
-}
-
-/// Returns the context of a rule.
-fn context_of(alloc: Global, numbers: &Lookups<'_>, items: &[SrcItem]) -> Result<Seq<Pat>, Memory>
-    ensures { IfOk result (λ context. context ≡ map (file_pattern numbers.now) items.now) }
-{
-    let mut context = Vec::with_capacity(alloc, items.len())?;
-    for item in items {
-        context.push(pattern_of(numbers, item))?;
-    }
-    Ok(Seq::from_vec(context))
-}
-
-/// Returns what the records of a rule have in common.
-pub fn template_of(alloc: Global, numbers: &Lookups<'_>, rule: &RuleDef) -> Result<Template, Memory>
-    ensures { IfOk result (λ template. template ≡ template_of numbers.now rule.now) }
-{
-    let context = context_of(alloc, numbers, rule.context.as_slice())?;
-    let pieces = pieces_of(alloc, numbers, rule.context.len(), rule.output.as_slice())?;
-    Ok(Template {
-        line: rule.line,
-        context,
-        pieces,
-    })
 }
 
 /// Returns the key of a rule whose key is not an `any`.

@@ -69,6 +69,57 @@ impl<'a> Values<'a> {
     }
 }
 
+/// Returns the values of a program.
+#[tactic(auto, using(crate::proofs::ValueSets::values_of_program))]
+pub fn values_of<'a>(alloc: Global, program: &'a Program) -> Result<Values<'a>, Memory>
+    ensures { IfOk result (λ values. values ≡ values_of program.now) }
+{
+    let mut values = Values::new(alloc);
+    add_groups(&mut values, program.groups.as_slice())?;
+    Ok(values)
+}
+
+/// Adds the values of groups.
+fn add_groups<'a>(values: &mut Values<'a>, groups: &'a [GroupDef]) -> Result<(), Memory>
+    ensures { OnOk result (values.new ≡ with_values values.old (flat_map rule_items (flat_map (λ (group : GroupDef). group.rules) groups.now))) }
+{
+    for group in groups {
+        add_rules(values, group.rules.as_slice())?;
+    }
+    Ok(())
+}
+
+/// Adds the values of rules.
+#[tactic(auto, using(crate::proofs::ValueSets::next_rule))]
+fn add_rules<'a>(values: &mut Values<'a>, rules: &'a [RuleDef]) -> Result<(), Memory>
+    ensures { OnOk result (values.new ≡ with_values values.old (flat_map rule_items rules.now)) }
+{
+    for rule in rules {
+        add_rule(values, rule)?;
+    }
+    Ok(())
+}
+
+/// Adds the values of a rule.
+#[tactic(auto, using(crate::proofs::ValueSets::values_append))]
+fn add_rule<'a>(values: &mut Values<'a>, rule: &'a RuleDef) -> Result<(), Memory>
+    ensures { OnOk result (values.new ≡ with_values values.old (rule_items rule.now)) }
+{
+    add_items(values, rule.context.as_slice())?;
+    add_key(values, &rule.key)?;
+    add_items(values, rule.output.as_slice())
+}
+
+/// Adds the values that items name.
+fn add_items<'a>(values: &mut Values<'a>, items: &'a [SrcItem]) -> Result<(), Memory>
+    ensures { OnOk result (values.new ≡ with_values values.old items.now) }
+{
+    for item in items {
+        add_item(values, item)?;
+    }
+    Ok(())
+}
+
 /// Adds the value that an item names.
 fn add_item<'a>(values: &mut Values<'a>, item: &'a SrcItem) -> Result<(), Memory>
     ensures { OnOk result (values.new ≡ distinct_onto bytes_eq values.old (item_values item.now)) }
@@ -84,16 +135,6 @@ fn add_item<'a>(values: &mut Values<'a>, item: &'a SrcItem) -> Result<(), Memory
     }
 }
 
-/// Adds the values that items name.
-fn add_items<'a>(values: &mut Values<'a>, items: &'a [SrcItem]) -> Result<(), Memory>
-    ensures { OnOk result (values.new ≡ with_values values.old items.now) }
-{
-    for item in items {
-        add_item(values, item)?;
-    }
-    Ok(())
-}
-
 /// Adds the value that the key of a rule names; a key of the language names none.
 fn add_key<'a>(values: &mut Values<'a>, key: &'a Option<SrcItem>) -> Result<(), Memory>
     ensures { OnOk result (values.new ≡ with_values values.old (option_to_list key.now)) }
@@ -102,45 +143,4 @@ fn add_key<'a>(values: &mut Values<'a>, key: &'a Option<SrcItem>) -> Result<(), 
         Some(item) => add_item(values, item),
         None => Ok(()),
     }
-}
-
-/// Adds the values of a rule.
-#[tactic(auto, using(crate::proofs::ValueSets::values_append))]
-fn add_rule<'a>(values: &mut Values<'a>, rule: &'a RuleDef) -> Result<(), Memory>
-    ensures { OnOk result (values.new ≡ with_values values.old (rule_items rule.now)) }
-{
-    add_items(values, rule.context.as_slice())?;
-    add_key(values, &rule.key)?;
-    add_items(values, rule.output.as_slice())
-}
-
-/// Adds the values of rules.
-#[tactic(auto, using(crate::proofs::ValueSets::next_rule))]
-fn add_rules<'a>(values: &mut Values<'a>, rules: &'a [RuleDef]) -> Result<(), Memory>
-    ensures { OnOk result (values.new ≡ with_values values.old (flat_map rule_items rules.now)) }
-{
-    for rule in rules {
-        add_rule(values, rule)?;
-    }
-    Ok(())
-}
-
-/// Adds the values of groups.
-fn add_groups<'a>(values: &mut Values<'a>, groups: &'a [GroupDef]) -> Result<(), Memory>
-    ensures { OnOk result (values.new ≡ with_values values.old (flat_map rule_items (flat_map (λ (group : GroupDef). group.rules) groups.now))) }
-{
-    for group in groups {
-        add_rules(values, group.rules.as_slice())?;
-    }
-    Ok(())
-}
-
-/// Returns the values of a program.
-#[tactic(auto, using(crate::proofs::ValueSets::values_of_program))]
-pub fn values_of<'a>(alloc: Global, program: &'a Program) -> Result<Values<'a>, Memory>
-    ensures { IfOk result (λ values. values ≡ values_of program.now) }
-{
-    let mut values = Values::new(alloc);
-    add_groups(&mut values, program.groups.as_slice())?;
-    Ok(values)
 }

@@ -11,17 +11,16 @@ use kmx_format::{OWN_VERSION, file_versions};
 use rule_model::Store;
 use rule_model::system::VERSION;
 
-/// Returns whether elements are the characters of an ASCII text.
-fn is_text(text: &[u8], elements: &[Element]) -> bool
-    ensures { result ≡ same_value (value_elements text.now) elements.now }
+/// Returns the version of the file of these stores, which the first `&version` states.
+pub fn version_of(stores: &[Store]) -> u16
+    ensures { result ≡ stated_version (find is_version stores.now) }
 {
-    match text {
-        [] => elements.is_empty(),
-        [byte, rest @ ..] => match elements {
-            [Element::Char(c), others @ ..] => *c == char::from(*byte) && is_text(rest, others),
-            _ => false,
-        },
+    for store in stores {
+        if store.system == VERSION {
+            return version_in(file_versions(), store.elements.as_slice());
+        }
     }
+    OWN_VERSION
 }
 
 /// Returns the number of the version that elements state, in a table.
@@ -36,14 +35,15 @@ fn version_in(table: &[(&str, u16)], elements: &[Element]) -> u16
     OWN_VERSION
 }
 
-/// Returns the version of the file of these stores, which the first `&version` states.
-pub fn version_of(stores: &[Store]) -> u16
-    ensures { result ≡ stated_version (find is_version stores.now) }
+/// Returns whether elements are the characters of an ASCII text.
+fn is_text(text: &[u8], elements: &[Element]) -> bool
+    ensures { result ≡ same_value (value_elements text.now) elements.now }
 {
-    for store in stores {
-        if store.system == VERSION {
-            return version_in(file_versions(), store.elements.as_slice());
-        }
+    match text {
+        [] => elements.is_empty(),
+        [byte, rest @ ..] => match elements {
+            [Element::Char(c), others @ ..] => *c == char::from(*byte) && is_text(rest, others),
+            _ => false,
+        },
     }
-    OWN_VERSION
 }

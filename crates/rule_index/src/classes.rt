@@ -20,6 +20,35 @@ use kmx_parts::{ContextItem, ContextItems, FileGroup, FileRule};
 use std::alloc::Global;
 use virtual_keys::char_of;
 
+/// Returns the classes of a group's records, in their order.
+pub fn record_classes(alloc: Global, group: &FileGroup<'_>) -> Result<Vec<Class>, Memory>
+    ensures { IfOk result (λ classes. classes.items ≡ record_classes group.now) }
+{
+    let using_keys = group.using_keys();
+    let mut classes = Vec::new(alloc);
+    for rule in group.rules() {
+        classes.push(rule_class(using_keys, &rule))?;
+    }
+    Ok(classes)
+}
+
+/// Returns the class of a record: what it can match. In a group without keys, it can match every press.
+fn rule_class(using_keys: bool, rule: &FileRule<'_>) -> Class
+    ensures { result ≡ rule_class (tab_rule [] using_keys rule.now) }
+{
+    let key = if using_keys { rule.key() } else { RuleKey::Any };
+    class_of(key_class(key), last_class(rule.context_items()))
+}
+
+/// Returns the class with the part of a key and the part of a pattern.
+fn class_of(by_key: u64, by_item: u64) -> Class
+    requires key { by_key < PARTS }
+    requires item { by_item < PARTS }
+    ensures { result ≡ class_of by_key by_item }
+{
+    Class::of(by_key * PARTS + by_item)
+}
+
 /// Returns the part of a class for its key: which key presses the key can match.
 fn key_class(key: RuleKey) -> u64
     ensures value { result ≡ key_class key }
@@ -29,18 +58,6 @@ fn key_class(key: RuleKey) -> u64
         RuleKey::Any => 0,
         RuleKey::Char(c) => 1 + u64::from(c),
         RuleKey::Virtual { code, .. } => FIRST_CODE + u64::from(code),
-    }
-}
-
-/// Returns the part of a class for an item of a rule context: which text item it can match.
-fn pattern_class(item: ContextItem) -> u64
-    ensures value { result ≡ pattern_class (tab_pattern [] (pattern_of item)) }
-    ensures small { result < PARTS }
-{
-    match item {
-        ContextItem::Char(c) => 1 + u64::from(c as u32),
-        ContextItem::Mark(m) => FIRST_MARK + u64::from(m),
-        _ => 0,
     }
 }
 
@@ -58,55 +75,15 @@ fn last_class(context: ContextItems<'_>) -> u64
     class
 }
 
-/// Returns the class with the part of a key and the part of a pattern.
-fn class_of(by_key: u64, by_item: u64) -> Class
-    requires key { by_key < PARTS }
-    requires item { by_item < PARTS }
-    ensures { result ≡ class_of by_key by_item }
-{
-    Class::of(by_key * PARTS + by_item)
-}
-
-/// Returns the class of a record: what it can match. In a group without keys, it can match every press.
-fn rule_class(using_keys: bool, rule: &FileRule<'_>) -> Class
-    ensures { result ≡ rule_class (tab_rule [] using_keys rule.now) }
-{
-    let key = if using_keys { rule.key() } else { RuleKey::Any };
-    class_of(key_class(key), last_class(rule.context_items()))
-}
-
-/// Returns the classes of a group's records, in their order.
-pub fn record_classes(alloc: Global, group: &FileGroup<'_>) -> Result<Vec<Class>, Memory>
-    ensures { IfOk result (λ classes. classes.items ≡ record_classes group.now) }
-{
-    let using_keys = group.using_keys();
-    let mut classes = Vec::new(alloc);
-    for rule in group.rules() {
-        classes.push(rule_class(using_keys, &rule))?;
-    }
-    Ok(classes)
-}
-
-/// Returns the part of a class that an item can match.
-fn item_class(item: Option<Item>) -> u64
-    ensures value { result ≡ item_class item }
+/// Returns the part of a class for an item of a rule context: which text item it can match.
+fn pattern_class(item: ContextItem) -> u64
+    ensures value { result ≡ pattern_class (tab_pattern [] (pattern_of item)) }
     ensures small { result < PARTS }
 {
     match item {
-        None => 0,
-        Some(Item::Char(c)) => 1 + u64::from(c as u32),
-        Some(Item::Mark(m)) => FIRST_MARK + u64::from(m),
-    }
-}
-
-/// Returns the part of a class that the character of a press can match, or its code if the press produces no character.
-fn given_class(press: KeyPress) -> u64
-    ensures value { result ≡ given_class press (char_of_press press) }
-    ensures small { result < PARTS }
-{
-    match char_of(press) {
-        Some(c) => 1 + u64::from(c as u32),
-        None => FIRST_CODE + u64::from(press.code),
+        ContextItem::Char(c) => 1 + u64::from(c as u32),
+        ContextItem::Mark(m) => FIRST_MARK + u64::from(m),
+        _ => 0,
     }
 }
 
@@ -126,4 +103,27 @@ pub fn matching_classes(press: KeyPress, left: &[Item]) -> [Class; 6]
         class_of(code, last),
         class_of(code, 0),
     ]
+}
+
+/// Returns the part of a class that the character of a press can match, or its code if the press produces no character.
+fn given_class(press: KeyPress) -> u64
+    ensures value { result ≡ given_class press (char_of_press press) }
+    ensures small { result < PARTS }
+{
+    match char_of(press) {
+        Some(c) => 1 + u64::from(c as u32),
+        None => FIRST_CODE + u64::from(press.code),
+    }
+}
+
+/// Returns the part of a class that an item can match.
+fn item_class(item: Option<Item>) -> u64
+    ensures value { result ≡ item_class item }
+    ensures small { result < PARTS }
+{
+    match item {
+        None => 0,
+        Some(Item::Char(c)) => 1 + u64::from(c as u32),
+        Some(Item::Mark(m)) => FIRST_MARK + u64::from(m),
+    }
 }

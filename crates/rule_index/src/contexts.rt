@@ -8,17 +8,6 @@ use kmn_base::Memory;
 use kmx_parts::{ContextItem, ContextItems, FileGroup};
 use std::alloc::Global;
 
-/// Copies a rule context of a file.
-fn copied(alloc: Global, context: ContextItems<'_>) -> Result<Vec<ContextItem>, Memory>
-    ensures { IfOk result (λ copied. copied.items ≡ context.entry) }
-{
-    let mut copied = Vec::new(alloc);
-    for item in context {
-        copied.push(item)?;
-    }
-    Ok(copied)
-}
-
 /// Returns the contexts of a group's records, in their order.
 pub fn record_contexts(
     alloc: Global,
@@ -33,6 +22,28 @@ pub fn record_contexts(
     Ok(contexts)
 }
 
+/// Copies a rule context of a file.
+fn copied(alloc: Global, context: ContextItems<'_>) -> Result<Vec<ContextItem>, Memory>
+    ensures { IfOk result (λ copied. copied.items ≡ context.entry) }
+{
+    let mut copied = Vec::new(alloc);
+    for item in context {
+        copied.push(item)?;
+    }
+    Ok(copied)
+}
+
+/// Returns the count of each context, in their order.
+pub fn counts(alloc: Global, contexts: &[Vec<ContextItem>]) -> Result<Vec<u8>, Memory>
+    ensures { IfOk result (λ counts. counts.items ≡ map context_count (listed contexts.now)) }
+{
+    let mut counts = Vec::new(alloc);
+    for context in contexts {
+        counts.push(context_count(context.as_slice()))?;
+    }
+    Ok(counts)
+}
+
 /// Returns the number of text items that a context matches, at most 255.
 #[tactic(auto, using(crate::proofs::ContextCounts::counted, crate::proofs::ContextCounts::uncounted))]
 fn context_count(context: &[ContextItem]) -> u8
@@ -45,15 +56,4 @@ fn context_count(context: &[ContextItem]) -> u8
         }
     }
     count
-}
-
-/// Returns the count of each context, in their order.
-pub fn counts(alloc: Global, contexts: &[Vec<ContextItem>]) -> Result<Vec<u8>, Memory>
-    ensures { IfOk result (λ counts. counts.items ≡ map context_count (listed contexts.now)) }
-{
-    let mut counts = Vec::new(alloc);
-    for context in contexts {
-        counts.push(context_count(context.as_slice()))?;
-    }
-    Ok(counts)
 }

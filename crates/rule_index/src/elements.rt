@@ -7,18 +7,6 @@ use crate::class::Class;
 use kmn_base::{Element, Item, Memory};
 use std::alloc::Global;
 
-/// Returns the number of an element.
-fn element_number(element: Element) -> Class
-    ensures value { result ≡ element_number element }
-    ensures small { result < 4194304 }
-{
-    match element {
-        Element::Char(c) => Class::of(1 + 2 * u64::from(c as u32)),
-        Element::Mark(m) => Class::of(2 + 2 * u64::from(m)),
-        Element::Key { .. } => Class::of(0),
-    }
-}
-
 /// Returns the number of an item.
 pub fn item_number(item: Item) -> u32
     ensures value { result ≡ item_number item }
@@ -40,4 +28,16 @@ pub fn element_numbers(alloc: Global, elements: &[Element]) -> Result<Vec<Class>
         numbers.push(element_number(*element))?;
     }
     Ok(numbers)
+}
+
+/// Returns the number of an element.
+fn element_number(element: Element) -> Class
+    ensures value { result ≡ element_number element }
+    ensures small { result < 4194304 }
+{
+    match element {
+        Element::Char(c) => Class::of(1 + 2 * u64::from(c as u32)),
+        Element::Mark(m) => Class::of(2 + 2 * u64::from(m)),
+        Element::Key { .. } => Class::of(0),
+    }
 }

@@ -23,11 +23,18 @@ pub fn rank_of(class: Class, number: u32) -> u64
     class.number() * u64::from(NO_ROW) + u64::from(number)
 }
 
-/// Returns the rank of a row.
-fn rank(row: &Row) -> u64
-    ensures { result ≡ rank row.now }
+/// Creates the rows of these classes, sorted by class and then by number.
+pub fn rows_of(alloc: Global, classes: &[Class]) -> Result<Vec<Row>, Memory>
+    requires { length classes.now ≤ RECORDS }
+    ensures { IfOk result (λ rows. IsIndexOf classes.now rows.items) }
 {
-    rank_of(row.class, row.number)
+    let mut rows = numbered(alloc, classes)?;
+    rows.sort_unstable_by_key(
+        |row: &Row| -> u64
+            ensures { result ≡ rank row.now }
+        { rank(row) },
+    );
+    Ok(rows)
 }
 
 /// Creates a row for each of these classes, in their order.
@@ -45,18 +52,11 @@ fn numbered(alloc: Global, classes: &[Class]) -> Result<Vec<Row>, Memory>
     Ok(rows)
 }
 
-/// Creates the rows of these classes, sorted by class and then by number.
-pub fn rows_of(alloc: Global, classes: &[Class]) -> Result<Vec<Row>, Memory>
-    requires { length classes.now ≤ RECORDS }
-    ensures { IfOk result (λ rows. IsIndexOf classes.now rows.items) }
+/// Returns the rank of a row.
+fn rank(row: &Row) -> u64
+    ensures { result ≡ rank row.now }
 {
-    let mut rows = numbered(alloc, classes)?;
-    rows.sort_unstable_by_key(
-        |row: &Row| -> u64
-            ensures { result ≡ rank row.now }
-        { rank(row) },
-    );
-    Ok(rows)
+    rank_of(row.class, row.number)
 }
 
 /// Returns the index of the first row whose rank is at least `start`.

@@ -10,19 +10,17 @@ use indexmap::IndexMap;
 use kmn_base::{Element, Memory, Seq};
 use std::alloc::Global;
 
-/// Returns the characters of elements, None if an element is not a character.
-fn characters_of(alloc: Global, elements: &[Element]) -> Result<Option<Vec<char>>, Memory>
-    ensures { IfOk result (λ characters. AreCharacters elements.now characters) }
+/// Returns the number of a store for each text that a store is stated with.
+#[tactic(auto, using(crate::proofs::TextEntries::no_texts))]
+pub fn texts_of(alloc: Global, stores: &[Seq<Element>]) -> Result<IndexMap<Vec<char>, u32>, Memory>
+    requires { length stores.now ≤ STORES + 2 }
+    ensures { IfOk result (λ texts. AreTexts stores.now (length stores.now) texts.entries) }
 {
-    let mut characters = Vec::with_capacity(alloc, elements.len())?;
-    for element in elements {
-        match *element {
-            Element::Char(c) => characters.push(c)?,
-            Element::Mark(_) => return Ok(None),
-            Element::Key { .. } => return Ok(None),
-        }
+    let mut texts = IndexMap::new(alloc);
+    for store in 0..stores.len() {
+        put_text(alloc, &mut texts, stores[store].as_slice(), store as u32)?;
     }
-    Ok(Some(characters))
+    Ok(texts)
 }
 
 /// Inserts the elements of a store if they are a text.
@@ -44,15 +42,17 @@ fn put_text(
     }
 }
 
-/// Returns the number of a store for each text that a store is stated with.
-#[tactic(auto, using(crate::proofs::TextEntries::no_texts))]
-pub fn texts_of(alloc: Global, stores: &[Seq<Element>]) -> Result<IndexMap<Vec<char>, u32>, Memory>
-    requires { length stores.now ≤ STORES + 2 }
-    ensures { IfOk result (λ texts. AreTexts stores.now (length stores.now) texts.entries) }
+/// Returns the characters of elements, None if an element is not a character.
+fn characters_of(alloc: Global, elements: &[Element]) -> Result<Option<Vec<char>>, Memory>
+    ensures { IfOk result (λ characters. AreCharacters elements.now characters) }
 {
-    let mut texts = IndexMap::new(alloc);
-    for store in 0..stores.len() {
-        put_text(alloc, &mut texts, stores[store].as_slice(), store as u32)?;
+    let mut characters = Vec::with_capacity(alloc, elements.len())?;
+    for element in elements {
+        match *element {
+            Element::Char(c) => characters.push(c)?,
+            Element::Mark(_) => return Ok(None),
+            Element::Key { .. } => return Ok(None),
+        }
     }
-    Ok(texts)
+    Ok(Some(characters))
 }

@@ -12,29 +12,12 @@ use kmn_base::{Element, Memory, Seq};
 use std::alloc::Global;
 use std::collections::BTreeMap;
 
-/// Appends the code of an element.
-fn put_code(code: &mut Seq<u32>, element: Element) -> Result<(), Memory>
-    ensures { OnOk result (code.new ≡ code.old ++ element_code element) }
+/// Returns the number of no elements, followed by the number of each store's elements.
+pub fn store_numbers(alloc: Global, stores: &[Seq<Element>]) -> Result<Vec<usize>, Memory>
+    ensures { IfOk result (λ numbers. AreNumbersOf (map value_code ([] ∷ stores.now)) numbers.items) }
 {
-    match element {
-        Element::Char(c) => code.add(3 * u32::from(c)),
-        Element::Mark(mark) => code.add(1 + 3 * u32::from(mark)),
-        Element::Key { flags, code: key } => {
-            code.add(2 + 3 * u32::from(flags))?;
-            code.add(u32::from(key))
-        }
-    }
-}
-
-/// Returns the code of elements. Different elements have different codes.
-fn value_code(alloc: Global, elements: &[Element]) -> Result<Seq<u32>, Memory>
-    ensures { IfOk result (λ code. code ≡ value_code elements.now) }
-{
-    let mut code = Seq::new(alloc);
-    for element in elements {
-        put_code(&mut code, *element)?;
-    }
-    Ok(code)
+    let codes = value_codes(alloc, stores)?;
+    value_numbers(alloc, codes.as_slice())
 }
 
 /// Returns the code of no elements, followed by the code of each store's elements.
@@ -49,19 +32,29 @@ fn value_codes(alloc: Global, stores: &[Seq<Element>]) -> Result<Vec<Seq<u32>>, 
     Ok(codes)
 }
 
-/// Returns the number of a value if it is known. Otherwise adds it with the next number and returns that number.
-fn numbered<'a>(
-    known: &mut BTreeMap<&'a [u32], usize>,
-    value: &'a [u32],
-    next: usize,
-) -> Result<usize, Memory>
-    ensures { IfOk result (λ number. IsNumbered (known_in known.old) (known_in known.new) value.now next number) }
+/// Returns the code of elements. Different elements have different codes.
+fn value_code(alloc: Global, elements: &[Element]) -> Result<Seq<u32>, Memory>
+    ensures { IfOk result (λ code. code ≡ value_code elements.now) }
 {
-    if let Some(number) = known.get(value) {
-        return Ok(*number);
+    let mut code = Seq::new(alloc);
+    for element in elements {
+        put_code(&mut code, *element)?;
     }
-    known.insert(value, next)?;
-    Ok(next)
+    Ok(code)
+}
+
+/// Appends the code of an element.
+fn put_code(code: &mut Seq<u32>, element: Element) -> Result<(), Memory>
+    ensures { OnOk result (code.new ≡ code.old ++ element_code element) }
+{
+    match element {
+        Element::Char(c) => code.add(3 * u32::from(c)),
+        Element::Mark(mark) => code.add(1 + 3 * u32::from(mark)),
+        Element::Key { flags, code: key } => {
+            code.add(2 + 3 * u32::from(flags))?;
+            code.add(u32::from(key))
+        }
+    }
 }
 
 /// Returns for each value the number of the first equal value, so that one comparison of numbers compares two values.
@@ -77,12 +70,19 @@ fn value_numbers(alloc: Global, values: &[Seq<u32>]) -> Result<Vec<usize>, Memor
     Ok(numbers)
 }
 
-/// Returns the number of no elements, followed by the number of each store's elements.
-pub fn store_numbers(alloc: Global, stores: &[Seq<Element>]) -> Result<Vec<usize>, Memory>
-    ensures { IfOk result (λ numbers. AreNumbersOf (map value_code ([] ∷ stores.now)) numbers.items) }
+/// Returns the number of a value if it is known. Otherwise adds it with the next number and returns that number.
+fn numbered<'a>(
+    known: &mut BTreeMap<&'a [u32], usize>,
+    value: &'a [u32],
+    next: usize,
+) -> Result<usize, Memory>
+    ensures { IfOk result (λ number. IsNumbered (known_in known.old) (known_in known.new) value.now next number) }
 {
-    let codes = value_codes(alloc, stores)?;
-    value_numbers(alloc, codes.as_slice())
+    if let Some(number) = known.get(value) {
+        return Ok(*number);
+    }
+    known.insert(value, next)?;
+    Ok(next)
 }
 
 /// Returns the number of a store's elements among these numbers, or the number of no elements if there is no such store.

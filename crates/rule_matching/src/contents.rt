@@ -14,23 +14,6 @@ use crate::store_value::StoreValue;
 use option_store::{Held, Options};
 use rule_index::IndexedKeyboard;
 
-/// Returns the value that is held for a store: the elements that a store is defined with, or the text of the host.
-#[tactic(auto, using(crate::proofs::StoreContents::elements_held))]
-fn held<'c>(
-    indexed: &'c IndexedKeyboard,
-    options: &'c Options,
-    store: u32,
-    held: Held,
-) -> StoreValue<'c>
-    requires { held ≡ Host → store < length options.now }
-    ensures { elements_in result ≡ held_value (stated (tab indexed.now).stores) (cell_at options.now store).text held }
-{
-    match held {
-        Held::Store(value) => StoreValue::Elements(indexed.stated(value)),
-        Held::Host => StoreValue::Text(options.host_text(store)),
-    }
-}
-
 /// Returns what a store holds now: the current value of an option, or the store itself if it is not an option.
 #[tactic(auto, using(crate::proofs::StoreContents::option_within, crate::proofs::StoreContents::current_is_content, crate::proofs::StoreContents::itself_is_content))]
 pub fn held_now(indexed: &IndexedKeyboard, options: &Options, store: u32) -> Held
@@ -54,6 +37,23 @@ pub fn content<'c>(indexed: &'c IndexedKeyboard, options: &'c Options, store: u3
     ensures { elements_in result ≡ content (tab indexed.now).stores (option_values (tab indexed.now).stores options.now) (Numbered store) }
 {
     held(indexed, options, store, held_now(indexed, options, store))
+}
+
+/// Returns the value that is held for a store: the elements that a store is defined with, or the text of the host.
+#[tactic(auto, using(crate::proofs::StoreContents::elements_held))]
+fn held<'c>(
+    indexed: &'c IndexedKeyboard,
+    options: &'c Options,
+    store: u32,
+    held: Held,
+) -> StoreValue<'c>
+    requires { held ≡ Host → store < length options.now }
+    ensures { elements_in result ≡ held_value (stated (tab indexed.now).stores) (cell_at options.now store).text held }
+{
+    match held {
+        Held::Store(value) => StoreValue::Elements(indexed.stated(value)),
+        Held::Host => StoreValue::Text(options.host_text(store)),
+    }
 }
 
 /// Returns the saved value of a store, or `None` if no value is saved or the store is not an option.

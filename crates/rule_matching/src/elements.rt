@@ -14,18 +14,18 @@ pub fn same_element(element: Element, other: Element) -> bool
     element == other
 }
 
-/// Returns the catch at an offset, which counts from 1.
-fn found_at(seen: &[MatchedItem], offset: u32) -> Option<MatchedItem>
-    ensures { result ≡ catch_at seen.now offset }
-{
-    seen.get((offset as usize).checked_sub(1)?).copied()
-}
-
 /// Returns the item that was caught at an offset.
 pub fn item_caught(seen: &[MatchedItem], offset: u32) -> Option<Item>
     ensures { result ≡ item_caught seen.now offset }
 {
     found_at(seen, offset)?.item
+}
+
+/// Returns the catch at an offset, which counts from 1.
+fn found_at(seen: &[MatchedItem], offset: u32) -> Option<MatchedItem>
+    ensures { result ≡ catch_at seen.now offset }
+{
+    seen.get((offset as usize).checked_sub(1)?).copied()
 }
 
 /// Returns the position that was caught at an offset.

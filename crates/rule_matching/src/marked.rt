@@ -13,6 +13,21 @@ use crate::places::item_before;
 use crate::store_marks::StoreMarks;
 use kmn_base::Item;
 
+/// Returns whether a store is defined with the item at a distance from the caret. There must be marks for the store.
+#[inline(always)]
+pub fn is_marked(choice: &Choice<'_>, distance: usize, store: u32, places: &mut PlaceMemory) -> bool
+    requires within { distance < length choice.now.left.now }
+    requires near { distance < WINDOW_ITEMS }
+    requires room { store < marked_len places.old.marks }
+    requires right { RemembersFor choice.now places.old }
+    ensures value { result ≡ is_some (place_in_stated choice.now.moment.now.tables choice.now.left.now store distance) }
+    ensures right { RemembersFor choice.now places.new }
+    ensures rooms { rooms places.new ≡ rooms places.old }
+{
+    mark_distance(choice, distance, &mut places.marks);
+    places.marks.is_marked(store, distance)
+}
+
 /// Marks the stores that are defined with the item at a distance from the caret, unless that is already done for this choice.
 #[inline(always)]
 fn mark_distance(choice: &Choice<'_>, distance: usize, marks: &mut StoreMarks)
@@ -30,19 +45,4 @@ fn mark_distance(choice: &Choice<'_>, distance: usize, marks: &mut StoreMarks)
         distance,
         choice.moment.holders(item_before(choice.left, distance)),
     );
-}
-
-/// Returns whether a store is defined with the item at a distance from the caret. There must be marks for the store.
-#[inline(always)]
-pub fn is_marked(choice: &Choice<'_>, distance: usize, store: u32, places: &mut PlaceMemory) -> bool
-    requires within { distance < length choice.now.left.now }
-    requires near { distance < WINDOW_ITEMS }
-    requires room { store < marked_len places.old.marks }
-    requires right { RemembersFor choice.now places.old }
-    ensures value { result ≡ is_some (place_in_stated choice.now.moment.now.tables choice.now.left.now store distance) }
-    ensures right { RemembersFor choice.now places.new }
-    ensures rooms { rooms places.new ≡ rooms places.old }
-{
-    mark_distance(choice, distance, &mut places.marks);
-    places.marks.is_marked(store, distance)
 }

@@ -36,26 +36,27 @@ pub fn item_at(left: &[Item], distance: usize) -> Option<Item>
     }
 }
 
-/// Looks up the first position of the item at a distance in the content of a store, and remembers it for the rest of the
-/// choice.
-#[inline(never)]
-fn look_for(
+/// Returns whether the content of a store contains the item at a distance.
+#[inline(always)]
+#[tactic(auto, using(crate::proofs::Holders::in_what_is_held))]
+pub fn is_in_store(
     choice: &Choice<'_>,
     distance: usize,
     store: u32,
     places: &mut PlaceMemory,
-) -> Option<usize>
+) -> bool
     requires within { distance < length choice.now.left.now }
     requires right { RemembersFor choice.now places.old }
-    ensures place { result ≡ place_before (content_of choice.now) choice.now.left.now store distance }
+    ensures value { result ≡ is_some (place_before (content_of choice.now) choice.now.left.now store distance) }
     ensures right { RemembersFor choice.now places.new }
     ensures rooms { rooms places.new ≡ rooms places.old }
 {
-    let place = choice
-        .moment
-        .place_of(store, item_before(choice.left, distance));
-    places.found.remember(store, distance, place);
-    place
+    match choice.moment.held_store(store) {
+        Some(value) if distance < WINDOW_ITEMS && places.marks.has_room(value) => {
+            is_marked(choice, distance, value, places)
+        }
+        _ => place_before(choice, distance, store, places).is_some(),
+    }
 }
 
 /// Returns the first position of the item at a distance in the content of a store, or `None` if there is no such item. Looks it
@@ -81,37 +82,26 @@ fn place_before(
     }
 }
 
-/// Returns whether the content of a store contains the item at a distance.
-#[inline(always)]
-#[tactic(auto, using(crate::proofs::Holders::in_what_is_held))]
-pub fn is_in_store(
+/// Looks up the first position of the item at a distance in the content of a store, and remembers it for the rest of the
+/// choice.
+#[inline(never)]
+fn look_for(
     choice: &Choice<'_>,
     distance: usize,
     store: u32,
     places: &mut PlaceMemory,
-) -> bool
+) -> Option<usize>
     requires within { distance < length choice.now.left.now }
     requires right { RemembersFor choice.now places.old }
-    ensures value { result ≡ is_some (place_before (content_of choice.now) choice.now.left.now store distance) }
+    ensures place { result ≡ place_before (content_of choice.now) choice.now.left.now store distance }
     ensures right { RemembersFor choice.now places.new }
     ensures rooms { rooms places.new ≡ rooms places.old }
 {
-    match choice.moment.held_store(store) {
-        Some(value) if distance < WINDOW_ITEMS && places.marks.has_room(value) => {
-            is_marked(choice, distance, value, places)
-        }
-        _ => place_before(choice, distance, store, places).is_some(),
-    }
-}
-
-/// Returns the position in its store of a taken item, if an `any` took it.
-fn place_of_taken(choice: &Choice<'_>, taken: TakenItem, places: &mut PlaceMemory) -> Option<usize>
-    requires { RemembersFor choice.now places.old }
-    ensures place { result ≡ (caught_in choice.now taken).place }
-    ensures right { RemembersFor choice.now places.new }
-    ensures rooms { rooms places.new ≡ rooms places.old }
-{
-    place_before(choice, taken.distance, taken.store?, places)
+    let place = choice
+        .moment
+        .place_of(store, item_before(choice.left, distance));
+    places.found.remember(store, distance, place);
+    place
 }
 
 /// Returns the position in its store of the item taken at an offset, if an `any` took it.
@@ -128,6 +118,16 @@ pub fn place_taken(
     ensures rooms { rooms places.new ≡ rooms places.old }
 {
     place_of_taken(choice, taken_at(taken, offset)?, places)
+}
+
+/// Returns the position in its store of a taken item, if an `any` took it.
+fn place_of_taken(choice: &Choice<'_>, taken: TakenItem, places: &mut PlaceMemory) -> Option<usize>
+    requires { RemembersFor choice.now places.old }
+    ensures place { result ≡ (caught_in choice.now taken).place }
+    ensures right { RemembersFor choice.now places.new }
+    ensures rooms { rooms places.new ≡ rooms places.old }
+{
+    place_before(choice, taken.distance, taken.store?, places)
 }
 
 /// Writes to `caught` what was taken: each item, and for each `any` also the position in its store.

@@ -12,21 +12,12 @@ ghost use Rattle.rule_order.specs.Order.{IsOrdered};
 use rule_model::{Group, Rule, Tables};
 use std::cmp::Reverse;
 
-/// Sorts records.
-fn order_records(records: &mut [Rule])
-    ensures records { IsPermutation records.old records.new }
-    ensures in_order { IsSortedBy precedes records.new }
+/// Sorts the records of each group: by falling length of the context, then by rising line, then by rising position. Version,
+/// start groups and stores are unchanged.
+pub fn order(tables: &mut Tables)
+    ensures { IsOrdered tables.old tables.new }
 {
-    records.sort_unstable_by_key(|record| {
-        (Reverse(record.context.len()), record.line, record.place)
-    });
-}
-
-/// Sorts the records of a group.
-fn order_group(group: &mut Group)
-    ensures { IsOrderedGroup group.old group.new }
-{
-    order_records(group.rules.as_mut_slice());
+    order_groups(tables.groups.as_mut_slice());
 }
 
 /// Sorts the records of each group.
@@ -38,10 +29,19 @@ fn order_groups(groups: &mut [Group])
     }
 }
 
-/// Sorts the records of each group: by falling length of the context, then by rising line, then by rising position. Version,
-/// start groups and stores are unchanged.
-pub fn order(tables: &mut Tables)
-    ensures { IsOrdered tables.old tables.new }
+/// Sorts the records of a group.
+fn order_group(group: &mut Group)
+    ensures { IsOrderedGroup group.old group.new }
 {
-    order_groups(tables.groups.as_mut_slice());
+    order_records(group.rules.as_mut_slice());
+}
+
+/// Sorts records.
+fn order_records(records: &mut [Rule])
+    ensures records { IsPermutation records.old records.new }
+    ensures in_order { IsSortedBy precedes records.new }
+{
+    records.sort_unstable_by_key(|record| {
+        (Reverse(record.context.len()), record.line, record.place)
+    });
 }

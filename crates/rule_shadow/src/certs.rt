@@ -21,29 +21,6 @@ use kmn_base::limits::CONTEXT_ITEMS;
 use kmn_base::{Element, Item};
 use rule_model::{Pat, item_of};
 
-/// Returns the pattern at a position of a context. Positions count only patterns, from 0.
-fn pattern_at(context: &[Pat], place: u32) -> Option<Pat>
-    ensures { result ≡ slice_get (patterns_of context.now) place }
-{
-    let [pattern, rest @ ..] = context else {
-        return None;
-    };
-    if !pattern.is_matched() {
-        return pattern_at(rest, place);
-    }
-    if place == 0 {
-        return Some(*pattern);
-    }
-    pattern_at(rest, place - 1)
-}
-
-/// Returns the item to which a narrowing restricts a position, if any.
-fn given_at(narrowing: &[Option<Item>], place: u32) -> Option<Item>
-    ensures { result ≡ option_flatten (slice_get narrowing.now place) }
-{
-    narrowing.get(place as usize).copied().flatten()
-}
-
 /// Returns the store whose items a certificate may split by at a position: the store of an `any`, if the store is not an option
 /// and the position is not narrowed.
 pub fn split_store(subject: &Subject, narrowing: &[Option<Item>], place: u32) -> Option<u32>
@@ -62,6 +39,29 @@ pub fn split_store(subject: &Subject, narrowing: &[Option<Item>], place: u32) ->
         }
         _ => None,
     }
+}
+
+/// Returns the item to which a narrowing restricts a position, if any.
+fn given_at(narrowing: &[Option<Item>], place: u32) -> Option<Item>
+    ensures { result ≡ option_flatten (slice_get narrowing.now place) }
+{
+    narrowing.get(place as usize).copied().flatten()
+}
+
+/// Returns the pattern at a position of a context. Positions count only patterns, from 0.
+fn pattern_at(context: &[Pat], place: u32) -> Option<Pat>
+    ensures { result ≡ slice_get (patterns_of context.now) place }
+{
+    let [pattern, rest @ ..] = context else {
+        return None;
+    };
+    if !pattern.is_matched() {
+        return pattern_at(rest, place);
+    }
+    if place == 0 {
+        return Some(*pattern);
+    }
+    pattern_at(rest, place - 1)
 }
 
 /// Returns the narrowing that restricts no position.
@@ -85,6 +85,32 @@ pub fn narrowed(
         more[place] = Some(item);
     }
     more
+}
+
+/// Returns whether a certificate is valid for the subject under a narrowing.
+#[cycle(certs)]
+#[tactic(auto, using(crate::proofs::Rows::covers_row))]
+pub fn covers_under(
+    subject: &Subject,
+    narrowing: &[Option<Item>; CONTEXT_ITEMS],
+    cert: &Cert,
+) -> bool
+    requires { length subject.now.rule.now.context ≤ CONTEXT_ITEMS }
+    ensures { result ≡ covers_under subject.now.tables.now subject.now.group.now subject.now.number subject.now.rule.now narrowing.now cert.now }
+{
+    match cert {
+        Cert::By { rule } => covers_by(subject, narrowing, *rule),
+        Cert::Split { place, parts } => match split_store(subject, narrowing, *place) {
+            Some(store) => covers_parts(
+                subject,
+                narrowing,
+                *place,
+                subject.tables.elements(store),
+                parts.as_slice(),
+            ),
+            None => false,
+        },
+    }
 }
 
 /// Returns whether record `by` is earlier than the subject and covers it under a narrowing.
@@ -137,30 +163,4 @@ fn covers_parts(
         }
     }
     next == parts.len()
-}
-
-/// Returns whether a certificate is valid for the subject under a narrowing.
-#[cycle(certs)]
-#[tactic(auto, using(crate::proofs::Rows::covers_row))]
-pub fn covers_under(
-    subject: &Subject,
-    narrowing: &[Option<Item>; CONTEXT_ITEMS],
-    cert: &Cert,
-) -> bool
-    requires { length subject.now.rule.now.context ≤ CONTEXT_ITEMS }
-    ensures { result ≡ covers_under subject.now.tables.now subject.now.group.now subject.now.number subject.now.rule.now narrowing.now cert.now }
-{
-    match cert {
-        Cert::By { rule } => covers_by(subject, narrowing, *rule),
-        Cert::Split { place, parts } => match split_store(subject, narrowing, *place) {
-            Some(store) => covers_parts(
-                subject,
-                narrowing,
-                *place,
-                subject.tables.elements(store),
-                parts.as_slice(),
-            ),
-            None => false,
-        },
-    }
 }

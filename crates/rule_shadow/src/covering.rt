@@ -12,6 +12,35 @@ use crate::key_cover::covers_key;
 use kmn_base::{Element, Item};
 use rule_model::{Pat, Rule, is_item, item_of};
 
+/// Returns whether a pattern covers a position: it is the same `any` or `notany`, or it matches each item of the range.
+pub fn covers_place(tables: &FlaggedTables, pattern: Pat, place: Place) -> bool
+    ensures { result ≡ covers_place tables.now pattern place }
+{
+    same_store(pattern, place.pattern) || covers_range(tables, pattern, place.range)
+}
+
+/// Returns whether two patterns are both `any` or both `notany` of one store.
+fn same_store(a: Pat, b: Pat) -> bool
+    ensures { result ≡ same_store a b }
+{
+    match a {
+        Pat::Any(store) => b == Pat::Any(store),
+        Pat::NotAny(store) => b == Pat::NotAny(store),
+        _ => false,
+    }
+}
+
+/// Returns whether a pattern matches each item of a range.
+fn covers_range(tables: &FlaggedTables, pattern: Pat, range: Range) -> bool
+    ensures { result ≡ covers_range tables.now pattern range }
+{
+    match range {
+        Range::One(item) => covers_item(tables, pattern, item),
+        Range::Store(store) => covers_items(tables, pattern, tables.elements(store)),
+        Range::Unknown => false,
+    }
+}
+
 /// Returns whether a pattern matches an item in every state.
 fn covers_item(tables: &FlaggedTables, pattern: Pat, item: Item) -> bool
     ensures { result ≡ covers_item tables.now pattern item }
@@ -39,51 +68,6 @@ fn covers_items(tables: &FlaggedTables, pattern: Pat, elements: &[Element]) -> b
     true
 }
 
-/// Returns whether a pattern matches each item of a range.
-fn covers_range(tables: &FlaggedTables, pattern: Pat, range: Range) -> bool
-    ensures { result ≡ covers_range tables.now pattern range }
-{
-    match range {
-        Range::One(item) => covers_item(tables, pattern, item),
-        Range::Store(store) => covers_items(tables, pattern, tables.elements(store)),
-        Range::Unknown => false,
-    }
-}
-
-/// Returns whether two patterns are both `any` or both `notany` of one store.
-fn same_store(a: Pat, b: Pat) -> bool
-    ensures { result ≡ same_store a b }
-{
-    match a {
-        Pat::Any(store) => b == Pat::Any(store),
-        Pat::NotAny(store) => b == Pat::NotAny(store),
-        _ => false,
-    }
-}
-
-/// Returns whether a pattern covers a position: it is the same `any` or `notany`, or it matches each item of the range.
-pub fn covers_place(tables: &FlaggedTables, pattern: Pat, place: Place) -> bool
-    ensures { result ≡ covers_place tables.now pattern place }
-{
-    same_store(pattern, place.pattern) || covers_range(tables, pattern, place.range)
-}
-
-/// Returns whether each pattern of a context covers the position with its number.
-fn cover_each(tables: &FlaggedTables, context: &[Pat], places: &[Place]) -> bool
-    ensures { result ≡ cover_each tables.now (patterns_of context.now) places.now }
-{
-    let [pattern, rest @ ..] = context else {
-        return true;
-    };
-    if !pattern.is_matched() {
-        return cover_each(tables, rest, places);
-    }
-    let [place, behind @ ..] = places else {
-        return false;
-    };
-    covers_place(tables, *pattern, *place) && cover_each(tables, rest, behind)
-}
-
 /// Returns the number of patterns of a context.
 pub fn pattern_count(context: &[Pat]) -> usize
     ensures { result ≡ length (patterns_of context.now) }
@@ -103,6 +87,57 @@ pub fn cover_last(tables: &FlaggedTables, context: &[Pat], places: &[Place]) -> 
         return false;
     }
     cover_each(tables, context, &places[places.len() - count..])
+}
+
+/// Returns whether each pattern of a context covers the position with its number.
+fn cover_each(tables: &FlaggedTables, context: &[Pat], places: &[Place]) -> bool
+    ensures { result ≡ cover_each tables.now (patterns_of context.now) places.now }
+{
+    let [pattern, rest @ ..] = context else {
+        return true;
+    };
+    if !pattern.is_matched() {
+        return cover_each(tables, rest, places);
+    }
+    let [place, behind @ ..] = places else {
+        return false;
+    };
+    covers_place(tables, *pattern, *place) && cover_each(tables, rest, behind)
+}
+
+/// Returns whether a context has each condition of another context, `items`.
+pub fn conditions_too(tables: &FlaggedTables, context: &[Pat], items: &[Pat]) -> bool
+    ensures { result ≡ list_all (is_condition_of tables.now context.now) items.now }
+{
+    for item in items {
+        if !is_condition_of(tables, context, *item) {
+            return false;
+        }
+    }
+    true
+}
+
+/// Returns whether an item is not a condition, or a context has the same condition.
+fn is_condition_of(tables: &FlaggedTables, context: &[Pat], item: Pat) -> bool
+    ensures { result ≡ is_condition_of tables.now context.now item }
+{
+    match item {
+        Pat::Equal(..) | Pat::Unequal(..) | Pat::SystemEqual(..) | Pat::SystemUnequal(..) =>
+            has_condition(tables, item, context),
+        _ => true,
+    }
+}
+
+/// Returns whether a context has a condition.
+fn has_condition(tables: &FlaggedTables, condition: Pat, context: &[Pat]) -> bool
+    ensures { result ≡ list_any (same_condition tables.now condition) context.now }
+{
+    for item in context {
+        if same_condition(tables, condition, *item) {
+            return true;
+        }
+    }
+    false
 }
 
 /// Returns whether two conditions are the same: one option or system id, one comparison, and equal values.
@@ -128,39 +163,11 @@ fn same_value(value: &[Element], other: &[Element]) -> bool
     value == other
 }
 
-/// Returns whether a context has a condition.
-fn has_condition(tables: &FlaggedTables, condition: Pat, context: &[Pat]) -> bool
-    ensures { result ≡ list_any (same_condition tables.now condition) context.now }
+/// Returns whether context `a` has no `nul`, or context `b` has one too and as many patterns as `a`.
+pub fn keeps_nul(a: &[Pat], b: &[Pat]) -> bool
+    ensures { result ≡ keeps_nul a.now b.now }
 {
-    for item in context {
-        if same_condition(tables, condition, *item) {
-            return true;
-        }
-    }
-    false
-}
-
-/// Returns whether an item is not a condition, or a context has the same condition.
-fn is_condition_of(tables: &FlaggedTables, context: &[Pat], item: Pat) -> bool
-    ensures { result ≡ is_condition_of tables.now context.now item }
-{
-    match item {
-        Pat::Equal(..) | Pat::Unequal(..) | Pat::SystemEqual(..) | Pat::SystemUnequal(..) =>
-            has_condition(tables, item, context),
-        _ => true,
-    }
-}
-
-/// Returns whether a context has each condition of another context, `items`.
-pub fn conditions_too(tables: &FlaggedTables, context: &[Pat], items: &[Pat]) -> bool
-    ensures { result ≡ list_all (is_condition_of tables.now context.now) items.now }
-{
-    for item in items {
-        if !is_condition_of(tables, context, *item) {
-            return false;
-        }
-    }
-    true
+    !has_nul(a) || (has_nul(b) && pattern_count(a) == pattern_count(b))
 }
 
 /// Returns whether a context has a `nul`.
@@ -173,13 +180,6 @@ fn has_nul(context: &[Pat]) -> bool
         }
     }
     false
-}
-
-/// Returns whether context `a` has no `nul`, or context `b` has one too and as many patterns as `a`.
-pub fn keeps_nul(a: &[Pat], b: &[Pat]) -> bool
-    ensures { result ≡ keeps_nul a.now b.now }
-{
-    !has_nul(a) || (has_nul(b) && pattern_count(a) == pattern_count(b))
 }
 
 /// Returns whether record `q` covers record `r`, whose positions have these ranges: `q` holds whenever `r` holds.

@@ -17,48 +17,34 @@ use rule_model::Tables;
 use std::alloc::Global;
 use std::marker::Model;
 
-/// Returns whether a certificate is valid for a record. If no record has these numbers, returns `false`.
-#[tactic(auto, using(crate::proofs::Sound::context_fits))]
-fn covers_in(tables: &FlaggedTables, group: u32, rule: u32, cert: &Cert) -> bool
+/// Returns a certificate for record `rule` of group `group`, or `None` if nothing is found. `covers` accepts it for the same
+/// tables and numbers.
+///
+/// Errors: `Memory` if an allocation fails.
+pub fn find(alloc: Global, tables: &Tables, group: u32, rule: u32) -> Result<Option<Cert>, Memory>
+    requires { IsWritable tables.now }
+    ensures says { IfOk result (Says (found tables.now group rule)) }
+    ensures right { IfOk result (λ found. IfSome found (λ cert. covers tables.now group rule cert ≡ true)) }
+{
+    let finder = Finder::new(alloc, tables)?;
+    finder.find(alloc, group, rule)
+}
+
+/// Returns whether a certificate is valid for record `rule` of group `group`. Does not rely on the code that made the
+/// certificate, and does not allocate. If no record has these numbers, returns `false`.
+#[tactic(auto, using(crate::proofs::Flags::marked_tell))]
+pub fn covers(tables: &Tables, group: u32, rule: u32, cert: &Cert) -> bool
     requires { IsWritable tables.now }
     ensures { result ≡ covers tables.now group rule cert.now }
 {
-    let number = rule;
-    let Some(group) = tables.group(group) else {
-        return false;
-    };
-    let Some(rule) = group.rules.as_slice().get(number as usize) else {
-        return false;
-    };
-    let subject = Subject {
-        tables,
+    let mut flags = [false; STORES];
+    mark_options(&mut flags, tables);
+    covers_in(
+        &FlaggedTables::without_sets(tables, &flags),
         group,
-        number,
         rule,
-    };
-    covers_under(&subject, &nothing_narrowed(), cert)
-}
-
-/// Returns what covers a record. If no record has these numbers, returns `NotFound`.
-#[tactic(auto, using(crate::proofs::Sound::context_fits))]
-fn found_in(alloc: Global, tables: &FlaggedTables, group: u32, rule: u32) -> Result<Found, Memory>
-    requires { IsWritable tables.now }
-    ensures { IfOk result (λ f. f ≡ found tables.now group rule) }
-{
-    let number = rule;
-    let Some(group) = tables.group(group) else {
-        return Ok(Found::NotFound);
-    };
-    let Some(rule) = group.rules.as_slice().get(number as usize) else {
-        return Ok(Found::NotFound);
-    };
-    let subject = Subject {
-        tables,
-        group,
-        number,
-        rule,
-    };
-    found_for(alloc, &subject)
+        cert,
+    )
 }
 
 /// Tables with the indexes that each search uses: option flags and item sets. Contracts see the tables.
@@ -140,32 +126,46 @@ impl<'a> Finder<'a> {
     }
 }
 
-/// Returns a certificate for record `rule` of group `group`, or `None` if nothing is found. `covers` accepts it for the same
-/// tables and numbers.
-///
-/// Errors: `Memory` if an allocation fails.
-pub fn find(alloc: Global, tables: &Tables, group: u32, rule: u32) -> Result<Option<Cert>, Memory>
-    requires { IsWritable tables.now }
-    ensures says { IfOk result (Says (found tables.now group rule)) }
-    ensures right { IfOk result (λ found. IfSome found (λ cert. covers tables.now group rule cert ≡ true)) }
-{
-    let finder = Finder::new(alloc, tables)?;
-    finder.find(alloc, group, rule)
-}
-
-/// Returns whether a certificate is valid for record `rule` of group `group`. Does not rely on the code that made the
-/// certificate, and does not allocate. If no record has these numbers, returns `false`.
-#[tactic(auto, using(crate::proofs::Flags::marked_tell))]
-pub fn covers(tables: &Tables, group: u32, rule: u32, cert: &Cert) -> bool
+/// Returns whether a certificate is valid for a record. If no record has these numbers, returns `false`.
+#[tactic(auto, using(crate::proofs::Sound::context_fits))]
+fn covers_in(tables: &FlaggedTables, group: u32, rule: u32, cert: &Cert) -> bool
     requires { IsWritable tables.now }
     ensures { result ≡ covers tables.now group rule cert.now }
 {
-    let mut flags = [false; STORES];
-    mark_options(&mut flags, tables);
-    covers_in(
-        &FlaggedTables::without_sets(tables, &flags),
+    let number = rule;
+    let Some(group) = tables.group(group) else {
+        return false;
+    };
+    let Some(rule) = group.rules.as_slice().get(number as usize) else {
+        return false;
+    };
+    let subject = Subject {
+        tables,
         group,
+        number,
         rule,
-        cert,
-    )
+    };
+    covers_under(&subject, &nothing_narrowed(), cert)
+}
+
+/// Returns what covers a record. If no record has these numbers, returns `NotFound`.
+#[tactic(auto, using(crate::proofs::Sound::context_fits))]
+fn found_in(alloc: Global, tables: &FlaggedTables, group: u32, rule: u32) -> Result<Found, Memory>
+    requires { IsWritable tables.now }
+    ensures { IfOk result (λ f. f ≡ found tables.now group rule) }
+{
+    let number = rule;
+    let Some(group) = tables.group(group) else {
+        return Ok(Found::NotFound);
+    };
+    let Some(rule) = group.rules.as_slice().get(number as usize) else {
+        return Ok(Found::NotFound);
+    };
+    let subject = Subject {
+        tables,
+        group,
+        number,
+        rule,
+    };
+    found_for(alloc, &subject)
 }

@@ -51,19 +51,31 @@ struct Search<'a> {
     near: &'a [Near],
 }
 
-/// Returns whether record `q` covers the subject, whose positions have these ranges. The keys are compared first, since most
-/// records fail at the first press.
-#[tactic(auto, using(crate::proofs::Counts::asked_first, crate::proofs::Tried::fitting_tell))]
-fn covers_record(subject: &Subject, presses: &[Pressed], places: &[Place], q: &Rule) -> bool
-    requires { presses.now ≡ fitting_presses subject.now.rule.now.key }
-    ensures { result ≡ covers_rule subject.now.tables.now subject.now.group.now.using_keys places.now q.now subject.now.rule.now }
+/// Returns what covers the subject.
+pub fn found_for(alloc: Global, subject: &Subject) -> Result<Found, Memory>
+    requires { length subject.now.rule.now.context ≤ CONTEXT_ITEMS }
+    ensures { IfOk result (λ found. found ≡ found_for subject.now.tables.now subject.now.group.now subject.now.number subject.now.rule.now) }
 {
-    let of_q = q.context.as_slice();
-    let of_r = subject.rule.context.as_slice();
-    (!subject.group.using_keys || fits_each(q.key, presses))
-        && cover_last(subject.tables, of_q, places)
-        && keeps_nul(of_q, of_r)
-        && conditions_too(subject.tables, of_r, of_q)
+    let presses = fitting_presses(alloc, subject.rule.key)?;
+    let presses = presses.as_slice();
+    match least_by(subject, presses, &nothing_narrowed()) {
+        Some(q) => Ok(Found::ByRule(q)),
+        None => split_for(alloc, subject, presses),
+    }
+}
+
+/// Returns the lowest number of an earlier record that covers the subject under a narrowing.
+fn least_by(
+    subject: &Subject,
+    presses: &[Pressed],
+    narrowing: &[Option<Item>; CONTEXT_ITEMS],
+) -> Option<u32>
+    requires few { length subject.now.rule.now.context ≤ CONTEXT_ITEMS }
+    requires fitting { presses.now ≡ fitting_presses subject.now.rule.now.key }
+    ensures { result ≡ least_by subject.now.tables.now subject.now.group.now subject.now.number subject.now.rule.now narrowing.now }
+{
+    let places = places(subject.tables, narrowing, subject.rule.context.as_slice());
+    first_covering(subject, presses, places.as_slice(), subject.rules_before())
 }
 
 /// Returns the number of the first of some records that covers the subject.
@@ -85,45 +97,51 @@ fn first_covering(
     None
 }
 
-/// Returns the lowest number of an earlier record that covers the subject under a narrowing.
-fn least_by(
-    subject: &Subject,
-    presses: &[Pressed],
-    narrowing: &[Option<Item>; CONTEXT_ITEMS],
-) -> Option<u32>
+/// Returns whether record `q` covers the subject, whose positions have these ranges. The keys are compared first, since most
+/// records fail at the first press.
+#[tactic(auto, using(crate::proofs::Counts::asked_first, crate::proofs::Tried::fitting_tell))]
+fn covers_record(subject: &Subject, presses: &[Pressed], places: &[Place], q: &Rule) -> bool
+    requires { presses.now ≡ fitting_presses subject.now.rule.now.key }
+    ensures { result ≡ covers_rule subject.now.tables.now subject.now.group.now.using_keys places.now q.now subject.now.rule.now }
+{
+    let of_q = q.context.as_slice();
+    let of_r = subject.rule.context.as_slice();
+    (!subject.group.using_keys || fits_each(q.key, presses))
+        && cover_last(subject.tables, of_q, places)
+        && keeps_nul(of_q, of_r)
+        && conditions_too(subject.tables, of_r, of_q)
+}
+
+/// Returns the first position at which the subject splits.
+#[tactic(auto, using(crate::proofs::NearRules::never_split))]
+fn split_for(alloc: Global, subject: &Subject, presses: &[Pressed]) -> Result<Found, Memory>
     requires few { length subject.now.rule.now.context ≤ CONTEXT_ITEMS }
     requires fitting { presses.now ≡ fitting_presses subject.now.rule.now.key }
-    ensures { result ≡ least_by subject.now.tables.now subject.now.group.now subject.now.number subject.now.rule.now narrowing.now }
+    ensures { IfOk result (λ found. found ≡ first_split subject.now.tables.now subject.now.group.now subject.now.number subject.now.rule.now 0 subject.now.rule.now.context) }
 {
-    let places = places(subject.tables, narrowing, subject.rule.context.as_slice());
-    first_covering(subject, presses, places.as_slice(), subject.rules_before())
+    let context = subject.rule.context.as_slice();
+    if !has_any(context) {
+        return Ok(Found::NotFound);
+    }
+    let near = near_before(alloc, subject, presses)?;
+    let search = Search {
+        subject,
+        presses,
+        near: near.as_slice(),
+    };
+    first_split(alloc, &search, 0, context)
 }
 
-/// Returns whether a near record misses at most this position and covers the subject, whose positions have these ranges.
-fn near_covers(search: &Search, place: u32, places: &[Place], near: Near) -> bool
-    requires { search.now.presses.now ≡ fitting_presses search.now.subject.now.rule.now.key }
-    ensures { result ≡ (is_at_most place near.miss && covers_if_any search.now.subject.now.tables.now search.now.subject.now.group.now.using_keys places.now search.now.subject.now.rule.now (slice_get (take search.now.subject.now.number search.now.subject.now.group.now.rules) near.rule)) }
+/// Returns whether a context has an `any`. A record can split only at the position of an `any`.
+fn has_any(context: &[Pat]) -> bool
+    ensures { result ≡ list_any is_any context.now }
 {
-    if !is_at_most(place, near.miss) {
-        return false;
-    }
-    match search.subject.rules_before().get(near.rule as usize) {
-        Some(q) => covers_record(search.subject, search.presses, places, q),
-        None => false,
-    }
-}
-
-/// Returns the first near record that misses at most this position and covers the subject, whose positions have these ranges.
-fn first_near(search: &Search, place: u32, places: &[Place]) -> Option<u32>
-    requires { search.now.presses.now ≡ fitting_presses search.now.subject.now.rule.now.key }
-    ensures { result ≡ first_near (λ n. is_at_most place n.miss && covers_if_any search.now.subject.now.tables.now search.now.subject.now.group.now.using_keys places.now search.now.subject.now.rule.now (slice_get (take search.now.subject.now.number search.now.subject.now.group.now.rules) n.rule)) search.now.near.now }
-{
-    for one in search.near {
-        if near_covers(search, place, places, *one) {
-            return Some(one.rule);
+    for item in context {
+        if matches!(item, Pat::Any(_)) {
+            return true;
         }
     }
-    None
+    false
 }
 
 /// Returns the earlier records that miss at most one position of the subject.
@@ -143,17 +161,40 @@ fn near_before(alloc: Global, subject: &Subject, presses: &[Pressed]) -> Result<
     )
 }
 
-/// Returns the lowest number of an earlier record that covers the subject with a position narrowed to an item.
-fn least_narrowed(search: &Search, place: u32, item: Item) -> Option<u32>
+/// Returns the first position, from one on, at which the subject splits.
+fn first_split(alloc: Global, search: &Search, place: u32, context: &[Pat]) -> Result<Found, Memory>
     requires few { length search.now.subject.now.rule.now.context ≤ CONTEXT_ITEMS }
     requires fitting { search.now.presses.now ≡ fitting_presses search.now.subject.now.rule.now.key }
     requires near { search.now.near.now ≡ near_before search.now.subject.now.tables.now search.now.subject.now.group.now search.now.subject.now.number search.now.subject.now.rule.now }
-    ensures { result ≡ least_by search.now.subject.now.tables.now search.now.subject.now.group.now search.now.subject.now.number search.now.subject.now.rule.now (narrowed nothing_narrowed place item) }
+    requires places { place + length context.now ≤ CONTEXT_ITEMS }
+    ensures { IfOk result (λ found. found ≡ first_split search.now.subject.now.tables.now search.now.subject.now.group.now search.now.subject.now.number search.now.subject.now.rule.now place context.now) }
 {
-    let narrowing = narrowed(&nothing_narrowed(), place, item);
-    let subject = search.subject;
-    let places = places(subject.tables, &narrowing, subject.rule.context.as_slice());
-    first_near(search, place, places.as_slice())
+    let [pattern, rest @ ..] = context else {
+        return Ok(Found::NotFound);
+    };
+    if !pattern.is_matched() {
+        return first_split(alloc, search, place, rest);
+    }
+    match split_rules(alloc, search, place)? {
+        Some(rules) => Ok(Found::SplitAt(place, rules)),
+        None => first_split(alloc, search, place + 1, rest),
+    }
+}
+
+/// Returns the lowest records by which the subject splits at a position, if it does.
+fn split_rules(alloc: Global, search: &Search, place: u32) -> Result<Option<Seq<u32>>, Memory>
+    requires few { length search.now.subject.now.rule.now.context ≤ CONTEXT_ITEMS }
+    requires fitting { search.now.presses.now ≡ fitting_presses search.now.subject.now.rule.now.key }
+    requires near { search.now.near.now ≡ near_before search.now.subject.now.tables.now search.now.subject.now.group.now search.now.subject.now.number search.now.subject.now.rule.now }
+    ensures { IfOk result (λ rules. rules ≡ split_rules search.now.subject.now.tables.now search.now.subject.now.group.now search.now.subject.now.number search.now.subject.now.rule.now place) }
+{
+    match split_store(search.subject, &nothing_narrowed(), place) {
+        Some(store) => {
+            let elements = search.subject.tables.elements(store);
+            least_each(alloc, search, place, elements)
+        }
+        None => Ok(None),
+    }
 }
 
 /// Returns, for each item among these elements, the lowest record that covers the subject with the position narrowed to it, or
@@ -181,96 +222,44 @@ fn least_each(
     Ok(Some(Seq::from_vec(rules)))
 }
 
-/// Returns the lowest records by which the subject splits at a position, if it does.
-fn split_rules(alloc: Global, search: &Search, place: u32) -> Result<Option<Seq<u32>>, Memory>
+/// Returns the lowest number of an earlier record that covers the subject with a position narrowed to an item.
+fn least_narrowed(search: &Search, place: u32, item: Item) -> Option<u32>
     requires few { length search.now.subject.now.rule.now.context ≤ CONTEXT_ITEMS }
     requires fitting { search.now.presses.now ≡ fitting_presses search.now.subject.now.rule.now.key }
     requires near { search.now.near.now ≡ near_before search.now.subject.now.tables.now search.now.subject.now.group.now search.now.subject.now.number search.now.subject.now.rule.now }
-    ensures { IfOk result (λ rules. rules ≡ split_rules search.now.subject.now.tables.now search.now.subject.now.group.now search.now.subject.now.number search.now.subject.now.rule.now place) }
+    ensures { result ≡ least_by search.now.subject.now.tables.now search.now.subject.now.group.now search.now.subject.now.number search.now.subject.now.rule.now (narrowed nothing_narrowed place item) }
 {
-    match split_store(search.subject, &nothing_narrowed(), place) {
-        Some(store) => {
-            let elements = search.subject.tables.elements(store);
-            least_each(alloc, search, place, elements)
-        }
-        None => Ok(None),
-    }
+    let narrowing = narrowed(&nothing_narrowed(), place, item);
+    let subject = search.subject;
+    let places = places(subject.tables, &narrowing, subject.rule.context.as_slice());
+    first_near(search, place, places.as_slice())
 }
 
-/// Returns the first position, from one on, at which the subject splits.
-fn first_split(alloc: Global, search: &Search, place: u32, context: &[Pat]) -> Result<Found, Memory>
-    requires few { length search.now.subject.now.rule.now.context ≤ CONTEXT_ITEMS }
-    requires fitting { search.now.presses.now ≡ fitting_presses search.now.subject.now.rule.now.key }
-    requires near { search.now.near.now ≡ near_before search.now.subject.now.tables.now search.now.subject.now.group.now search.now.subject.now.number search.now.subject.now.rule.now }
-    requires places { place + length context.now ≤ CONTEXT_ITEMS }
-    ensures { IfOk result (λ found. found ≡ first_split search.now.subject.now.tables.now search.now.subject.now.group.now search.now.subject.now.number search.now.subject.now.rule.now place context.now) }
+/// Returns the first near record that misses at most this position and covers the subject, whose positions have these ranges.
+fn first_near(search: &Search, place: u32, places: &[Place]) -> Option<u32>
+    requires { search.now.presses.now ≡ fitting_presses search.now.subject.now.rule.now.key }
+    ensures { result ≡ first_near (λ n. is_at_most place n.miss && covers_if_any search.now.subject.now.tables.now search.now.subject.now.group.now.using_keys places.now search.now.subject.now.rule.now (slice_get (take search.now.subject.now.number search.now.subject.now.group.now.rules) n.rule)) search.now.near.now }
 {
-    let [pattern, rest @ ..] = context else {
-        return Ok(Found::NotFound);
-    };
-    if !pattern.is_matched() {
-        return first_split(alloc, search, place, rest);
-    }
-    match split_rules(alloc, search, place)? {
-        Some(rules) => Ok(Found::SplitAt(place, rules)),
-        None => first_split(alloc, search, place + 1, rest),
-    }
-}
-
-/// Returns whether a context has an `any`. A record can split only at the position of an `any`.
-fn has_any(context: &[Pat]) -> bool
-    ensures { result ≡ list_any is_any context.now }
-{
-    for item in context {
-        if matches!(item, Pat::Any(_)) {
-            return true;
+    for one in search.near {
+        if near_covers(search, place, places, *one) {
+            return Some(one.rule);
         }
     }
-    false
+    None
 }
 
-/// Returns the first position at which the subject splits.
-#[tactic(auto, using(crate::proofs::NearRules::never_split))]
-fn split_for(alloc: Global, subject: &Subject, presses: &[Pressed]) -> Result<Found, Memory>
-    requires few { length subject.now.rule.now.context ≤ CONTEXT_ITEMS }
-    requires fitting { presses.now ≡ fitting_presses subject.now.rule.now.key }
-    ensures { IfOk result (λ found. found ≡ first_split subject.now.tables.now subject.now.group.now subject.now.number subject.now.rule.now 0 subject.now.rule.now.context) }
+/// Returns whether a near record misses at most this position and covers the subject, whose positions have these ranges.
+fn near_covers(search: &Search, place: u32, places: &[Place], near: Near) -> bool
+    requires { search.now.presses.now ≡ fitting_presses search.now.subject.now.rule.now.key }
+    ensures { result ≡ (is_at_most place near.miss && covers_if_any search.now.subject.now.tables.now search.now.subject.now.group.now.using_keys places.now search.now.subject.now.rule.now (slice_get (take search.now.subject.now.number search.now.subject.now.group.now.rules) near.rule)) }
 {
-    let context = subject.rule.context.as_slice();
-    if !has_any(context) {
-        return Ok(Found::NotFound);
+    if !is_at_most(place, near.miss) {
+        return false;
     }
-    let near = near_before(alloc, subject, presses)?;
-    let search = Search {
-        subject,
-        presses,
-        near: near.as_slice(),
-    };
-    first_split(alloc, &search, 0, context)
-}
-
-/// Returns what covers the subject.
-pub fn found_for(alloc: Global, subject: &Subject) -> Result<Found, Memory>
-    requires { length subject.now.rule.now.context ≤ CONTEXT_ITEMS }
-    ensures { IfOk result (λ found. found ≡ found_for subject.now.tables.now subject.now.group.now subject.now.number subject.now.rule.now) }
-{
-    let presses = fitting_presses(alloc, subject.rule.key)?;
-    let presses = presses.as_slice();
-    match least_by(subject, presses, &nothing_narrowed()) {
-        Some(q) => Ok(Found::ByRule(q)),
-        None => split_for(alloc, subject, presses),
+    match search.subject.rules_before().get(near.rule as usize) {
+        Some(q) => covers_record(search.subject, search.presses, places, q),
+        None => false,
     }
-}
-
-/// Returns one part of a certificate for each record.
-fn parts_of(alloc: Global, rules: &[u32]) -> Result<Vec<Cert>, Memory>
-    ensures { IfOk result (λ parts. parts.items ≡ map By rules.now) }
-{
-    let mut parts = Vec::new(alloc);
-    for rule in rules {
-        parts.push(Cert::By { rule: *rule })?;
-    }
-    Ok(parts)
 }
 
 /// Returns the certificate that states what was found.
@@ -285,4 +274,15 @@ pub fn certificate(alloc: Global, found: Found) -> Result<Option<Cert>, Memory>
             Ok(Some(Cert::Split { place, parts }))
         }
     }
+}
+
+/// Returns one part of a certificate for each record.
+fn parts_of(alloc: Global, rules: &[u32]) -> Result<Vec<Cert>, Memory>
+    ensures { IfOk result (λ parts. parts.items ≡ map By rules.now) }
+{
+    let mut parts = Vec::new(alloc);
+    for rule in rules {
+        parts.push(Cert::By { rule: *rule })?;
+    }
+    Ok(parts)
 }

@@ -29,6 +29,49 @@ static HELD_MODIFIERS: [u16; 64] = [
 /// The combinations without control and alt. Only with these does a key produce a character.
 static PLAIN_MODIFIERS: [u16; 4] = [0, CAPS, SHIFT, SHIFT + CAPS];
 
+/// Returns whether key `a` fits each press that key `b` fits.
+pub fn covers_key(a: RuleKey, b: RuleKey) -> bool
+    ensures { result ≡ covers_key a b }
+{
+    match b {
+        RuleKey::Any => fit_for(a, b, all_codes(), all_modifiers()),
+        RuleKey::Char(_) => fit_for(a, b, all_codes(), plain_modifiers()),
+        RuleKey::Virtual { code, .. } => fit_for(a, b, &[code], all_modifiers()),
+    }
+}
+
+/// Returns whether each press of some codes with some modifiers that fits the second key fits the first.
+fn fit_for(a: RuleKey, b: RuleKey, codes: &[u16], modifiers: &[u16]) -> bool
+    ensures { result ≡ list_all (λ code. list_all (λ press. not (key_fits b press) || key_fits a press) (presses_of modifiers.now code)) codes.now }
+{
+    for code in codes {
+        if !fit_with(a, b, *code, modifiers) {
+            return false;
+        }
+    }
+    true
+}
+
+/// Returns whether each press of a code with some modifiers that fits the second key fits the first.
+fn fit_with(a: RuleKey, b: RuleKey, code: u16, modifiers: &[u16]) -> bool
+    ensures { result ≡ list_all (λ press. not (key_fits b press) || key_fits a press) (presses_of modifiers.now code) }
+{
+    for mods in modifiers {
+        if !fits_too(a, b, KeyPress { code, mods: *mods }) {
+            return false;
+        }
+    }
+    true
+}
+
+/// Returns whether a press does not fit the second key or fits the first.
+fn fits_too(a: RuleKey, b: RuleKey, press: KeyPress) -> bool
+    ensures { result ≡ (not (key_fits b press) || key_fits a press) }
+{
+    let pressed = Pressed::of(press);
+    !pressed.fits(b) || pressed.fits(a)
+}
+
 /// Returns the codes of the keys that have a name.
 #[tactic(auto, unfolding(crate::specs::Keys::all_codes, virtual_keys::specs::Keys::key_codes))]
 fn all_codes() -> &'static [u16]
@@ -53,65 +96,15 @@ fn plain_modifiers() -> &'static [u16]
     &PLAIN_MODIFIERS
 }
 
-/// Returns whether a press does not fit the second key or fits the first.
-fn fits_too(a: RuleKey, b: RuleKey, press: KeyPress) -> bool
-    ensures { result ≡ (not (key_fits b press) || key_fits a press) }
+/// Returns the presses to test that fit a key. If another key fits these, it fits every press that this key fits.
+pub fn fitting_presses(alloc: Global, key: RuleKey) -> Result<Vec<Pressed>, Memory>
+    ensures { IfOk result (λ presses. presses.items ≡ fitting_presses key) }
 {
-    let pressed = Pressed::of(press);
-    !pressed.fits(b) || pressed.fits(a)
-}
-
-/// Returns whether each press of a code with some modifiers that fits the second key fits the first.
-fn fit_with(a: RuleKey, b: RuleKey, code: u16, modifiers: &[u16]) -> bool
-    ensures { result ≡ list_all (λ press. not (key_fits b press) || key_fits a press) (presses_of modifiers.now code) }
-{
-    for mods in modifiers {
-        if !fits_too(a, b, KeyPress { code, mods: *mods }) {
-            return false;
-        }
+    match key {
+        RuleKey::Any => fitting(alloc, key, all_codes(), all_modifiers()),
+        RuleKey::Char(_) => fitting(alloc, key, all_codes(), plain_modifiers()),
+        RuleKey::Virtual { code, .. } => fitting(alloc, key, &[code], all_modifiers()),
     }
-    true
-}
-
-/// Returns whether each press of some codes with some modifiers that fits the second key fits the first.
-fn fit_for(a: RuleKey, b: RuleKey, codes: &[u16], modifiers: &[u16]) -> bool
-    ensures { result ≡ list_all (λ code. list_all (λ press. not (key_fits b press) || key_fits a press) (presses_of modifiers.now code)) codes.now }
-{
-    for code in codes {
-        if !fit_with(a, b, *code, modifiers) {
-            return false;
-        }
-    }
-    true
-}
-
-/// Returns whether key `a` fits each press that key `b` fits.
-pub fn covers_key(a: RuleKey, b: RuleKey) -> bool
-    ensures { result ≡ covers_key a b }
-{
-    match b {
-        RuleKey::Any => fit_for(a, b, all_codes(), all_modifiers()),
-        RuleKey::Char(_) => fit_for(a, b, all_codes(), plain_modifiers()),
-        RuleKey::Virtual { code, .. } => fit_for(a, b, &[code], all_modifiers()),
-    }
-}
-
-/// Adds the presses of a code with some modifiers that fit a key.
-fn add_fitting(
-    presses: &mut Vec<Pressed>,
-    key: RuleKey,
-    code: u16,
-    modifiers: &[u16],
-) -> Result<(), Memory>
-    ensures { OnOk result (presses.new.items ≡ presses.old.items ++ filter (key_fits key) (presses_of modifiers.now code)) }
-{
-    for mods in modifiers {
-        let pressed = Pressed::of(KeyPress { code, mods: *mods });
-        if pressed.fits(key) {
-            presses.push(pressed)?;
-        }
-    }
-    Ok(())
 }
 
 /// Returns the presses of some codes with some modifiers that fit a key.
@@ -130,15 +123,22 @@ fn fitting(
     Ok(presses)
 }
 
-/// Returns the presses to test that fit a key. If another key fits these, it fits every press that this key fits.
-pub fn fitting_presses(alloc: Global, key: RuleKey) -> Result<Vec<Pressed>, Memory>
-    ensures { IfOk result (λ presses. presses.items ≡ fitting_presses key) }
+/// Adds the presses of a code with some modifiers that fit a key.
+fn add_fitting(
+    presses: &mut Vec<Pressed>,
+    key: RuleKey,
+    code: u16,
+    modifiers: &[u16],
+) -> Result<(), Memory>
+    ensures { OnOk result (presses.new.items ≡ presses.old.items ++ filter (key_fits key) (presses_of modifiers.now code)) }
 {
-    match key {
-        RuleKey::Any => fitting(alloc, key, all_codes(), all_modifiers()),
-        RuleKey::Char(_) => fitting(alloc, key, all_codes(), plain_modifiers()),
-        RuleKey::Virtual { code, .. } => fitting(alloc, key, &[code], all_modifiers()),
+    for mods in modifiers {
+        let pressed = Pressed::of(KeyPress { code, mods: *mods });
+        if pressed.fits(key) {
+            presses.push(pressed)?;
+        }
     }
+    Ok(())
 }
 
 /// Returns whether a key fits each of some presses.

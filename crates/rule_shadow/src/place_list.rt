@@ -13,58 +13,19 @@ use kmn_base::limits::CONTEXT_ITEMS;
 use kmn_base::slices::behind;
 use rule_model::Pat;
 
-/// Returns the range of the items of a store, which is unknown if the store is an option.
-fn store_range(tables: &FlaggedTables, store: u32) -> Range
-    ensures { result ≡ store_range tables.now store }
+/// Returns the positions of a context. Some of them may be narrowed.
+pub fn places(
+    tables: &FlaggedTables,
+    narrowing: &[Option<Item>],
+    context: &[Pat],
+) -> ArrayVec<Place, CONTEXT_ITEMS>
+    requires { length context.now ≤ CONTEXT_ITEMS }
+    ensures { result.items ≡ places_from tables.now narrowing.now [] context.now }
 {
-    if tables.is_fixed(store) {
-        Range::Store(store)
-    } else {
-        Range::Unknown
-    }
-}
-
-/// Returns the range of an earlier context item. Offsets count from 1.
-fn range_at(seen: &[Range], offset: u32) -> Range
-    ensures { result ≡ range_at seen.now offset }
-{
-    match (offset as usize).checked_sub(1) {
-        Some(before) => seen.get(before).copied().unwrap_or(Range::Unknown),
-        None => Range::Unknown,
-    }
-}
-
-/// Returns the range that a pattern states, given the ranges of the items before it.
-fn stated_range(tables: &FlaggedTables, seen: &[Range], pattern: Pat) -> Range
-    ensures { result ≡ stated_range tables.now seen.now pattern }
-{
-    match pattern {
-        Pat::Char(c) => Range::One(Item::Char(c)),
-        Pat::Mark(m) => Range::One(Item::Mark(m)),
-        Pat::Any(store) | Pat::Index(store, _) => store_range(tables, store),
-        Pat::ContextAt(offset) => range_at(seen, offset),
-        _ => Range::Unknown,
-    }
-}
-
-/// Returns the range of a pattern: the item to which its position is narrowed, if any, or the range that the pattern states.
-fn range_of(tables: &FlaggedTables, seen: &[Range], given: Option<Item>, pattern: Pat) -> Range
-    ensures { result ≡ range_of tables.now seen.now given pattern }
-{
-    match given {
-        Some(item) => Range::One(item),
-        None => stated_range(tables, seen, pattern),
-    }
-}
-
-/// Returns the item to which the first position is narrowed, if any.
-fn first_given(narrowing: &[Option<Item>]) -> Option<Item>
-    ensures { result ≡ first_given narrowing.now }
-{
-    match narrowing {
-        [] => None,
-        [given, ..] => *given,
-    }
+    let mut places = ArrayVec::new();
+    let mut seen = ArrayVec::new();
+    add_places(tables, narrowing, context, &mut seen, &mut places);
+    places
 }
 
 /// Appends the positions of a context, given the ranges of the items before it.
@@ -96,17 +57,56 @@ fn add_places(
     add_places(tables, behind(narrowing, 1), rest, seen, places);
 }
 
-/// Returns the positions of a context. Some of them may be narrowed.
-pub fn places(
-    tables: &FlaggedTables,
-    narrowing: &[Option<Item>],
-    context: &[Pat],
-) -> ArrayVec<Place, CONTEXT_ITEMS>
-    requires { length context.now ≤ CONTEXT_ITEMS }
-    ensures { result.items ≡ places_from tables.now narrowing.now [] context.now }
+/// Returns the range of a pattern: the item to which its position is narrowed, if any, or the range that the pattern states.
+fn range_of(tables: &FlaggedTables, seen: &[Range], given: Option<Item>, pattern: Pat) -> Range
+    ensures { result ≡ range_of tables.now seen.now given pattern }
 {
-    let mut places = ArrayVec::new();
-    let mut seen = ArrayVec::new();
-    add_places(tables, narrowing, context, &mut seen, &mut places);
-    places
+    match given {
+        Some(item) => Range::One(item),
+        None => stated_range(tables, seen, pattern),
+    }
+}
+
+/// Returns the range that a pattern states, given the ranges of the items before it.
+fn stated_range(tables: &FlaggedTables, seen: &[Range], pattern: Pat) -> Range
+    ensures { result ≡ stated_range tables.now seen.now pattern }
+{
+    match pattern {
+        Pat::Char(c) => Range::One(Item::Char(c)),
+        Pat::Mark(m) => Range::One(Item::Mark(m)),
+        Pat::Any(store) | Pat::Index(store, _) => store_range(tables, store),
+        Pat::ContextAt(offset) => range_at(seen, offset),
+        _ => Range::Unknown,
+    }
+}
+
+/// Returns the range of the items of a store, which is unknown if the store is an option.
+fn store_range(tables: &FlaggedTables, store: u32) -> Range
+    ensures { result ≡ store_range tables.now store }
+{
+    if tables.is_fixed(store) {
+        Range::Store(store)
+    } else {
+        Range::Unknown
+    }
+}
+
+/// Returns the range of an earlier context item. Offsets count from 1.
+fn range_at(seen: &[Range], offset: u32) -> Range
+    ensures { result ≡ range_at seen.now offset }
+{
+    match (offset as usize).checked_sub(1) {
+        Some(before) => seen.get(before).copied().unwrap_or(Range::Unknown),
+        None => Range::Unknown,
+    }
+}
+
+/// Returns the item to which the first position is narrowed, if any.
+fn first_given(narrowing: &[Option<Item>]) -> Option<Item>
+    ensures { result ≡ first_given narrowing.now }
+{
+    match narrowing {
+        [] => None,
+        [given, ..] => *given,
+    }
 }

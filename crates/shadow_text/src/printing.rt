@@ -37,6 +37,19 @@ fn rule_lines(alloc: Global, all: &[Verdict]) -> Result<Seq<u32>, Memory>
     rising_lines(alloc, lines.as_slice())
 }
 
+/// Returns the lines that have something found for each of their records.
+fn dead_among(alloc: Global, all: &[Verdict], lines: &[u32]) -> Result<Vec<u32>, Memory>
+    ensures { IfOk result (λ dead. dead.items ≡ filter (is_dead all.now) lines.now) }
+{
+    let mut dead = Vec::new(alloc);
+    for line in lines {
+        if is_dead(all, *line) {
+            dead.push(*line)?;
+        }
+    }
+    Ok(dead)
+}
+
 /// Returns whether something was found for each record of a line.
 fn is_dead(all: &[Verdict], line: u32) -> bool
     ensures { result ≡ is_dead all.now line }
@@ -49,17 +62,25 @@ fn is_dead(all: &[Verdict], line: u32) -> bool
     true
 }
 
-/// Returns the lines that have something found for each of their records.
-fn dead_among(alloc: Global, all: &[Verdict], lines: &[u32]) -> Result<Vec<u32>, Memory>
-    ensures { IfOk result (λ dead. dead.items ≡ filter (is_dead all.now) lines.now) }
+/// Appends a line for each dead rule.
+fn put_dead(alloc: Global, text: &mut String, all: &[Verdict], dead: &[u32]) -> Result<(), Memory>
+    ensures { IfOk result (λ _. string_bytes text.new ≡ string_bytes text.old ++ flat_map (dead_line all.now) dead.now) }
 {
-    let mut dead = Vec::new(alloc);
-    for line in lines {
-        if is_dead(all, *line) {
-            dead.push(*line)?;
-        }
+    for line in dead {
+        put_dead_line(alloc, text, all, *line)?;
     }
-    Ok(dead)
+    Ok(())
+}
+
+/// Appends the line of a dead rule.
+fn put_dead_line(alloc: Global, text: &mut String, all: &[Verdict], line: u32) -> Result<(), Memory>
+    ensures { IfOk result (λ _. string_bytes text.new ≡ string_bytes text.old ++ dead_line all.now line) }
+{
+    let before = lines_before(alloc, all, line)?;
+    write!(text, "dead {line} by ")?;
+    put_numbers(text, before.as_slice())?;
+    text.push_str("\n")?;
+    Ok(())
 }
 
 /// Returns the lines of the records found for the records of a line, each once, in increasing order.
@@ -83,27 +104,6 @@ fn put_lines(lines: &mut Vec<u32>, verdict: &Verdict) -> Result<(), AllocError>
         Some(by) => lines.extend_from_slice(by.as_slice()),
         None => Ok(()),
     }
-}
-
-/// Appends a line for each dead rule.
-fn put_dead(alloc: Global, text: &mut String, all: &[Verdict], dead: &[u32]) -> Result<(), Memory>
-    ensures { IfOk result (λ _. string_bytes text.new ≡ string_bytes text.old ++ flat_map (dead_line all.now) dead.now) }
-{
-    for line in dead {
-        put_dead_line(alloc, text, all, *line)?;
-    }
-    Ok(())
-}
-
-/// Appends the line of a dead rule.
-fn put_dead_line(alloc: Global, text: &mut String, all: &[Verdict], line: u32) -> Result<(), Memory>
-    ensures { IfOk result (λ _. string_bytes text.new ≡ string_bytes text.old ++ dead_line all.now line) }
-{
-    let before = lines_before(alloc, all, line)?;
-    write!(text, "dead {line} by ")?;
-    put_numbers(text, before.as_slice())?;
-    text.push_str("\n")?;
-    Ok(())
 }
 
 /// Appends the last line: the number of rules, and the number of dead rules.

@@ -18,32 +18,53 @@ pub(crate) struct Verdict {
     pub by: Option<Seq<u32>>,
 }
 
-/// Returns the line of the record of a number.
-fn line_at(rules: &[Rule], number: u32) -> Option<u32>
-    ensures { result ≡ line_at rules.now number }
+/// Returns what is found for each record, group by group.
+#[tactic(auto, using(crate::proofs::Groups::few_in_group), unfolding(crate::specs::Verdicts::verdicts))]
+pub(crate) fn verdicts(alloc: Global, tables: &Tables) -> Result<Vec<Verdict>, Memory>
+    requires { IsWritable tables.now }
+    ensures { IfOk result (λ all. all.items ≡ verdicts tables.now) }
 {
-    rules.get(number as usize).map(|rule| rule.line)
-}
-
-/// Returns the lines of the records of some numbers.
-fn lines_at(alloc: Global, rules: &[Rule], numbers: &[u32]) -> Result<Vec<u32>, Memory>
-    ensures { IfOk result (λ lines. lines.items ≡ filter_map (line_at rules.now) numbers.now) }
-{
-    let mut lines = Vec::new(alloc);
-    for number in numbers {
-        if let Some(line) = line_at(rules, *number) {
-            lines.push(line)?;
-        }
+    let finder = Finder::new(alloc, tables)?;
+    let groups = tables.groups.as_slice();
+    let mut all = Vec::new(alloc);
+    for group in 0..groups.len() {
+        let search = GroupSearch {
+            finder: &finder,
+            group: group as u32,
+            rules: groups[group].rules.as_slice(),
+        };
+        put_group(alloc, &search, &mut all)?;
     }
-    Ok(lines)
+    Ok(all)
 }
 
-/// Returns the lines of the records of some numbers, each once, in increasing order.
-fn lines_of(alloc: Global, rules: &[Rule], numbers: &[u32]) -> Result<Seq<u32>, Memory>
-    ensures { IfOk result (λ lines. lines ≡ rising (filter_map (line_at rules.now) numbers.now)) }
+/// Appends what is found for each record of a group.
+fn put_group(alloc: Global, search: &GroupSearch, verdicts: &mut Vec<Verdict>) -> Result<(), Memory>
+    requires { length search.now.rules.now ≤ RECORDS }
+    ensures { OnOk result (verdicts.new.items ≡ verdicts.old.items ++ group_verdicts search.now.finder.now search.now.group search.now.rules.now) }
 {
-    let lines = lines_at(alloc, rules, numbers)?;
-    rising_lines(alloc, lines.as_slice())
+    for number in 0..search.rules.len() {
+        let verdict = verdict_of(alloc, search, number as u32, &search.rules[number])?;
+        verdicts.push(verdict)?;
+    }
+    Ok(())
+}
+
+/// Returns what is found for a record, which has this number in the group.
+fn verdict_of(
+    alloc: Global,
+    search: &GroupSearch,
+    number: u32,
+    rule: &Rule,
+) -> Result<Verdict, Memory>
+    ensures { IfOk result (λ verdict. verdict ≡ verdict_of search.now.finder.now search.now.group search.now.rules.now number rule.now) }
+{
+    let found = search.finder.found(alloc, search.group, number)?;
+    let by = found_lines(alloc, search.rules, found)?;
+    Ok(Verdict {
+        line: rule.line,
+        by,
+    })
 }
 
 /// Returns the lines of the found records, or `None` if nothing was found.
@@ -71,51 +92,30 @@ struct GroupSearch<'a> {
     rules: &'a [Rule],
 }
 
-/// Returns what is found for a record, which has this number in the group.
-fn verdict_of(
-    alloc: Global,
-    search: &GroupSearch,
-    number: u32,
-    rule: &Rule,
-) -> Result<Verdict, Memory>
-    ensures { IfOk result (λ verdict. verdict ≡ verdict_of search.now.finder.now search.now.group search.now.rules.now number rule.now) }
+/// Returns the lines of the records of some numbers, each once, in increasing order.
+fn lines_of(alloc: Global, rules: &[Rule], numbers: &[u32]) -> Result<Seq<u32>, Memory>
+    ensures { IfOk result (λ lines. lines ≡ rising (filter_map (line_at rules.now) numbers.now)) }
 {
-    let found = search.finder.found(alloc, search.group, number)?;
-    let by = found_lines(alloc, search.rules, found)?;
-    Ok(Verdict {
-        line: rule.line,
-        by,
-    })
+    let lines = lines_at(alloc, rules, numbers)?;
+    rising_lines(alloc, lines.as_slice())
 }
 
-/// Appends what is found for each record of a group.
-fn put_group(alloc: Global, search: &GroupSearch, verdicts: &mut Vec<Verdict>) -> Result<(), Memory>
-    requires { length search.now.rules.now ≤ RECORDS }
-    ensures { OnOk result (verdicts.new.items ≡ verdicts.old.items ++ group_verdicts search.now.finder.now search.now.group search.now.rules.now) }
+/// Returns the lines of the records of some numbers.
+fn lines_at(alloc: Global, rules: &[Rule], numbers: &[u32]) -> Result<Vec<u32>, Memory>
+    ensures { IfOk result (λ lines. lines.items ≡ filter_map (line_at rules.now) numbers.now) }
 {
-    for number in 0..search.rules.len() {
-        let verdict = verdict_of(alloc, search, number as u32, &search.rules[number])?;
-        verdicts.push(verdict)?;
+    let mut lines = Vec::new(alloc);
+    for number in numbers {
+        if let Some(line) = line_at(rules, *number) {
+            lines.push(line)?;
+        }
     }
-    Ok(())
+    Ok(lines)
 }
 
-/// Returns what is found for each record, group by group.
-#[tactic(auto, using(crate::proofs::Groups::few_in_group), unfolding(crate::specs::Verdicts::verdicts))]
-pub(crate) fn verdicts(alloc: Global, tables: &Tables) -> Result<Vec<Verdict>, Memory>
-    requires { IsWritable tables.now }
-    ensures { IfOk result (λ all. all.items ≡ verdicts tables.now) }
+/// Returns the line of the record of a number.
+fn line_at(rules: &[Rule], number: u32) -> Option<u32>
+    ensures { result ≡ line_at rules.now number }
 {
-    let finder = Finder::new(alloc, tables)?;
-    let groups = tables.groups.as_slice();
-    let mut all = Vec::new(alloc);
-    for group in 0..groups.len() {
-        let search = GroupSearch {
-            finder: &finder,
-            group: group as u32,
-            rules: groups[group].rules.as_slice(),
-        };
-        put_group(alloc, &search, &mut all)?;
-    }
-    Ok(all)
+    rules.get(number as usize).map(|rule| rule.line)
 }

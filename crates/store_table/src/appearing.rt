@@ -20,12 +20,81 @@ pub struct Appeared {
     pub keys: KeyDictionary,
 }
 
-/// Adds the name of a key, if there is a code left. Errors: `Memory` if an allocation fails.
-fn add_key(keys: &mut KeyDictionary, name: &[u8]) -> Result<(), Memory>
-    ensures { OnOk result (keys.new ≡ with_key keys.old name.now) }
+/// Returns the names of marks and keys that appear in a program. Errors: `Memory` if an allocation fails.
+pub fn appeared_names(alloc: Global, program: &Program) -> Result<Appeared, Memory>
+    ensures { IfOk result (λ appeared. appeared ≡ with_items none_appeared (source_items program.now)) }
 {
-    if !keys.is_full() {
-        keys.add(name)?;
+    let mut appeared = Appeared {
+        marks: NameTable::new(alloc),
+        keys: KeyDictionary::new(alloc),
+    };
+    add_all(
+        &mut appeared,
+        program.stores.as_slice(),
+        program.groups.as_slice(),
+    )?;
+    Ok(appeared)
+}
+
+/// Adds the names in all statements.
+fn add_all(appeared: &mut Appeared, stores: &[StoreDef], groups: &[GroupDef]) -> Result<(), Memory>
+    ensures { OnOk result (appeared.new ≡ with_items appeared.old (items_from stores.now (flat_map (λ (group : GroupDef). group.rules) groups.now))) }
+{
+    let mut waiting = stores;
+    for group in groups {
+        waiting = add_group(appeared, waiting, group.rules.as_slice())?;
+    }
+    add_stores(appeared, waiting)
+}
+
+/// Adds the names in the rules of a group, each after the stores before it, and returns the other stores.
+#[tactic(auto, using(crate::proofs::ByAppearance::next_rule))]
+fn add_group<'a>(
+    appeared: &mut Appeared,
+    stores: &'a [StoreDef],
+    rules: &[RuleDef],
+) -> Result<&'a [StoreDef], Memory>
+    ensures { OnOk result (IfOk result (λ rest. (more : List RuleDef) → with_items appeared.new (items_from rest.now more) ≡ with_items appeared.old (items_from stores.now (rules.now ++ more)))) }
+{
+    let mut waiting = stores;
+    for rule in rules {
+        waiting = add_before(appeared, waiting, rule.line)?;
+        add_rule(appeared, rule)?;
+    }
+    Ok(waiting)
+}
+
+/// Adds the names in the stores before a line, and returns the other stores.
+fn add_before<'a>(
+    appeared: &mut Appeared,
+    stores: &'a [StoreDef],
+    line: u32,
+) -> Result<&'a [StoreDef], Memory>
+    ensures rest { IfOk result (λ rest. rest.now ≡ stores_after line stores.now) }
+    ensures added { OnOk result (appeared.new ≡ with_items appeared.old (store_items (stores_before line stores.now))) }
+{
+    let (before, others) = parted_by_line(stores, line);
+    add_stores(appeared, before)?;
+    Ok(others)
+}
+
+/// Adds the names in the items of stores.
+#[tactic(auto, using(crate::proofs::ByAppearance::next_store))]
+fn add_stores(appeared: &mut Appeared, stores: &[StoreDef]) -> Result<(), Memory>
+    ensures { OnOk result (appeared.new ≡ with_items appeared.old (store_items stores.now)) }
+{
+    for store in stores {
+        add_items(appeared, store.items.as_slice())?;
+    }
+    Ok(())
+}
+
+/// Adds the names in items.
+fn add_items(appeared: &mut Appeared, items: &[SrcItem]) -> Result<(), Memory>
+    ensures { OnOk result (appeared.new ≡ with_items appeared.old items.now) }
+{
+    for item in items {
+        add_item(appeared, item)?;
     }
     Ok(())
 }
@@ -47,24 +116,14 @@ fn add_item(appeared: &mut Appeared, item: &SrcItem) -> Result<(), Memory>
     }
 }
 
-/// Adds the names in items.
-fn add_items(appeared: &mut Appeared, items: &[SrcItem]) -> Result<(), Memory>
-    ensures { OnOk result (appeared.new ≡ with_items appeared.old items.now) }
+/// Adds the name of a key, if there is a code left. Errors: `Memory` if an allocation fails.
+fn add_key(keys: &mut KeyDictionary, name: &[u8]) -> Result<(), Memory>
+    ensures { OnOk result (keys.new ≡ with_key keys.old name.now) }
 {
-    for item in items {
-        add_item(appeared, item)?;
+    if !keys.is_full() {
+        keys.add(name)?;
     }
     Ok(())
-}
-
-/// Adds the names in the key of a rule.
-fn add_rule_key(appeared: &mut Appeared, key: &Option<SrcItem>) -> Result<(), Memory>
-    ensures { OnOk result (appeared.new ≡ with_items appeared.old (option_to_list key.now)) }
-{
-    match key {
-        Some(item) => add_item(appeared, item),
-        None => Ok(()),
-    }
 }
 
 /// Adds the names in the items of a rule.
@@ -77,71 +136,12 @@ fn add_rule(appeared: &mut Appeared, rule: &RuleDef) -> Result<(), Memory>
     add_items(appeared, rule.output.as_slice())
 }
 
-/// Adds the names in the items of stores.
-#[tactic(auto, using(crate::proofs::ByAppearance::next_store))]
-fn add_stores(appeared: &mut Appeared, stores: &[StoreDef]) -> Result<(), Memory>
-    ensures { OnOk result (appeared.new ≡ with_items appeared.old (store_items stores.now)) }
+/// Adds the names in the key of a rule.
+fn add_rule_key(appeared: &mut Appeared, key: &Option<SrcItem>) -> Result<(), Memory>
+    ensures { OnOk result (appeared.new ≡ with_items appeared.old (option_to_list key.now)) }
 {
-    for store in stores {
-        add_items(appeared, store.items.as_slice())?;
+    match key {
+        Some(item) => add_item(appeared, item),
+        None => Ok(()),
     }
-    Ok(())
-}
-
-/// Adds the names in the stores before a line, and returns the other stores.
-fn add_before<'a>(
-    appeared: &mut Appeared,
-    stores: &'a [StoreDef],
-    line: u32,
-) -> Result<&'a [StoreDef], Memory>
-    ensures rest { IfOk result (λ rest. rest.now ≡ stores_after line stores.now) }
-    ensures added { OnOk result (appeared.new ≡ with_items appeared.old (store_items (stores_before line stores.now))) }
-{
-    let (before, others) = parted_by_line(stores, line);
-    add_stores(appeared, before)?;
-    Ok(others)
-}
-
-/// Adds the names in the rules of a group, each after the stores before it, and returns the other stores.
-#[tactic(auto, using(crate::proofs::ByAppearance::next_rule))]
-fn add_group<'a>(
-    appeared: &mut Appeared,
-    stores: &'a [StoreDef],
-    rules: &[RuleDef],
-) -> Result<&'a [StoreDef], Memory>
-    ensures { OnOk result (IfOk result (λ rest. (more : List RuleDef) → with_items appeared.new (items_from rest.now more) ≡ with_items appeared.old (items_from stores.now (rules.now ++ more)))) }
-{
-    let mut waiting = stores;
-    for rule in rules {
-        waiting = add_before(appeared, waiting, rule.line)?;
-        add_rule(appeared, rule)?;
-    }
-    Ok(waiting)
-}
-
-/// Adds the names in all statements.
-fn add_all(appeared: &mut Appeared, stores: &[StoreDef], groups: &[GroupDef]) -> Result<(), Memory>
-    ensures { OnOk result (appeared.new ≡ with_items appeared.old (items_from stores.now (flat_map (λ (group : GroupDef). group.rules) groups.now))) }
-{
-    let mut waiting = stores;
-    for group in groups {
-        waiting = add_group(appeared, waiting, group.rules.as_slice())?;
-    }
-    add_stores(appeared, waiting)
-}
-
-/// Returns the names of marks and keys that appear in a program. Errors: `Memory` if an allocation fails.
-pub fn appeared_names(alloc: Global, program: &Program) -> Result<Appeared, Memory>
-    ensures { IfOk result (λ appeared. appeared ≡ with_items none_appeared (source_items program.now)) }
-{
-    let mut appeared = Appeared {
-        marks: NameTable::new(alloc),
-        keys: KeyDictionary::new(alloc),
-    };
-    add_all(
-        &mut appeared,
-        program.stores.as_slice(),
-        program.groups.as_slice(),
-    )?;
-    Ok(appeared)
 }

@@ -84,14 +84,6 @@ impl Names {
     }
 }
 
-/// Returns the index of the first name of a table that is the same, if it has 32 bits.
-fn number_in(names: &NameTable, name: &[u8]) -> Option<u32>
-    ensures { result ≡ number_in names.now name.now }
-{
-    let place = names.place_of(name)?;
-    u32::try_from(place).ok()
-}
-
 /// Returns the names of a program. Errors: its first refusal for names, C02 to C07 and C15; `Memory` if an allocation fails.
 pub fn number(alloc: Global, program: &Program) -> Result<Names, CompileError>
     ensures { Answers (numbered program.now) result }
@@ -108,4 +100,12 @@ pub fn number(alloc: Global, program: &Program) -> Result<Names, CompileError>
         marks: appeared.marks,
         keys: appeared.keys,
     })
+}
+
+/// Returns the index of the first name of a table that is the same, if it has 32 bits.
+fn number_in(names: &NameTable, name: &[u8]) -> Option<u32>
+    ensures { result ≡ number_in names.now name.now }
+{
+    let place = names.place_of(name)?;
+    u32::try_from(place).ok()
 }

@@ -27,6 +27,15 @@ pub fn add_store(names: &mut NameTable, store: &StoreDef) -> Result<(), Memory>
     }
 }
 
+/// Returns the names that a program defines. Errors: `Memory` if an allocation fails.
+pub fn stated_names(alloc: Global, program: &Program) -> Result<Stated, Memory>
+    ensures { IfOk result (λ names. names ≡ stated program.now) }
+{
+    let stores = store_names(alloc, program.stores.as_slice())?;
+    let groups = group_names(alloc, program.groups.as_slice())?;
+    Ok(Stated { stores, groups })
+}
+
 /// Returns the names of stores. Errors: `Memory` if an allocation fails.
 #[tactic(auto, using(crate::proofs::Firsts::names_step))]
 fn store_names(alloc: Global, stores: &[StoreDef]) -> Result<NameTable, Memory>
@@ -49,13 +58,4 @@ fn group_names(alloc: Global, groups: &[GroupDef]) -> Result<NameTable, Memory>
         names.push(group.name.as_slice())?;
     }
     Ok(names)
-}
-
-/// Returns the names that a program defines. Errors: `Memory` if an allocation fails.
-pub fn stated_names(alloc: Global, program: &Program) -> Result<Stated, Memory>
-    ensures { IfOk result (λ names. names ≡ stated program.now) }
-{
-    let stores = store_names(alloc, program.stores.as_slice())?;
-    let groups = group_names(alloc, program.groups.as_slice())?;
-    Ok(Stated { stores, groups })
 }

@@ -24,26 +24,42 @@ pub struct HostScript {
     fields: u32,
 }
 
-/// Returns the number of open fields. Errors: H1 if no open field has this number.
-fn if_open(line: u32, field: u32, fields: u32) -> Result<u32, ScriptError>
-    ensures { Answers (if_open line field fields) result }
+/// Returns the entries of a script for several fields over a keyboard with these key names.
+///
+/// Errors: the first of P01 to P08, H1 and H2 that the script breaks; `Memory` if an allocation fails. P06 and P01 are checked
+/// first, for the whole script, with line 1. The others are checked line by line, H1 and H2 after the other codes of a line. H1 is
+/// returned if the field that a line refers to is not open, H2 for an `open` while [`FIELDS`] fields are open.
+#[tactic(auto, using(crate::proofs::LineLaws::text_read))]
+pub fn read_host(
+    alloc: Global,
+    bytes: &[u8],
+    names: &KeyDictionary,
+) -> Result<Seq<HostEntry>, ScriptError>
+    ensures { Answers (host_entries names.now bytes.now) result }
 {
-    if 1 <= field && field <= fields {
-        Ok(fields)
-    } else {
-        Err(refused(line, Code::H1))
-    }
+    read_lines(alloc, names, script_text(bytes)?)
 }
 
-/// Returns the number of open fields after one more is opened. Errors: H2 if `FIELDS` fields are open.
-fn one_more(line: u32, fields: u32) -> Result<u32, ScriptError>
-    ensures { Answers (one_more line fields) result }
+/// Reads the lines of a text.
+#[tactic(auto, using(crate::proofs::LineLaws::next_line))]
+fn read_lines(
+    alloc: Global,
+    names: &KeyDictionary,
+    text: &[u8],
+) -> Result<Seq<HostEntry>, ScriptError>
+    requires { length text.now ≤ TEXT_BYTES }
+    ensures { Answers (and_then (with_lines names.now 1 (text_lines text.now) first_script) (λ script. Ok script.entries)) result }
 {
-    if fields < FIELDS as u32 {
-        Ok(fields + 1)
-    } else {
-        Err(refused(line, Code::H2))
+    let mut script = HostScript::new(alloc);
+    let mut rest = text;
+    let mut line = 1;
+    while !rest.is_empty() {
+        let (first, behind) = first_line(rest);
+        script.read(alloc, names, line, first)?;
+        rest = behind;
+        line += 1;
     }
+    Ok(script.entries)
 }
 
 /// Returns the number of open fields after a line, if `fields` are open before it. Errors: H1 or H2 if they do not allow the line.
@@ -97,40 +113,24 @@ impl HostScript {
     }
 }
 
-/// Reads the lines of a text.
-#[tactic(auto, using(crate::proofs::LineLaws::next_line))]
-fn read_lines(
-    alloc: Global,
-    names: &KeyDictionary,
-    text: &[u8],
-) -> Result<Seq<HostEntry>, ScriptError>
-    requires { length text.now ≤ TEXT_BYTES }
-    ensures { Answers (and_then (with_lines names.now 1 (text_lines text.now) first_script) (λ script. Ok script.entries)) result }
+/// Returns the number of open fields after one more is opened. Errors: H2 if `FIELDS` fields are open.
+fn one_more(line: u32, fields: u32) -> Result<u32, ScriptError>
+    ensures { Answers (one_more line fields) result }
 {
-    let mut script = HostScript::new(alloc);
-    let mut rest = text;
-    let mut line = 1;
-    while !rest.is_empty() {
-        let (first, behind) = first_line(rest);
-        script.read(alloc, names, line, first)?;
-        rest = behind;
-        line += 1;
+    if fields < FIELDS as u32 {
+        Ok(fields + 1)
+    } else {
+        Err(refused(line, Code::H2))
     }
-    Ok(script.entries)
 }
 
-/// Returns the entries of a script for several fields over a keyboard with these key names.
-///
-/// Errors: the first of P01 to P08, H1 and H2 that the script breaks; `Memory` if an allocation fails. P06 and P01 are checked
-/// first, for the whole script, with line 1. The others are checked line by line, H1 and H2 after the other codes of a line. H1 is
-/// returned if the field that a line refers to is not open, H2 for an `open` while [`FIELDS`] fields are open.
-#[tactic(auto, using(crate::proofs::LineLaws::text_read))]
-pub fn read_host(
-    alloc: Global,
-    bytes: &[u8],
-    names: &KeyDictionary,
-) -> Result<Seq<HostEntry>, ScriptError>
-    ensures { Answers (host_entries names.now bytes.now) result }
+/// Returns the number of open fields. Errors: H1 if no open field has this number.
+fn if_open(line: u32, field: u32, fields: u32) -> Result<u32, ScriptError>
+    ensures { Answers (if_open line field fields) result }
 {
-    read_lines(alloc, names, script_text(bytes)?)
+    if 1 <= field && field <= fields {
+        Ok(fields)
+    } else {
+        Err(refused(line, Code::H1))
+    }
 }

@@ -34,97 +34,32 @@ use std::alloc::Global;
 use std::str;
 use store_table::NameTable;
 
-/// Returns whether the id of a key isn't empty and no key can have it.
-fn has_strange_id(key: &TouchKey<'_>) -> bool
-    ensures { result ≡ has_strange_id (key_view key.now) }
+/// Checks a layout for the keyboard of the tables and returns the number of its keys, including subkeys. The format is the
+/// format of Keyman's touch layouts; the rules are our own choice.
+///
+/// Errors: `Refused` with the first rule that the layout breaks, in the order T7, T1, T2, T6 and then key by key T3, T4, T5, and
+/// for one rule the first by place; `Memory` if an allocation fails.
+pub fn check_layout(alloc: Global, bytes: &[u8], tables: &Tables) -> Result<u32, LayoutError>
+    ensures count { IfOk result (λ count. (layout_fault bytes.now tables.now ≡ None) × (count ≡ key_count bytes.now)) }
+    ensures refused { IfErr result (λ e. (fault : _) → e ≡ Refused fault
+        → layout_fault bytes.now tables.now ≡ Some fault) }
 {
-    key.id.len() > 0 && !is_key_id(key.id.as_bytes())
-}
-
-/// Returns whether a key leads to a layer that its platform doesn't have.
-fn leads_nowhere<'v>(ids: &IndexSet<(u32, &'v str)>, key: &TouchKey<'v>) -> bool
-    ensures { result ≡ leads_nowhere (map (λ id. layer_of id.0 id.1.now) ids.now.keys) (key_view key.now) }
-{
-    key.next_layer.len() > 0 && !has_next_layer(ids, key)
-}
-
-/// Returns whether a T_ key has no record, leads to no layer and is not a spacer.
-fn does_nothing(names: &NameTable, key: &TouchKey<'_>) -> bool
-    ensures { result ≡ does_nothing (is_named names.now) (key_view key.now) }
-{
-    let id = key.id.as_bytes();
-    is_touch_name(id) && key.next_layer.len() == 0 && !key.is_spacer && !names.has(id)
-}
-
-/// Returns the first rule that a key breaks, if any.
-fn key_code<'v>(
-    names: &NameTable,
-    ids: &IndexSet<(u32, &'v str)>,
-    key: &TouchKey<'v>,
-) -> Option<Code>
-    ensures { result ≡ key_code (is_named names.now) (map (λ id. layer_of id.0 id.1.now) ids.now.keys) (key_view key.now) }
-{
-    if has_strange_id(key) {
-        return Some(Code::T3);
+    if bytes.len() > TEXT_BYTES {
+        return Err(LayoutError::Refused(LayoutFault {
+            code: Code::T7,
+            place: whole_layout(),
+        }));
     }
-    if leads_nowhere(ids, key) {
-        return Some(Code::T4);
-    }
-    if does_nothing(names, key) {
-        return Some(Code::T5);
-    }
-    None
-}
-
-/// Returns the fault of the first key that breaks a rule, if any.
-fn keys_fault<'v>(
-    names: &NameTable,
-    ids: &IndexSet<(u32, &'v str)>,
-    keys: &[TouchKey<'v>],
-) -> Option<LayoutFault>
-    ensures { result ≡ keys_fault (is_named names.now) (map (λ id. layer_of id.0 id.1.now) ids.now.keys) (keys_view keys.now) }
-{
-    for key in keys {
-        if let Some(code) = key_code(names, ids, key) {
-            return Some(LayoutFault {
-                code,
-                place: key.place,
-            });
-        }
-    }
-    None
-}
-
-/// Returns the fault of the first key of a layout that breaks a rule, if any.
-#[tactic(auto, using(crate::proofs::FoundLayers::same_keys_fault))]
-fn found_keys_fault(
-    alloc: Global,
-    keyboard: &IndexedTables<'_>,
-    groups: &[Group],
-    found: &FoundKeys<'_>,
-) -> Result<Option<LayoutFault>, Memory>
-    ensures { IfOk result (λ fault. fault ≡ keys_fault (has_record (tab keyboard.now).dictionary groups.now)
-        (layers_view found.now.layers.items) (keys_view found.now.keys.items)) }
-{
-    let names = recorded_names(alloc, keyboard, groups)?;
-    let ids = layer_ids(alloc, found.layers.as_slice())?;
-    Ok(keys_fault(&names, &ids, found.keys.as_slice()))
-}
-
-/// Returns the first rule that a layout breaks, if any: the rule of layers precedes the rules of keys.
-fn rules_fault(
-    alloc: Global,
-    keyboard: &IndexedTables<'_>,
-    groups: &[Group],
-    found: &FoundKeys<'_>,
-) -> Result<Option<LayoutFault>, Memory>
-    ensures { IfOk result (λ fault. fault ≡ rules_fault (has_record (tab keyboard.now).dictionary groups.now)
-        (Ok (layout_view found.now.layers.items found.now.keys.items))) }
-{
-    match layers_fault(alloc, found.layers.as_slice())? {
-        Some(fault) => Ok(Some(fault)),
-        None => found_keys_fault(alloc, keyboard, groups, found),
-    }
+    let Some(root) = read_value(alloc, without_bom(bytes))? else {
+        return Err(LayoutError::Refused(LayoutFault {
+            code: Code::T1,
+            place: whole_layout(),
+        }));
+    };
+    let keyboard = IndexedTables::new(alloc, tables)?;
+    let count = check_value(alloc, &root, &keyboard, tables.groups.as_slice())?;
+    // A layout has at most one more key than bytes, so the cast does not truncate.
+    Ok(count as u32)
 }
 
 /// Returns the JSON value of bytes, or `None` if they are not JSON in UTF-8.
@@ -173,30 +108,95 @@ fn check_value(
     Ok(found.keys.len())
 }
 
-/// Checks a layout for the keyboard of the tables and returns the number of its keys, including subkeys. The format is the
-/// format of Keyman's touch layouts; the rules are our own choice.
-///
-/// Errors: `Refused` with the first rule that the layout breaks, in the order T7, T1, T2, T6 and then key by key T3, T4, T5, and
-/// for one rule the first by place; `Memory` if an allocation fails.
-pub fn check_layout(alloc: Global, bytes: &[u8], tables: &Tables) -> Result<u32, LayoutError>
-    ensures count { IfOk result (λ count. (layout_fault bytes.now tables.now ≡ None) × (count ≡ key_count bytes.now)) }
-    ensures refused { IfErr result (λ e. (fault : _) → e ≡ Refused fault
-        → layout_fault bytes.now tables.now ≡ Some fault) }
+/// Returns the first rule that a layout breaks, if any: the rule of layers precedes the rules of keys.
+fn rules_fault(
+    alloc: Global,
+    keyboard: &IndexedTables<'_>,
+    groups: &[Group],
+    found: &FoundKeys<'_>,
+) -> Result<Option<LayoutFault>, Memory>
+    ensures { IfOk result (λ fault. fault ≡ rules_fault (has_record (tab keyboard.now).dictionary groups.now)
+        (Ok (layout_view found.now.layers.items found.now.keys.items))) }
 {
-    if bytes.len() > TEXT_BYTES {
-        return Err(LayoutError::Refused(LayoutFault {
-            code: Code::T7,
-            place: whole_layout(),
-        }));
+    match layers_fault(alloc, found.layers.as_slice())? {
+        Some(fault) => Ok(Some(fault)),
+        None => found_keys_fault(alloc, keyboard, groups, found),
     }
-    let Some(root) = read_value(alloc, without_bom(bytes))? else {
-        return Err(LayoutError::Refused(LayoutFault {
-            code: Code::T1,
-            place: whole_layout(),
-        }));
-    };
-    let keyboard = IndexedTables::new(alloc, tables)?;
-    let count = check_value(alloc, &root, &keyboard, tables.groups.as_slice())?;
-    // A layout has at most one more key than bytes, so the cast does not truncate.
-    Ok(count as u32)
+}
+
+/// Returns the fault of the first key of a layout that breaks a rule, if any.
+#[tactic(auto, using(crate::proofs::FoundLayers::same_keys_fault))]
+fn found_keys_fault(
+    alloc: Global,
+    keyboard: &IndexedTables<'_>,
+    groups: &[Group],
+    found: &FoundKeys<'_>,
+) -> Result<Option<LayoutFault>, Memory>
+    ensures { IfOk result (λ fault. fault ≡ keys_fault (has_record (tab keyboard.now).dictionary groups.now)
+        (layers_view found.now.layers.items) (keys_view found.now.keys.items)) }
+{
+    let names = recorded_names(alloc, keyboard, groups)?;
+    let ids = layer_ids(alloc, found.layers.as_slice())?;
+    Ok(keys_fault(&names, &ids, found.keys.as_slice()))
+}
+
+/// Returns the fault of the first key that breaks a rule, if any.
+fn keys_fault<'v>(
+    names: &NameTable,
+    ids: &IndexSet<(u32, &'v str)>,
+    keys: &[TouchKey<'v>],
+) -> Option<LayoutFault>
+    ensures { result ≡ keys_fault (is_named names.now) (map (λ id. layer_of id.0 id.1.now) ids.now.keys) (keys_view keys.now) }
+{
+    for key in keys {
+        if let Some(code) = key_code(names, ids, key) {
+            return Some(LayoutFault {
+                code,
+                place: key.place,
+            });
+        }
+    }
+    None
+}
+
+/// Returns the first rule that a key breaks, if any.
+fn key_code<'v>(
+    names: &NameTable,
+    ids: &IndexSet<(u32, &'v str)>,
+    key: &TouchKey<'v>,
+) -> Option<Code>
+    ensures { result ≡ key_code (is_named names.now) (map (λ id. layer_of id.0 id.1.now) ids.now.keys) (key_view key.now) }
+{
+    if has_strange_id(key) {
+        return Some(Code::T3);
+    }
+    if leads_nowhere(ids, key) {
+        return Some(Code::T4);
+    }
+    if does_nothing(names, key) {
+        return Some(Code::T5);
+    }
+    None
+}
+
+/// Returns whether the id of a key isn't empty and no key can have it.
+fn has_strange_id(key: &TouchKey<'_>) -> bool
+    ensures { result ≡ has_strange_id (key_view key.now) }
+{
+    key.id.len() > 0 && !is_key_id(key.id.as_bytes())
+}
+
+/// Returns whether a key leads to a layer that its platform doesn't have.
+fn leads_nowhere<'v>(ids: &IndexSet<(u32, &'v str)>, key: &TouchKey<'v>) -> bool
+    ensures { result ≡ leads_nowhere (map (λ id. layer_of id.0 id.1.now) ids.now.keys) (key_view key.now) }
+{
+    key.next_layer.len() > 0 && !has_next_layer(ids, key)
+}
+
+/// Returns whether a T_ key has no record, leads to no layer and is not a spacer.
+fn does_nothing(names: &NameTable, key: &TouchKey<'_>) -> bool
+    ensures { result ≡ does_nothing (is_named names.now) (key_view key.now) }
+{
+    let id = key.id.as_bytes();
+    is_touch_name(id) && key.next_layer.len() == 0 && !key.is_spacer && !names.has(id)
 }

@@ -41,24 +41,27 @@ static LAYOUT_NAMES: [&str; 26] = [
     "K_RALT",
 ];
 
-/// Returns whether an id is one of these names, ignoring ASCII case.
-fn is_among(names: &[&str], id: &[u8]) -> bool
-    ensures { result ≡ list_any (λ name. same_name name id.now) (map (λ name. name.now) names.now) }
+/// Returns whether an id is a T_ name.
+pub(crate) fn is_touch_name(id: &[u8]) -> bool
+    ensures { result ≡ is_touch_name id.now }
 {
-    for name in names {
-        if same_name(name.as_bytes(), id) {
-            return true;
-        }
-    }
-    false
+    same_name(before(id, 2), b"T_")
+        && 2 < id.len()
+        && character_count(id) <= SOURCE_NAME_CHARS
+        && is_word(id)
+        && !has_sentinel(id)
 }
 
-/// Returns whether an id is a name that only layouts have.
-#[tactic(auto, unfolding(crate::specs::Ids::layout_names))]
-fn is_layout_name(id: &[u8]) -> bool
-    ensures { result ≡ list_any (λ name. same_name name id.now) layout_names }
+/// Returns whether each byte of an id can occur in a word.
+fn is_word(id: &[u8]) -> bool
+    ensures { result ≡ list_all is_word_byte id.now }
 {
-    is_among(&LAYOUT_NAMES, id)
+    for byte in id {
+        if !is_word_byte(*byte) {
+            return false;
+        }
+    }
+    true
 }
 
 /// Returns whether a byte can occur in a word.
@@ -84,18 +87,6 @@ fn is_word_byte(byte: u8) -> bool
     )
 }
 
-/// Returns whether each byte of an id can occur in a word.
-fn is_word(id: &[u8]) -> bool
-    ensures { result ≡ list_all is_word_byte id.now }
-{
-    for byte in id {
-        if !is_word_byte(*byte) {
-            return false;
-        }
-    }
-    true
-}
-
 /// Returns whether a text contains U+FFFF, the sentinel of compiled strings.
 #[tactic(auto, using(crate::proofs::Sentinels::sentinel_behind))]
 fn has_sentinel(text: &[u8]) -> bool
@@ -109,20 +100,29 @@ fn has_sentinel(text: &[u8]) -> bool
     false
 }
 
-/// Returns whether an id is a T_ name.
-pub(crate) fn is_touch_name(id: &[u8]) -> bool
-    ensures { result ≡ is_touch_name id.now }
-{
-    same_name(before(id, 2), b"T_")
-        && 2 < id.len()
-        && character_count(id) <= SOURCE_NAME_CHARS
-        && is_word(id)
-        && !has_sentinel(id)
-}
-
 /// Returns whether a key can have an id.
 pub(crate) fn is_key_id(id: &[u8]) -> bool
     ensures { result ≡ is_key_id id.now }
 {
     key_named(id).is_some() || is_touch_name(id) || named_chars(id).is_some() || is_layout_name(id)
+}
+
+/// Returns whether an id is a name that only layouts have.
+#[tactic(auto, unfolding(crate::specs::Ids::layout_names))]
+fn is_layout_name(id: &[u8]) -> bool
+    ensures { result ≡ list_any (λ name. same_name name id.now) layout_names }
+{
+    is_among(&LAYOUT_NAMES, id)
+}
+
+/// Returns whether an id is one of these names, ignoring ASCII case.
+fn is_among(names: &[&str], id: &[u8]) -> bool
+    ensures { result ≡ list_any (λ name. same_name name id.now) (map (λ name. name.now) names.now) }
+{
+    for name in names {
+        if same_name(name.as_bytes(), id) {
+            return true;
+        }
+    }
+    false
 }

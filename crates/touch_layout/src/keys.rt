@@ -28,55 +28,6 @@ pub enum Unread {
     Memory,
 }
 
-/// Returns the text of an optional member, or `None` if the member is not a text.
-fn optional_text<'v>(member: Option<&'v Value>) -> Option<&'v str>
-    ensures { option_map (λ s. s.now) result ≡ optional_text (option_map (λ v. view v.now) member.entry) }
-{
-    match member {
-        None => Some(""),
-        Some(value) => value.as_str(),
-    }
-}
-
-/// Returns whether an `sp` is 9 or 10, as a whole number or a text, or `None` if it is neither a number nor a text.
-fn spacer_of(value: &Value) -> Option<bool>
-    ensures { result ≡ spacer_of (view value.now) }
-{
-    if let Some(text) = value.as_str() {
-        return Some(text == "9" || text == "10");
-    }
-    let number = value.as_number()?;
-    match number.as_u64() {
-        Some(n) => Some(n == 9 || n == 10),
-        None => Some(false),
-    }
-}
-
-/// Returns whether an optional `sp` is 9 or 10, or `None` if it is neither a number nor a text.
-fn optional_spacer(member: Option<&Value>) -> Option<bool>
-    ensures { result ≡ optional_spacer (option_map (λ v. view v.now) member.entry) }
-{
-    match member {
-        None => Some(false),
-        Some(value) => spacer_of(value),
-    }
-}
-
-/// Returns the key of an object without its subkeys, or `None` if a member has another shape.
-fn own_key<'v>(value: &'v Value, place: LayoutPlace) -> Option<TouchKey<'v>>
-    ensures { option_map key_view result ≡ own_key place (view value.now) }
-{
-    let id = optional_text(value.get("id"))?;
-    let next_layer = optional_text(value.get("nextlayer"))?;
-    let is_spacer = optional_spacer(value.get("sp"))?;
-    Some(TouchKey {
-        place,
-        id,
-        next_layer,
-        is_spacer,
-    })
-}
-
 /// Adds a key and its subkeys.
 #[cycle(add_key)]
 #[tactic(auto, using(crate::proofs::Members::key_step))]
@@ -112,6 +63,55 @@ fn add_own<'v>(
         return Err(Unread::Shape);
     };
     found.push(key).map_err(|_| Unread::Memory)
+}
+
+/// Returns the key of an object without its subkeys, or `None` if a member has another shape.
+fn own_key<'v>(value: &'v Value, place: LayoutPlace) -> Option<TouchKey<'v>>
+    ensures { option_map key_view result ≡ own_key place (view value.now) }
+{
+    let id = optional_text(value.get("id"))?;
+    let next_layer = optional_text(value.get("nextlayer"))?;
+    let is_spacer = optional_spacer(value.get("sp"))?;
+    Some(TouchKey {
+        place,
+        id,
+        next_layer,
+        is_spacer,
+    })
+}
+
+/// Returns the text of an optional member, or `None` if the member is not a text.
+fn optional_text<'v>(member: Option<&'v Value>) -> Option<&'v str>
+    ensures { option_map (λ s. s.now) result ≡ optional_text (option_map (λ v. view v.now) member.entry) }
+{
+    match member {
+        None => Some(""),
+        Some(value) => value.as_str(),
+    }
+}
+
+/// Returns whether an optional `sp` is 9 or 10, or `None` if it is neither a number nor a text.
+fn optional_spacer(member: Option<&Value>) -> Option<bool>
+    ensures { result ≡ optional_spacer (option_map (λ v. view v.now) member.entry) }
+{
+    match member {
+        None => Some(false),
+        Some(value) => spacer_of(value),
+    }
+}
+
+/// Returns whether an `sp` is 9 or 10, as a whole number or a text, or `None` if it is neither a number nor a text.
+fn spacer_of(value: &Value) -> Option<bool>
+    ensures { result ≡ spacer_of (view value.now) }
+{
+    if let Some(text) = value.as_str() {
+        return Some(text == "9" || text == "10");
+    }
+    let number = value.as_number()?;
+    match number.as_u64() {
+        Some(n) => Some(n == 9 || n == 10),
+        None => Some(false),
+    }
 }
 
 /// Adds the keys of the list in a member, if the member is present.

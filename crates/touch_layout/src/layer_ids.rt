@@ -15,16 +15,6 @@ use kmn_base::names::in_lower_case;
 use kmn_base::{Code, Memory};
 use std::alloc::Global;
 
-/// Adds a layer to the layers that a key can find.
-fn add_id<'v>(ids: &mut IndexSet<(u32, &'v str)>, layer: &TouchLayer<'v>) -> Result<(), Memory>
-    ensures { OnOk result ((others : List Layer)
-        → FindsSame (map (λ id. layer_of id.0 id.1.now) ids.old.keys) others
-        → FindsSame (map (λ id. layer_of id.0 id.1.now) ids.new.keys) (others ++ layer_view layer.now ∷ [])) }
-{
-    ids.insert((layer.place.platform, layer.id))?;
-    Ok(())
-}
-
 /// Returns the layers of a layout, for look-ups by platform and id.
 pub(crate) fn layer_ids<'v>(
     alloc: Global,
@@ -39,27 +29,21 @@ pub(crate) fn layer_ids<'v>(
     Ok(ids)
 }
 
+/// Adds a layer to the layers that a key can find.
+fn add_id<'v>(ids: &mut IndexSet<(u32, &'v str)>, layer: &TouchLayer<'v>) -> Result<(), Memory>
+    ensures { OnOk result ((others : List Layer)
+        → FindsSame (map (λ id. layer_of id.0 id.1.now) ids.old.keys) others
+        → FindsSame (map (λ id. layer_of id.0 id.1.now) ids.new.keys) (others ++ layer_view layer.now ∷ [])) }
+{
+    ids.insert((layer.place.platform, layer.id))?;
+    Ok(())
+}
+
 /// Returns whether the platform of a key has the layer that the key leads to.
 pub(crate) fn has_next_layer<'v>(ids: &IndexSet<(u32, &'v str)>, key: &TouchKey<'v>) -> bool
     ensures { result ≡ list_any (is_next_layer (key_view key.now)) (map (λ id. layer_of id.0 id.1.now) ids.now.keys) }
 {
     ids.contains(&(key.place.platform, key.next_layer))
-}
-
-/// Adds the id of a layer and returns whether the id is new on its platform. Ids compare without ASCII case.
-fn add_layer(
-    alloc: Global,
-    ids: &mut IndexSet<(u32, Vec<u8>)>,
-    layer: &TouchLayer<'_>,
-) -> Result<bool, Memory>
-    ensures new { IfOk result (λ new. new ≡ not (list_any (is_equal_layer (folded (layer_view layer.now)))
-        (map (λ id. layer_of id.0 id.1.items) ids.old.keys))) }
-    ensures added { IfOk result (λ new. new ≡ true → map (λ id. layer_of id.0 id.1.items) ids.new.keys
-        ≡ map (λ id. layer_of id.0 id.1.items) ids.old.keys ++ folded (layer_view layer.now) ∷ []) }
-{
-    let id = in_lower_case(alloc, layer.id.as_bytes())?;
-    let new = ids.insert((layer.place.platform, id))?;
-    Ok(new)
 }
 
 /// Returns the fault of the first layer whose id an earlier layer of its platform has, if any.
@@ -79,4 +63,20 @@ pub(crate) fn layers_fault(
         }
     }
     Ok(None)
+}
+
+/// Adds the id of a layer and returns whether the id is new on its platform. Ids compare without ASCII case.
+fn add_layer(
+    alloc: Global,
+    ids: &mut IndexSet<(u32, Vec<u8>)>,
+    layer: &TouchLayer<'_>,
+) -> Result<bool, Memory>
+    ensures new { IfOk result (λ new. new ≡ not (list_any (is_equal_layer (folded (layer_view layer.now)))
+        (map (λ id. layer_of id.0 id.1.items) ids.old.keys))) }
+    ensures added { IfOk result (λ new. new ≡ true → map (λ id. layer_of id.0 id.1.items) ids.new.keys
+        ≡ map (λ id. layer_of id.0 id.1.items) ids.old.keys ++ folded (layer_view layer.now) ∷ []) }
+{
+    let id = in_lower_case(alloc, layer.id.as_bytes())?;
+    let new = ids.insert((layer.place.platform, id))?;
+    Ok(new)
 }

@@ -11,17 +11,20 @@ use rule_model::{Group, Rule};
 use std::alloc::Global;
 use store_table::NameTable;
 
-/// Adds the dictionary's name for the key of a record, if any.
-fn add_name(names: &mut NameTable, keyboard: &IndexedTables<'_>, key: RuleKey) -> Result<(), Memory>
-    ensures { OnOk result (names.new ≡ with_marks names.old (recorded_name (tab keyboard.now).dictionary key)) }
+/// Returns the names of the keys of all records, each once.
+#[tactic(auto, using(crate::proofs::RecordedNames::next_group))]
+pub(crate) fn recorded_names(
+    alloc: Global,
+    keyboard: &IndexedTables<'_>,
+    groups: &[Group],
+) -> Result<NameTable, Memory>
+    ensures { IfOk result (λ names. names ≡ with_marks [] (recorded_names (tab keyboard.now).dictionary groups.now)) }
 {
-    let RuleKey::Virtual { code, .. } = key else {
-        return Ok(());
-    };
-    match keyboard.own_key(code) {
-        Some(name) => names.add_new(name),
-        None => Ok(()),
+    let mut names = NameTable::new(alloc);
+    for group in groups {
+        add_names(&mut names, keyboard, group.rules.as_slice())?;
     }
+    Ok(names)
 }
 
 /// Adds the names of the keys of records.
@@ -39,18 +42,15 @@ fn add_names(
     Ok(())
 }
 
-/// Returns the names of the keys of all records, each once.
-#[tactic(auto, using(crate::proofs::RecordedNames::next_group))]
-pub(crate) fn recorded_names(
-    alloc: Global,
-    keyboard: &IndexedTables<'_>,
-    groups: &[Group],
-) -> Result<NameTable, Memory>
-    ensures { IfOk result (λ names. names ≡ with_marks [] (recorded_names (tab keyboard.now).dictionary groups.now)) }
+/// Adds the dictionary's name for the key of a record, if any.
+fn add_name(names: &mut NameTable, keyboard: &IndexedTables<'_>, key: RuleKey) -> Result<(), Memory>
+    ensures { OnOk result (names.new ≡ with_marks names.old (recorded_name (tab keyboard.now).dictionary key)) }
 {
-    let mut names = NameTable::new(alloc);
-    for group in groups {
-        add_names(&mut names, keyboard, group.rules.as_slice())?;
+    let RuleKey::Virtual { code, .. } = key else {
+        return Ok(());
+    };
+    match keyboard.own_key(code) {
+        Some(name) => names.add_new(name),
+        None => Ok(()),
     }
-    Ok(names)
 }

@@ -6,18 +6,6 @@ ghost use Rattle.virtual_keys.specs.Keys.{name_numbered, key_code, key_name, shi
 use crate::tables::{KEYS, MODIFIERS};
 use kmn_base::names::named_in;
 
-/// Returns the name that a table has for a number.
-fn name_numbered(table: &'static [(&'static str, u16)], number: u16) -> Option<&'static [u8]>
-    ensures { option_map (λ name. name.now) result ≡ name_numbered (map (λ row. (row.0.now, row.1)) table.now) number }
-{
-    for row in table {
-        if row.1 == number {
-            return Some(row.0.as_bytes());
-        }
-    }
-    None
-}
-
 /// Returns the words of the shift flags, each with its flag.
 #[tactic(auto, unfolding(crate::specs::Keys::shift_flags))]
 pub fn modifiers() -> &'static [(&'static str, u16)]
@@ -48,4 +36,16 @@ pub fn name_of(code: u16) -> Option<&'static [u8]>
     ensures { option_map (λ name. name.now) result ≡ key_name code }
 {
     name_numbered(&KEYS, code)
+}
+
+/// Returns the name that a table has for a number.
+fn name_numbered(table: &'static [(&'static str, u16)], number: u16) -> Option<&'static [u8]>
+    ensures { option_map (λ name. name.now) result ≡ name_numbered (map (λ row. (row.0.now, row.1)) table.now) number }
+{
+    for row in table {
+        if row.1 == number {
+            return Some(row.0.as_bytes());
+        }
+    }
+    None
 }
