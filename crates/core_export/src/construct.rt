@@ -1,3 +1,5 @@
+//! The properties of records that Keyman's own engine treats differently, and the lines that have them.
+
 use kmn_base::Seq;
 
 /// A property of a record that Keyman's own engine treats differently.

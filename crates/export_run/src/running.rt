@@ -1,3 +1,5 @@
+//! The run of the exporter: it reads a file, exports it, writes the export and prints what differs.
+
 ghost use Rattle.export_run.specs.Runs.{Exports, Runs};
 
 use crate::printing::{print_exported, print_stop};

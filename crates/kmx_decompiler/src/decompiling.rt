@@ -1,3 +1,5 @@
+//! Decompiles a file: refuses it for the first reason, or writes its text.
+
 ghost use Rattle.std.specs.Prelude.{◌≡◌, All, IfErr, IfOk, None, OnOk, Some};
 ghost use Rattle.std.specs.Str.{IsUtf8};
 ghost use Rattle.rule_model.specs.Tab.{tab_dictionary};

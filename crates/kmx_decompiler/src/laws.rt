@@ -1,3 +1,5 @@
+//! Laws of decompiled files, each the contract of a function with an empty body.
+
 ghost use Rattle.kmx_decompiler.specs.Laws.{CompiledHasNoCauses, CompiledIsInOrder, CompiledLacksNoText, NamesAreText, ReadWasWritten, SpelledCanBeWrittenOut, SpelledIsSpelled, SpelledItemsStand, SpelledNamesStand, SpelledRulesStand, TextFits, TextIsAccepted, TextKeepsMeaning};
 
 /// The names of stores and groups are UTF-8 in every file.

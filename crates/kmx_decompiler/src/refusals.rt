@@ -1,3 +1,5 @@
+//! The reason why a file is not decompiled.
+
 use crate::NoSpelling;
 use kmn_base::Memory;
 use thiserror::Error;

@@ -1,3 +1,5 @@
+//! Laws of decompiled texts that are compiled again, and of compiled files that are decompiled.
+
 ghost use Rattle.kmx_decompiler.specs.RoundTrips.{CompiledFilesHaveTexts, TextsCompile};
 
 /// If a valid file has a text, compiling the text returns a file that takes the same steps, or runs out of memory.
