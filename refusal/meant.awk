@@ -1,20 +1,22 @@
-# Explains a refusal in the file that it refers to, with the functions of `source.awk`. The variables are `code`, `line`, `rest` (the
+# Explains a refusal in the file that it refers to, with the functions of the other files. The variables are `code`, `line`, `rest` (the
 # rest of the refusal after the code) and `bytes` (the size of the file). The first printed line states what the refusal means there,
 # or is empty if the code says enough. For a feature that is not supported, this line ends with a tab and the name of the feature in
-# docs/CODES.md. The second line is a hint or empty. The third is the number of the line that has the error, or 0 if no line has it.
-# Then come the beginning of that line and a full stop.
+# docs/CODES.md or docs/FROM-KEYMAN.md. It ends with a tab and `=` if it is a whole explanation. The second line is a hint or empty.
+# The third is the number of the line that has the error, or 0 if no line has it. Then come the beginning of that line and a full stop.
 BEGIN {
     split("C16 C17 C18 C19 C20 C21 C22 P07 H2", codes, " ")
     split("items:items:elements:store 20,001:group 1,001:deadkey 5,001:record 100,001:event 100,001:field 65", words, ":")
     for (i in codes) counted[codes[i]] = words[i]
-    of_source = code ~ /^[CS]/
+    of_source = code ~ /^([CS]|L04$)/
+    of_layout = code ~ /^T/
+    if (of_layout) begin_layout()
 }
 
 END {
     if (open) finish()
     if (code ~ /^(L05|P06|T7)$/) print grouped(bytes) " bytes"
     else if (rest ~ /^(size|rules|stores|elements) /) print grouped(substr(rest, index(rest, " ") + 1)) " " unit_of(rest)
-    else print (of_source && meaning == "" ? meaning_of() : meaning)
+    else print (of_layout ? layout_meaning() : of_source && meaning == "" ? meaning_of() : meaning)
     print hint
     print (code ~ /^(C01|L05|P06)$/ || utf16 ? 0 : line)
     print printable(text)
@@ -67,11 +69,13 @@ function take(s) {
         utf16 = 1; meaning = "the text is in UTF-16"; hint = "Save it as UTF-8."
     }
     if (code ~ /^[LP]01$/ && meaning == "") find_bytes(s)
+    if (of_layout && code != "T7" && !utf16) read_layout(s)
     if (code ~ /^V0[12]$/ && row == 1 && s !~ /^KXTS/) hint = "If the file is a source, compile it first."
     if (code ~ /^E/ && !line) count_events(s)
-    if (row == line) {
+    if (row == line && !of_layout) {
         text = beginning(s)
         if (hint == "") hint = hint_of(s)
+        if (code == "P03" && press_fault(s) != "") meaning = press_fault(s) "\t="
     }
     if (of_source) read_tokens(s)
     else if (row == line && code in counted) meaning = counted[code]
@@ -91,6 +95,7 @@ function find_bytes(s,    good, byte) {
     if (good >= length(s)) return
     for (byte = 128; sprintf("%c", byte) != substr(s, good + 1, 1) && byte < 255; byte++);
     meaning = sprintf("byte %d of line %d is %02X", good + 1, row, byte)
+    hint = "Save it as UTF-8."
     line = row
 }
 
@@ -112,15 +117,29 @@ function hint_of(s,    count, i, pieces) {
 function finish(    at) {
     open = 0
     if (skipped || tokens == 0) return
+    if (of_layout) { state_keys(); return }
     if (word(1) == "store" && sign(2, "(")) state_store(tolower(token[3]))
-    if (word(1) == "group" && sign(2, "(") && !(tolower(token[3]) in groups)) groups[tolower(token[3])] = first_row
+    if (word(1) == "group" && sign(2, "(")) state_group(tolower(token[3]))
+    if (word(1) == "begin" && word(2) == "ansi") has_ansi = 1
     if (first_row != line) return
     kept = tokens
-    for (at = 1; at <= tokens; at++) { kept_token[at] = token[at]; kept_kind[at] = kind[at] }
+    for (at = 1; at <= tokens; at++) { kept_token[at] = token[at]; kept_kind[at] = kind[at]; kept_kinds = kept_kinds kind[at] }
+}
+
+# Notes the virtual keys of a logical line.
+function state_keys(    at) {
+    for (at = 2; at <= tokens; at++) if (sign(at, "]")) ruled[word(at - 1)] = 1
+}
+
+function state_group(name) {
+    if (name in groups) return
+    groups[name] = first_row
+    know("group", token[3])
 }
 
 function state_store(name,    at) {
     if (name in stores) return
+    if (name !~ /^&/) know("store", token[3])
     stores[name] = first_row
     size[name] = items(5, tokens)
     for (at = 5; at <= tokens; at++) if (gives_key(at)) with_key[name] = 1
@@ -130,15 +149,23 @@ function state_store(name,    at) {
 function meaning_of(    at) {
     tokens = kept
     for (at = 1; at <= kept; at++) { token[at] = kept_token[at]; kind[at] = kept_kind[at] }
-    if (code == "C03") return quoted(token[3]) ", already defined in line " stores[tolower(token[3])]
-    if (code == "C04") return quoted(token[3]) ", already defined in line " groups[tolower(token[3])]
+    if (code == "C03") return defined_before(stores, "Rename or remove one of them.")
+    if (code == "C04") return defined_before(groups, "Rename it, or move its rules to the first one.")
+    if (code == "C01" && has_ansi) return "A source with only 'begin ANSI'\tonly `begin ANSI"
     if (code ~ /^C0[567]$/) return missing()
-    if (code == "C12") return left_out()
+    if (code == "C10") return large_key(place_of("+") + 1)
+    if (code ~ /^C1[12]$/) return left_out()
     if (code == "C16") return grouped(items(1, (place_of("+") < place_of(">") ? place_of("+") : place_of(">")) - 1)) " items"
     if (code == "C17") return grouped(items(place_of(">") + 1, tokens)) " items"
     if (code == "C18" && items(5, tokens) > 65535) return grouped(items(5, tokens)) " elements"
-    if (code == "S02") return long_name()
-    return code in counted ? counted[code] : ""
+    if (code == "C25") return index(kept_kinds, "q") ? "A character in '&casedkeys'\t`store(&casedkeys) 'abc'`" : ""
+    if (code == "S02" && long_name() != "") return long_name()
+    return code in counted ? counted[code] : keyman_meaning()
+}
+
+function defined_before(lines, advice) {
+    hint = advice
+    return quoted(token[3]) ", already defined in line " lines[tolower(token[3])]
 }
 
 function quoted(value) {
@@ -151,8 +178,21 @@ function missing(    at, name) {
         name = code == "C06" ? group_at(at) : store_at(at)
         if (name == "") continue
         if (code == "C06" ? !(name in groups) : !(name in stores) || name ~ /^&/ || code == "C07" && stores[name] >= line)
-            return quoted(word(at) ~ /^\$/ ? substr(token[at], 2) : token[at + 2])
+            return missing_at(at, name)
     }
+}
+
+# Returns how a name that no statement defines is written, and sets the hint to the nearest name.
+function missing_at(at, name) {
+    if (word(at) ~ /^(save|reset)$/ && name == "&layer") return quoted(shown(at)) "\t`save(&layer)`"
+    if (word(at) ~ /^\$/ && "&includecodes" in stores) return quoted(token[at]) "\t`$LATIN"
+    if (code != "C07") hint = substr(nearest(name, code == "C06" ? "group" : "store"), 2)
+    return quoted(word(at) ~ /^\$/ ? substr(token[at], 2) : token[at + 2])
+}
+
+# Returns how a key that no key press can give is written.
+function large_key(at) {
+    return item_named(at) (word(at) == "any" ? "" : " as a key\t`U+10000` as a key")
 }
 
 function group_at(at) {
@@ -181,6 +221,7 @@ function left_out(    at, name, output) {
 # Returns the table's name for the feature at a position, or an empty text if it is supported there.
 function thing_at(at, output,    name) {
     name = word(at)
+    if (name == "call") return "`call(x)`"
     if (name ~ /^(clearcontext|fix)$/) return output ? "`" name "`" : ""
     if (name ~ /^(switch|baselayout)$/) return "`" name "(x)`"
     if (name ~ /^(if|set)$/ && tolower(token[at + 2]) ~ /^&/ \
