@@ -37,21 +37,23 @@ function statement_meaning(    at) {
     if (word(1) == "begin" && sign(2, ">")) return "'begin' without 'Unicode'\t`begin > use(main)`"
     if (word(1) == "begin" && word(2) ~ /^(newcontext|postkeystroke)$/) return quoted(token[1] " " token[2]) "\t`begin NewContext"
     for (at = 5; at <= tokens && word(1) == "group"; at++) if (word(at) == "readonly") return quoted(token[at]) "\t`group(g) readonly`"
-    if (word(1) == "name" && tokens > 1 && !sign(2, "(")) return "The header " quoted(token[1]) "\t`NAME "
-    if (word(1) ~ /^(bitmap|copyright|hotkey|message|version)$/ && tokens > 1 && !sign(2, "(")) return "The header " quoted(token[1]) "\t`BITMAP`"
-    if (word(1) ~ /^(language|layout)$/ && tokens > 1 && !sign(2, "(")) return "The header " quoted(token[1]) "\t`LANGUAGE "
-    if (word(1) == "caps" || word(1) == "shift" && word(2) == "frees") return "The header " quoted(token[1] " " token[2] " " token[3]) "\t`CAPS ALWAYS OFF`"
+    if (word(1) == "caps" || word(1) == "shift" && word(2) == "frees")
+        return "The header " quoted(token[1] " " token[2] " " token[3]) "\t`CAPS ALWAYS OFF`"
+    if (tokens == 1 || sign(2, "(")) return ""
+    if (word(1) == "name") return "The header " quoted(token[1]) "\t`NAME "
+    if (word(1) ~ /^(bitmap|copyright|hotkey|message|version)$/) return "The header " quoted(token[1]) "\t`BITMAP`"
+    if (word(1) ~ /^(language|layout)$/) return "The header " quoted(token[1]) "\t`LANGUAGE "
     return ""
 }
 
-# The first item that may not stand where it is written.
+# The first item that is not allowed where it is written.
 function misplaced_meaning(    at, section, held, name) {
     if (code == "S06" && word(1) != "store" && place_of(">") == tokens) return empty_output()
     section = word(1) == "store" ? "store" : word(1) ~ /^(match|nomatch)$/ ? "none" : "context"
     for (at = section == "store" ? 5 : section == "none" ? 2 : 1; at <= tokens; at++) {
         if (section != "store" && section != "output" && sign(at, ">")) { section = "output"; continue }
         if (section == "context" && sign(at, "+")) { section = "key"; continue }
-        if (!may_stand(at, section)) return item_meaning(at, section)
+        if (!is_allowed_in(at, section)) return item_meaning(at, section)
         held += kind[at] == "q" ? characters(token[at]) : 1
         if (section == "key" && held > 1) return item_named(at) " is too much: a key is one character or one virtual key.\t="
         if (section != "key") held = 0
@@ -71,7 +73,7 @@ function item_named(at) {
     return kind[at] == "q" ? shown(at) : quoted(shown(at))
 }
 
-function may_stand(at, section,    name) {
+function is_allowed_in(at, section,    name) {
     name = word(at)
     if (section == "none") return 0
     if (sign(at, "[")) return section != "context"
@@ -88,14 +90,21 @@ function is_number(name) {
 function item_meaning(at, section,    name) {
     name = word(at)
     if (token[at] ~ blank_found()) return "A blank that is neither a space nor a tab\ta no-break space"
-    if (name ~ /^[.][.]/) return "A range with '..'\t" (sign(at - 1, "]") ? (code == "S06" && tolower(token[3]) == "&casedkeys" ? \
-        "`store(&casedkeys) [K_A]" : "`store(v) [K_A]") : "`store(v) 'a' ..")
+    if (name ~ /^[.][.]/) return range_meaning(at)
     if (section == "store" && name ~ /^(beep|nul)$/) return quoted(token[at]) " in a store\t`store(v) 'a' beep`"
     if (section == "output" && name == "any") return quoted(shown(at)) " in an output\t`any(v)`"
     if (section == "context" && (name == "outs" || name ~ /^\$./)) return quoted(shown(at)) " in a context\t`outs(v) + 'a'`"
-    if (section == "none") return item_named(at) " stands between '" token[1] "' and its '>'. Write nothing there.\t="
-    if (sign(at, "[") && section == "context") return quoted(shown(at)) " is a virtual key, and a context has only characters, deadkeys and conditions.\t="
-    return item_named(at) (section == "key" ? " may not be a key" : " may not stand in " (section == "output" ? "an " : "a ") section) ".\t="
+    if (section == "none") return item_named(at) " is between '" token[1] "' and its '>'. Write nothing there.\t="
+    if (sign(at, "[") && section == "context")
+        return quoted(shown(at)) " is a virtual key, and a context has only characters, deadkeys and conditions.\t="
+    if (section == "key") return item_named(at) " is not allowed as a key.\t="
+    return item_named(at) " is not allowed in " (section == "output" ? "an " : "a ") section ".\t="
+}
+
+# A range of characters, of keys, or of cased keys.
+function range_meaning(at) {
+    if (!sign(at - 1, "]")) return "A range with '..'\t`store(v) 'a' .."
+    return "A range with '..'\t`store(" (tolower(token[3]) == "&casedkeys" ? "&casedkeys" : "v") ") [K_A] .."
 }
 
 # The blanks of Unicode that are not blanks of a source.
@@ -124,7 +133,7 @@ function order_meaning(    at, pattern) {
     return ""
 }
 
-# The first bracket that is no virtual key.
+# The first bracket that is not a virtual key.
 function bracket_meaning(    at, held) {
     for (at = 1; at <= tokens; at++) {
         if (!sign(at, "[")) continue
@@ -141,30 +150,38 @@ function bracket_fault(open, last, at,    name) {
     name = word(at)
     if (kind[at] == "q" && characters(token[at]) == 1) return character_fault(token[at])
     if (at > tokens) return "The bracket is not closed by a ].\t="
-    if (sign(at, "]")) return (last == open ? "The bracket is empty." : "The bracket has no key after " quoted(token[last]) ".") " Write the key last, as in [SHIFT K_A].\t="
+    if (sign(at, "]"))
+        return (last == open ? "The bracket is empty." : "The bracket has no key after " quoted(token[last]) ".") last_key("SHIFT", "K_A")
     if (is_key(name)) return key_end_fault(at)
     if (name ~ /^[a-e][01][0-9]$/) return place_fault(at)
     if (name ~ /^(numlock|scrolllock|nnumlock|nscrolllock)$/) return quoted(token[at]) " in a bracket\t`[NUMLOCK K_A]`"
-    if (name ~ /^k_([?]|caps$|numlock$|scroll$|shift$|control$|ctrl$|alt$|pause$|f1[3-9]$|f2[0-4]$|npenter$|o[def][0-9a-f]$)/) return quoted(token[at]) "\t`[K_CAPS]`"
+    if (name ~ /^k_([?].*|caps|numlock|scroll|shift|control|ctrl|alt|pause|f1[3-9]|f2[0-4]|npenter|o[def][0-9a-f])$/)
+        return quoted(token[at]) "\t`[K_CAPS]`"
     if (kind[at] == "s") return quoted(token[at]) " is not the name of a key. Separate the words by blanks, as in [SHIFT K_A].\t="
     return key_fault(token[at], sign(at + 1, "]") || at == tokens || kind[at + 1] == "s") "\t="
 }
 
 function key_end_fault(at) {
     if (at == tokens || sign(at + 1, ">")) return "The bracket is not closed by a ].\t="
-    if (("modifier", word(at + 1)) in is_known) return quoted(token[at + 1]) " comes after " quoted(token[at]) ". Write the key last, as in [" toupper(token[at + 1]) " " token[at] "].\t="
+    if (("modifier", word(at + 1)) in is_known)
+        return quoted(token[at + 1]) " comes after " quoted(token[at]) "." last_key(toupper(token[at + 1]), token[at])
     return quoted(token[at + 1]) " comes after " quoted(token[at]) ". A bracket has one key, which comes last.\t="
+}
+
+function last_key(modifier, name) {
+    return " Write the key last, as in [" modifier " " name "].\t="
 }
 
 # A key by its place on the board: its row, from the bottom, and its number.
 function place_fault(at,    rows, number, names) {
-    split("_SPACE|Z X C V B N M COMMA PERIOD SLASH|A S D F G H J K L COLON QUOTE BKSLASH|Q W E R T Y U I O P LBRKT RBRKT|1 2 3 4 5 6 7 8 9 0 HYPHEN EQUAL", rows, "|")
-    number = substr(token[at], 2) + 0
-    split(rows[index("abcde", substr(word(at), 1, 1))], names, " ")
-    if (word(at) == "e00") names[0] = "BKQUOTE"
-    if (word(at) == "b00") names[0] = "oE2"
-    if (word(at) == "a03") names[3] = "SPACE"
-    if (word(at) ~ /^a/ && number != 3 || names[number] == "") return quoted(token[at]) "\t`[CTRL B08]`"
+    rows["a"] = "- - - SPACE"
+    rows["b"] = "oE2 Z X C V B N M COMMA PERIOD SLASH"
+    rows["c"] = "- A S D F G H J K L COLON QUOTE"
+    rows["d"] = "- Q W E R T Y U I O P LBRKT RBRKT BKSLASH"
+    rows["e"] = "BKQUOTE 1 2 3 4 5 6 7 8 9 0 HYPHEN EQUAL"
+    number = substr(token[at], 2) + 1
+    split(rows[substr(word(at), 1, 1)], names, " ")
+    if (names[number] ~ /^-?$/) return quoted(token[at]) "\t`[CTRL B08]`"
     return quoted(token[at]) ", a key by its place, is not supported. Write K_" names[number] ".\t="
 }
 
@@ -187,7 +204,7 @@ function key_of_character(value,    at, plain, shifted, names) {
     return ""
 }
 
-# A system store that there is not.
+# An unknown system store.
 function system_meaning(    name) {
     name = tolower(token[3])
     if (name == "&oldcharposmatching") return quoted(token[3]) "\t`store(" name ")"
@@ -201,7 +218,8 @@ function number_meaning(    at, depth, digits, name) {
         if (sign(at, "(")) depth = 1
         if (sign(at, ")")) depth = 0
         name = word(at)
-        if (depth && (sign(at - 1, ",") || word(at - 2) == "context") && name !~ /^[0-9]+$/) return quoted(token[at]) " is not an offset. Write a decimal number.\t="
+        if (depth && (sign(at - 1, ",") || word(at - 2) == "context") && name !~ /^[0-9]+$/)
+            return quoted(token[at]) " is not an offset. Write a decimal number.\t="
         if (!is_number(name) || depth && name !~ /^u/) continue
         if (name ~ /[.][.]/) return "A range with '..'\t`store(v) U+0061.."
         digits = substr(name, 3)

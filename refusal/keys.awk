@@ -71,7 +71,8 @@ function is_near(a, b,    at) {
 # Returns what is wrong with a word where a key is written, or with a modifier before it.
 function key_fault(name, is_last) {
     if (is_last && name ~ /^[uU]_[0-9a-fA-F]+$/ && length(name) < 6)
-        return quoted(name) " is not the name of a key. A U_ name has 4 to 6 digits, as U_" substr("000", length(name) - 2) substr(name, 3) "."
+        return quoted(name) " is not the name of a key. A U_ name has 4 to 6 digits, as U_" substr("000", length(name) - 2) \
+            substr(name, 3) "."
     if (name ~ /[+,-]/ && name !~ /^T_/) return quoted(name) " is not the name of a key. Separate the words by blanks, as in [SHIFT K_A]."
     if (is_last) return quoted(name) " is not the name of a key." name_hint(nearest(name, "key"))
     return quoted(name) " is not a modifier." nearest(name, "modifier")
@@ -104,7 +105,8 @@ function press_fault(s,    own, pieces, count, i, words, last, j) {
 }
 
 function press_word_fault(words, at, last) {
-    if (at < last && is_key(words[at])) return quoted(words[at]) " comes before " quoted(words[last]) ". A bracket has one key, which comes last."
+    if (at < last && is_key(words[at]))
+        return quoted(words[at]) " comes before " quoted(words[last]) ". A bracket has one key, which comes last."
     if (at == last && ("modifier", tolower(words[at])) in is_known) return "The bracket has no key after " quoted(words[at]) "."
     return key_fault(words[at], at == last)
 }

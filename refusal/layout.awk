@@ -43,7 +43,7 @@ function is_escaped(piece, value,    end) {
     return (length(value) - end) % 2
 }
 
-# Reads what stands between two quotes: signs and words without quotes.
+# Reads what is between two quotes: signs and words without quotes.
 function read_signs(s,    i, c) {
     for (i = 1; i <= length(s) && !json_wrong; i++) {
         c = substr(s, i, 1)
@@ -92,7 +92,8 @@ function open_value(c) {
 
 function close_value(c) {
     if (!depth) fail_json(quoted(c) " closes nothing.")
-    else if ((c == "}") != (holds[depth] == "{")) fail_json(quoted(c) " does not close the " quoted(holds[depth]) " of line " opened[depth] ".")
+    else if ((c == "}") != (holds[depth] == "{"))
+        fail_json(quoted(c) " does not close the " quoted(holds[depth]) " of line " opened[depth] ".")
     else if (await[depth] ~ /^next/) fail_json(quoted(c) " comes after a comma.")
     else if (await[depth] !~ /^(more|name|first value)$/) fail_json("A value is missing before " quoted(c) ".")
     if (role[depth] ~ /key$/) keys_open--
@@ -124,16 +125,19 @@ function wrong_escape(value,    at, pair) {
 
 # A value begins here, or is here as a whole.
 function take_value(type, value) {
-    if (await[depth] !~ /value$/) {
-        fail_json(await[depth] ~ /name$/ ? "The name of a member is not in double quotes." : await[depth] == "colon" ? "A colon is missing." : \
-            depth ? "A comma is missing." : "Text follows the JSON value.")
-        return
-    }
+    if (await[depth] !~ /value$/) { fail_json(missing_before()); return }
     await[depth] = "more"
     if (holds[depth] == "[") item_number[depth]++
     find_part(type)
     if (value_place == wanted || level == "platform") note_part(type, value)
     if (role[depth] == "layer" && name_at[depth] == "id" && type == "text") note_layer(unescaped(value))
+}
+
+# Returns what is missing before a value.
+function missing_before() {
+    if (await[depth] ~ /name$/) return "The name of a member is not in double quotes."
+    if (await[depth] == "colon") return "A colon is missing."
+    return depth ? "A comma is missing." : "Text follows the JSON value."
 }
 
 # Sets `value_part` to what a value is for the layout, and `value_place` to its place.
@@ -165,7 +169,7 @@ function placed() {
     return at_place[depth] "." item_number[depth]
 }
 
-# Stores what a value at the wanted place says. A key and its subkeys are numbered from 1 on.
+# Stores what a value at the requested place contains. A key and its subkeys are numbered from 1 on.
 function note_part(type, value,    at) {
     if (value_part == level && value_place == wanted) {
         line = row; place_type = type
@@ -196,7 +200,7 @@ function note_layer(id,    numbers) {
     if (numbers[2] > layer_count[numbers[1]]) layer_count[numbers[1]] = numbers[2]
 }
 
-# Only the first fault is told, and only for T1: another reader than the program's own must not tell others.
+# Only the first fault is reported, and only for T1: only the program itself decides about others.
 function fail_json(what) {
     if (json_wrong) return
     json_wrong = 1
@@ -263,11 +267,10 @@ function member_fault(of, type) {
 function key_shape(at,    i, names, types) {
     if (key_type[at] != "object") return "A key is not an object."
     split("id nextlayer sk multitap flick sp", names, " ")
-    split("text text list list object number", types, " ")
+    split("a text,a text,a list,a list,an object,a number or a text", types, ",")
     for (i = 1; i <= 6; i++) {
-        if (!((at, names[i]) in member_type) || member_type[at, names[i]] == types[i]) continue
-        if (names[i] == "sp" && member_type[at, "sp"] == "text") continue
-        return "The `" names[i] "` of " (i == 1 ? "a key" : key_name(at)) " is not " (i == 5 ? "an " : "a ") types[i] (i == 6 ? " or a text." : ".")
+        if (!((at, names[i]) in member_type) || index(types[i], " " member_type[at, names[i]])) continue
+        return "The `" names[i] "` of " (i == 1 ? "a key" : key_name(at)) " is not " types[i] "."
     }
     return ""
 }
@@ -307,7 +310,8 @@ function key_name(at) {
 }
 
 function where_found(at) {
-    return (at > 1 ? ", a subkey of " key_name(1) "," : "") " in layer " quoted(layer_id[wanted_platform, wanted_layer]) " of " platforms[wanted_platform]
+    return (at > 1 ? ", a subkey of " key_name(1) "," : "") " in layer " quoted(layer_id[wanted_platform, wanted_layer]) " of " \
+        platforms[wanted_platform]
 }
 
 function rule_hint(at,    next_layer, i) {
