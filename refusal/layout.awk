@@ -14,6 +14,8 @@ function begin_layout(    numbers, i) {
     for (i = 4; i <= 8; i += 2) if (numbers[i]) wanted = wanted "." numbers[i]
     level = numbers[8] ? "key" : numbers[6] ? "row" : numbers[4] ? "layer" : "platform"
     depth = 0
+    # What is longer than this is cut, since each step would copy it.
+    most_kept = 2000
     await[0] = "value"
 }
 
@@ -26,9 +28,9 @@ function read_layout(s,    count, pieces, i, inside, value) {
     if (valid_bytes(s) < length(s)) { find_bytes(s); json_wrong = 1; return }
     for (i = 1; i <= count && !json_wrong; i++) {
         if (!inside) { read_signs(pieces[i]); value = ""; value_column = column + length(pieces[i]) }
-        else value = value pieces[i]
+        else if (length(value) < most_kept) value = value pieces[i]
         column += length(pieces[i]) + 1
-        if (inside && is_escaped(pieces[i], value)) { value = value "\""; continue }
+        if (inside && is_escaped(pieces[i])) { if (length(value) < most_kept) value = value "\""; continue }
         if (inside && i < count && !json_wrong) read_string(value)
         if (inside && i == count) fail_json("A text has no closing quote.")
         inside = !inside
@@ -37,20 +39,21 @@ function read_layout(s,    count, pieces, i, inside, value) {
     if (!json_wrong) end_word()
 }
 
-# Whether the quote after a text so far is a part of it: it follows an odd number of backslashes.
-function is_escaped(piece, value,    end) {
-    for (end = length(value); end && substr(value, end, 1) == "\\"; end--);
-    return (length(value) - end) % 2
+# Whether the quote after a piece of a text is a part of the text: it follows an odd number of backslashes.
+function is_escaped(piece,    end) {
+    for (end = length(piece); end && substr(piece, end, 1) == "\\"; end--);
+    return (length(piece) - end) % 2
 }
 
 # Reads what is between two quotes: signs and words without quotes.
-function read_signs(s,    i, c) {
-    for (i = 1; i <= length(s) && !json_wrong; i++) {
+function read_signs(s,    i, c, size) {
+    size = length(s)
+    for (i = 1; i <= size && !json_wrong; i++) {
         c = substr(s, i, 1)
         if (index("{}[]:, \t", c)) {
             end_word()
             if (c != " " && c != "\t" && !json_wrong) { value_column = column + i - 1; read_sign(c) }
-        } else bare = bare c
+        } else if (length(bare) < most_kept) bare = bare c
     }
     end_word()
 }
@@ -63,7 +66,7 @@ function end_word(    value) {
     if (value ~ /^(\/\/|\/\*|#)/) fail_json("JSON has no comments.")
     else if (await[depth] ~ /name$/) fail_json(quoted(beginning(value)) " is not in double quotes, as the name of a member is.")
     else if (value ~ /^(true|false|null)$/) take_value("literal", value)
-    else if (value ~ /^-?(0|[1-9][0-9]*)([.][0-9]+)?([eE][-+]?[0-9]+)?$/) take_value("number", value)
+    else if (length(value) == most_kept || value ~ /^-?(0|[1-9][0-9]*)([.][0-9]+)?([eE][-+]?[0-9]+)?$/) take_value("number", value)
     else fail_json(quoted(beginning(value)) " is not a JSON value." (value ~ /^'/ ? " A text is in double quotes." : ""))
 }
 
@@ -101,9 +104,11 @@ function close_value(c) {
 }
 
 # Reads a text: the name of a member, or a value.
-function read_string(value) {
+function read_string(value,    is_cut) {
+    is_cut = length(value) >= most_kept
+    if (is_cut) value = substr(value, 1, most_kept)
     if (value ~ /[\001-\037]/) fail_json("A text has a tab or another control character.")
-    else if (wrong_escape(value) != "") fail_json(quoted(wrong_escape(value)) " is not an escape of JSON.")
+    else if (!is_cut && wrong_escape(value) != "") fail_json(quoted(wrong_escape(value)) " is not an escape of JSON.")
     else if (await[depth] ~ /name$/) { name_at[depth] = unescaped(value); await[depth] = "colon" }
     else take_value("text", value)
 }
@@ -278,7 +283,7 @@ function key_shape(at,    i, names, types) {
 function layer_fault(    i, id) {
     id = layer_id[wanted_platform, wanted_layer]
     for (i = 1; tolower(layer_id[wanted_platform, i]) != tolower(id); i++);
-    return quoted(id) ", which is also the id of the layer in line " layer_row[wanted_platform, i]
+    return quoted(beginning(id)) ", which is also the id of the layer in line " layer_row[wanted_platform, i]
 }
 
 # Names the key that a rule of keys is about: the first one of the place that breaks the rule.
@@ -305,12 +310,12 @@ function has_layer(id,    i) {
 }
 
 function key_name(at) {
-    return (member[at, "id"] == "" ? "a key without an id" : quoted(member[at, "id"])) \
-        (member[at, "text"] == "" ? "" : " (text " quoted(member[at, "text"]) ")")
+    return (member[at, "id"] == "" ? "a key without an id" : quoted(beginning(member[at, "id"]))) \
+        (member[at, "text"] == "" ? "" : " (text " quoted(beginning(member[at, "text"])) ")")
 }
 
 function where_found(at) {
-    return (at > 1 ? ", a subkey of " key_name(1) "," : "") " in layer " quoted(layer_id[wanted_platform, wanted_layer]) " of " \
+    return (at > 1 ? ", a subkey of " key_name(1) "," : "") " in layer " quoted(beginning(layer_id[wanted_platform, wanted_layer])) " of " \
         platforms[wanted_platform]
 }
 
@@ -322,7 +327,7 @@ function rule_hint(at,    next_layer, i) {
         if (tolower(next_layer) == tolower(layer_id[wanted_platform, i]) || is_near(next_layer, layer_id[wanted_platform, i]))
             return "Its `nextlayer` is " quoted(next_layer) "; the nearest layer is " quoted(layer_id[wanted_platform, i]) "."
     }
-    return "Its `nextlayer` is " quoted(next_layer) "."
+    return "Its `nextlayer` is " quoted(beginning(next_layer)) "."
 }
 
 # Returns whether the source has a virtual key with a name. The source is read once.
