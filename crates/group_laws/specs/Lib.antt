@@ -1,0 +1,2 @@
+pub mod Unreached
+pub mod Readonly
