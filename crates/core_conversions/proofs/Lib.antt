@@ -1,0 +1,5 @@
+pub mod AllConverted
+pub mod EmptyAsNomatch
+pub mod NulFirst
+pub mod PlainSides
+pub mod SameTraces
