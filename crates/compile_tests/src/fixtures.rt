@@ -16,11 +16,30 @@ pub const KEYBOARD: &str = "begin Unicode > use(main)\ngroup(main) using keys\n"
 /// The file of one rule, `+ 'a' > 'b'` in line 3, in a group `main` that uses keys: the bytes `one_rule_bytes` of `WorkedFiles` in
 /// `kmx_format`, which were worked out by hand.
 pub const ONE_RULE: [u8; 122] = [
-    0x4B, 0x58, 0x54, 0x53, 0x00, 0x0A, 0x00, 0x00, 0, 0, 0, 0, 0, 0, 0, 0, 0, 0, 0, 0, 0, 0, 0, 0,
-    0, 0, 0, 0, 1, 0, 0, 0, 0, 0, 0, 0, 0x40, 0, 0, 0, 0xFF, 0xFF, 0xFF, 0xFF, 0, 0, 0, 0, 0, 0, 0,
-    0, 0, 0, 0, 0, 0, 0, 0, 0, 0, 0, 0, 0, 0x6C, 0, 0, 0, 0x58, 0, 0, 0, 0, 0, 0, 0, 0, 0, 0, 0, 1,
-    0, 0, 0, 1, 0, 0, 0, 0x61, 0, 0, 0, 3, 0, 0, 0, 0, 0, 0, 0, 0x76, 0, 0, 0, 0, 0, 0, 0, 0x6D, 0,
-    0x61, 0, 0x69, 0, 0x6E, 0, 0, 0, 0x62, 0, 0, 0,
+    0x4B, 0x58, 0x54, 0x53, // 0: identifier
+    0, 0x0A, 0, 0, // 4: version of the format
+    0, 0, 0, 0, 0, 0, 0, 0, 0, 0, 0, 0, 0, 0, 0, 0, // 8: checksum, keyboard id, registered, version of the keyboard
+    0, 0, 0, 0, // 24: number of stores
+    1, 0, 0, 0, // 28: number of groups
+    0, 0, 0, 0, // 32: offset of the store array
+    0x40, 0, 0, 0, // 36: offset of the group array
+    0xFF, 0xFF, 0xFF, 0xFF, // 40: start group for non-Unicode applications
+    0, 0, 0, 0, // 44: start group for Unicode applications
+    0, 0, 0, 0, 0, 0, 0, 0, // 48: flags, hotkey
+    0, 0, 0, 0, 0, 0, 0, 0, // 56: offset and size of the bitmap
+    0x6C, 0, 0, 0, // 64: group: offset of its name
+    0x58, 0, 0, 0, // 68: offset of its key array
+    0, 0, 0, 0, // 72: offset of its match output
+    0, 0, 0, 0, // 76: offset of its nomatch output
+    1, 0, 0, 0, // 80: number of key records
+    1, 0, 0, 0, // 84: whether it uses keys
+    0x61, 0, 0, 0, // 88: key record: character or key code
+    3, 0, 0, 0, // 92: line
+    0, 0, 0, 0, // 96: shift flags
+    0x76, 0, 0, 0, // 100: offset of its output
+    0, 0, 0, 0, // 104: offset of its context
+    0x6D, 0, 0x61, 0, 0x69, 0, 0x6E, 0, 0, 0, // 108: name of the group: main
+    0x62, 0, 0, 0, // 118: output of the record: b
 ];
 
 /// Returns the file that a source compiles to.

@@ -5,6 +5,7 @@ use compile_tests::fixtures::compiled;
 use kmn_base::Memory;
 use kmx_verifier::verify;
 use play_session::Session;
+use source_tests::fixtures::is_row;
 use std::alloc::Global;
 use std::fmt::Write;
 use std::test::Fail;
@@ -19,11 +20,16 @@ const KEYBOARD: &str = "begin Unicode > use(main)\nstore(o) '0'\ngroup(main) usi
 /// step the lines are the lines of the step before. A key press whose rule enters a group that enters itself shows a line for
 /// each group that may be entered.
 const CASES: &str = "\
-K_A 4,11,13 ; K_E - ; K_A 4,11,13 ; @0 -
+== groups that rules enter, a key without a rule, a caret move
+K_A 4,11,13 ; K_E - ; K_A 4,11,13 ; |0 -
+== deadkeys
 K_D 6 ; K_D 5,13 ; K_D 6 ; -0,0,u - ; K_D 5,13
+== options
 K_S - ; o=1 - ; K_S 8 ; o=0 -
+== at most 50 groups in an event
 K_R 7,15,15,15,15,15,15,15,15,15,15,15,15,15,15,15,15,15,15,15,15,15,15,15,15,15,15,15,15,15,15,15,15,15,15,15,15,15,15,15,15,15,15,15,15,15,15,15,15,15
-K_A 4,11,13 ; @9 4,11,13 ; x=1 -";
+== a refused event leaves the lines; an unknown option clears them
+K_A 4,11,13 ; |9 4,11,13 ; x=1 -";
 
 /// Returns the lines that a session reports, or `-` if there are none.
 fn shown(alloc: Global, session: &Session) -> Result<String, Memory> {
@@ -74,7 +80,7 @@ fn wrong_case(
 
 /// Returns the first wrong step of the cases.
 fn wrong_in(alloc: Global, session: &Session) -> Result<Option<&'static str>, Fail> {
-    for case in CASES.lines() {
+    for case in CASES.lines().filter(is_row) {
         if let Some(step) = wrong_case(alloc, session, case)? {
             return Ok(Some(step));
         }

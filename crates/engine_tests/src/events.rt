@@ -46,11 +46,11 @@ fn setting(alloc: Global, name: &str, value: &str) -> Result<Event, Memory> {
     })
 }
 
-/// Returns the event of a step: `@` and a caret position; `-` and an edit; the name and the value of an option with `=` between
+/// Returns the event of a step: `|` and a caret position; `-` and an edit; the name and the value of an option with `=` between
 /// them, where `_` is a space; or a key name, perhaps after its modifiers and `+`. A key `T_..` is the first custom key of the
 /// keyboard.
 pub fn event(alloc: Global, word: &str) -> Result<Event, Memory> {
-    if let Some(place) = word.strip_prefix('@') {
+    if let Some(place) = word.strip_prefix('|') {
         return Ok(Event::Caret(number(place)));
     }
     if let Some(places) = word.strip_prefix('-') {

@@ -6,21 +6,26 @@ use compile_tests::fixtures::compiled;
 use kmn_base::{Item, Memory, Outcome};
 use kmx_verifier::verify;
 use rule_engine::Engine;
-use source_tests::fixtures::{parted, put_items};
+use source_tests::fixtures::{is_row, parted, put_items};
 use std::alloc::Global;
 use std::fmt::Write;
 use std::test::Fail;
 
 /// Each line contains the statements of a keyboard after its first two lines and, after ` ⇒ `, its steps, separated by ` ; `. A
 /// step is a key, the number of deleted characters, the inserted characters, whether the key is passed on, and the cached
-/// context afterwards; or `=`, a text that the engine reads again, and the cached context afterwards. `*` is a mark (a deadkey
+/// context afterwards; or `text=`, a text that the engine reads again, and the cached context afterwards. `*` is a mark (a deadkey
 /// in the item list).
 const CASES: &str = "\
+== a context, and a key that is passed on
 'a' + 'c' > 'y'¶+ 'c' > 'x' ⇒ K_A 0 a 0 a ; K_C 1 y 0 y ; K_F5 0  1 y
+== a deadkey
 + '`' > dk(1)¶dk(1) + 'a' > 'à' ⇒ K_BKQUOTE 0  0 * ; K_A 0 à 0 à
-+ '`' > dk(1)¶dk(1) + 'a' > 'à' ⇒ K_X 0 x 0 x ; K_BKQUOTE 0  0 x* ; = ; =x x ; K_A 0 a 0 xa
-+ '`' > dk(1) ⇒ K_X 0 x 0 x ; K_BKQUOTE 0  0 x* ; =x x* ; =yx yx
+== another text: the deadkeys go where it does not end alike
++ '`' > dk(1)¶dk(1) + 'a' > 'à' ⇒ K_X 0 x 0 x ; K_BKQUOTE 0  0 x* ; text= ; text=x x ; K_A 0 a 0 xa
++ '`' > dk(1) ⇒ K_X 0 x 0 x ; K_BKQUOTE 0  0 x* ; text=x x* ; text=yx yx
+== characters above U+FFFF
 + 's' > U+1F600¶U+1F600 + 'a' > U+10FFFF ⇒ K_S 0 \u{1F600} 0 \u{1F600} ; K_A 1 \u{10FFFF} 0 \u{10FFFF}
+== what stays of the context is not inserted again
 'a' + 'b' > 'ab' ⇒ K_A 0 a 0 a ; K_B 0 b 0 ab";
 
 /// Returns the outcome of a press in the notation of the table.
@@ -75,7 +80,7 @@ fn shows(
     step: &str,
 ) -> Result<bool, Fail> {
     let (word, wanted) = step.split_once(' ').unwrap_or((step, ""));
-    let line = match word.strip_prefix('=') {
+    let line = match word.strip_prefix("text=") {
         Some(new) => read_again(alloc, engine, text, new)?,
         None => pressed(alloc, engine, text, word)?,
     };
@@ -113,7 +118,7 @@ fn wrong_in_case(alloc: Global, case: &'static str) -> Result<Option<&'static st
 
 #[test]
 fn worked_keyboards(rt: HostRuntime) -> Result<(), Fail> {
-    for case in CASES.lines() {
+    for case in CASES.lines().filter(is_row) {
         let wrong = wrong_in_case(rt.alloc(), case)?;
         assert!(rt; wrong.is_none(), "{}", wrong.unwrap_or(""));
     }

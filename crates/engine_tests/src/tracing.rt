@@ -13,7 +13,8 @@ use kmx_verifier::verify;
 use plain_event::PlainState;
 use rule_model::Tables;
 use rule_trace::{Coverage, Traced, chosen_lines_are_lines, trace_event};
-use source_tests::fixtures::parted;
+use source_tests::fixtures::{is_row, parted};
+use source_tests::sample::SAMPLE;
 use std::alloc::Global;
 use std::fmt::Write;
 use std::test::Fail;
@@ -21,54 +22,23 @@ use std::test::Fail;
 /// Each line contains the statements of a keyboard after the first two, `begin Unicode > use(main)` and
 /// `group(main) using keys`, so the statements begin on line 3; after ` ⇒ ` its events, separated by ` ; `, each with the lines
 /// that fire; and after another ` ⇒ ` each line of a rule with its count. `¶` is a line feed. A key press may have its
-/// modifiers before its key, each `T_` key is the first custom key, `@` precedes a caret position, and `=` separates the name
+/// modifiers before its key, each `T_` key is the first custom key, `|` precedes a caret position, and `=` separates the name
 /// and the value of an option.
 const CASES: &str = "\
+== one line, no line, no rule
 + 'c' > 'x'¶'a' + 'c' > 'y' ⇒ K_A - ; K_C 4 ⇒ 3=0 4=1
 + 'a' > 'x' ⇒ K_B - ⇒ 3=0
 c no rule ⇒ K_A - ⇒ 
-+ 'a' > 'x'¶store(o) '0'¶if(o = '0') + 'a' > 'y' ⇒ K_A 5 ; o=1 - ; @0 - ; K_A 3 ⇒ 3=1 5=1
+== only presses select lines
++ 'a' > 'x'¶store(o) '0'¶if(o = '0') + 'a' > 'y' ⇒ K_A 5 ; o=1 - ; |0 - ; K_A 3 ⇒ 3=1 5=1
+== groups that are entered, by rules, match and nomatch
 + 'a' > 'x' use(main) ⇒ K_A 3.3.3.3.3.3.3.3.3.3.3.3.3.3.3.3.3.3.3.3.3.3.3.3.3.3.3.3.3.3.3.3.3.3.3.3.3.3.3.3.3.3.3.3.3.3.3.3.3.3 ⇒ 3=50
 + 'a' > 'x'¶match > use(g)¶group(g)¶'x' > 'y' ⇒ K_A 3.6 ⇒ 3=1 6=1
 + 'b' > 'x'¶nomatch > use(g)¶group(g)¶nul > 'y' ⇒ K_A 6 ⇒ 3=0 6=1
 + 'a' > return use(g)¶group(g)¶nul > 'y' ⇒ K_A 3 ⇒ 3=1 5=0
 + 'a' > use(g) 'x' use(h)¶group(g)¶nul > 'y'¶group(h)¶'yx' > 'z'¶match > use(g) ⇒ K_A 3.5.7 ⇒ 3=1 5=1 7=1
+== a line with several records
 store(v) 'ab'¶+ any(v) > 'x' ⇒ K_A 4 ; K_B 4 ⇒ 4=2";
-
-/// A keyboard with deadkeys, an option and three groups: the lines of `examples/sample.kmn`, with a comment instead of the line
-/// that names a bitmap.
-const SAMPLE: &str = "c Acute and grave vowels
-store(&version) '10.0'
-store(&name) 'Sample Accents'
-store(&copyright) '(c) Example'
-c
-store(&targets) 'any'
-store(&layoutfile) 'sample.keyman-touch-layout'
-store(&keyboardversion) '1.0'
-begin Unicode > use(main)
-store(plain) 'aeiouAEIOU'
-store(acute) U+00E1 U+00E9 U+00ED U+00F3 U+00FA U+00C1 U+00C9 U+00CD U+00D3 U+00DA
-store(grave) U+00E0 U+00E8 U+00EC U+00F2 U+00F9 U+00C0 U+00C8 U+00CC U+00D2 U+00D9
-store(quotes) \"0\"
-group(main) using keys
-+ \"'\" > dk(acute)
-+ '`' > dk(grave)
-dk(acute) + any(plain) > index(acute, 2)
-dk(grave) + any(plain) > index(grave, 2)
-dk(acute) + \"'\" > \"'\"
-any(acute) + [K_BKSP] > index(plain, 1) dk(acute)
-+ [T_flip] > use(flip)
-if(quotes = \"1\") + '\"' > U+201C
-+ [CTRL ALT K_Q] > set(quotes = \"1\") save(quotes)
-+ '-' > '-'
-match > use(after)
-group(flip)
-any(acute) > index(grave, 1)
-any(grave) > index(acute, 1)
-nomatch > beep
-group(after)
-'--' > U+2013
-";
 
 /// The presses of `examples/sample.keys` and the lines that fire, as the second run of `trace_rows` in `run_tests` prints them.
 const SAMPLE_EVENTS: &str =
@@ -236,13 +206,15 @@ fn is_case_right(alloc: Global, case: &str) -> Result<bool, Fail> {
 
 /// Returns whether the sample is right.
 fn is_sample_right(alloc: Global) -> Result<bool, Fail> {
-    let bytes = compiled(alloc, SAMPLE)?;
+    // These files have no bitmap, and a comment keeps the numbers of the lines.
+    let source = SAMPLE.replace(alloc, "store(&bitmap) 'sample.ico'", "c")?;
+    let bytes = compiled(alloc, source.as_str())?;
     is_right(alloc, bytes.as_slice(), SAMPLE_EVENTS, SAMPLE_HITS)
 }
 
 #[test]
 fn lines_of_cases(rt: HostRuntime) -> Result<(), Fail> {
-    for case in CASES.lines() {
+    for case in CASES.lines().filter(is_row) {
         assert!(rt; is_case_right(rt.alloc(), case)?, "{case}");
     }
     Ok(())

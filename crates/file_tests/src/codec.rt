@@ -2,7 +2,7 @@
 
 use item_codec::{BadUnits, UnitItem, items_of, spell};
 use kmn_base::{Memory, Seq};
-use source_tests::fixtures::parted;
+use source_tests::fixtures::{is_row, parted};
 use std::alloc::{AllocError, Global};
 use std::fmt::Write;
 use std::test::Fail;
@@ -44,17 +44,24 @@ const ITEMS: &[UnitItem] = &[
 
 /// Each line has bytes and, after ` ⇒ `, the result of decoding them: items, and the kind, the byte offset and the code of the fault.
 const FAULTS: &str = "\
+== operands of 0, which no item has
 ff ff 03 00 61 00 ff ff 14 00 01 00 03 00 02 00 61 00 ⇒ Context Char('a') U5 at 6 code 0
 ff ff 0a 00 00 40 41 00 11 00 ⇒ U4 at 0 code 0
+== a code that no item has
 61 00 ff ff 09 00 ⇒ Char('a') U2 at 2 code 9
+== half of a surrogate pair
 3d d8 61 00 ⇒ U1 at 0 code 0
+== an odd byte at the end
 62 00 61 ⇒ Char('b') U6 at 2 code 0
+== a zero unit, as an item and as an operand
 00 00 61 00 ⇒ U3 at 0 code 0
+== strings that end within an item
 ff ff 14 00 00 00 03 00 02 ⇒ U6 at 0 code 0
 ff ff 17 00 22 00 03 00 01 00 ⇒ U5 at 0 code 0
 61 00 ff ff 17 00 22 00 00 00 01 00 ⇒ Char('a') U3 at 2 code 0
 ff ff 18 00 22 00 ⇒ U3 at 0 code 0
 ff ff 18 00 22 00 01 ⇒ U6 at 0 code 0
+== another code that no item has
 ff ff 19 00 ⇒ U2 at 0 code 25";
 
 /// Returns the byte of a hexadecimal number.
@@ -121,7 +128,7 @@ fn are_spelled(alloc: Global) -> Result<bool, Fail> {
 
 #[test]
 fn bytes_and_their_items(rt: HostRuntime) -> Result<(), Fail> {
-    for row in FAULTS.lines() {
+    for row in FAULTS.lines().filter(is_row) {
         assert!(rt; is_row_walked(rt.alloc(), row)?, "{row}");
     }
     assert!(rt; are_spelled(rt.alloc())?);

@@ -1,5 +1,5 @@
 //! Files that table rows describe as changes. `two` starts from the file of two keys, `layer` from the file with a condition on the
-//! layer, `sets` from the file that sets the layer, and any other row from the file of one rule. `<` truncates the file to a
+//! layer, `sets` from the file that sets the layer, and any other row from the file of one rule. `..` truncates the file to a
 //! length, `@` moves to a byte offset, and hexadecimal digits are the bytes from there on.
 
 use crate::fixtures::{ON_LAYER, SETS_LAYER, TWO_KEYS};
@@ -64,7 +64,7 @@ fn change(file: &mut Vec<u8>, place: usize, word: &str) -> Result<usize, Fail> {
         file.extend_from_slice(bytes)?;
         return Ok(place);
     }
-    if let Some(length) = word.strip_prefix('<') {
+    if let Some(length) = word.strip_prefix("..") {
         file.truncate(number(length)?);
         return Ok(place);
     }

@@ -11,10 +11,27 @@ use std::test::Fail;
 /// A file with one store `v` of system id 9. The string of the store has an `a`, a `nul`, the first deadkey, a code that no item
 /// has, and a `b`.
 const ONE_STORE: [u8; 100] = [
-    0x4B, 0x58, 0x54, 0x53, 0x00, 0x0A, 0x00, 0x00, 0, 0, 0, 0, 0, 0, 0, 0, 0, 0, 0, 0, 0, 0, 0, 0,
-    1, 0, 0, 0, 0, 0, 0, 0, 0x40, 0, 0, 0, 0, 0, 0, 0, 0, 0, 0, 0, 0, 0, 0, 0, 0, 0, 0, 0, 0, 0, 0,
-    0, 0, 0, 0, 0, 0, 0, 0, 0, 9, 0, 0, 0, 0x4C, 0, 0, 0, 0x50, 0, 0, 0, 0x76, 0, 0, 0, 0x61, 0,
-    0xFF, 0xFF, 4, 0, 0xFF, 0xFF, 8, 0, 1, 0, 0xFF, 0xFF, 9, 0, 0x62, 0, 0, 0,
+    0x4B, 0x58, 0x54, 0x53, // 0: identifier
+    0, 0x0A, 0, 0, // 4: version of the format
+    0, 0, 0, 0, 0, 0, 0, 0, 0, 0, 0, 0, 0, 0, 0, 0, // 8: checksum, keyboard id, registered, version of the keyboard
+    1, 0, 0, 0, // 24: number of stores
+    0, 0, 0, 0, // 28: number of groups
+    0x40, 0, 0, 0, // 32: offset of the store array
+    0, 0, 0, 0, // 36: offset of the group array
+    0, 0, 0, 0, // 40: start group for non-Unicode applications
+    0, 0, 0, 0, // 44: start group for Unicode applications
+    0, 0, 0, 0, 0, 0, 0, 0, // 48: flags, hotkey
+    0, 0, 0, 0, 0, 0, 0, 0, // 56: offset and size of the bitmap
+    9, 0, 0, 0, // 64: store: system id
+    0x4C, 0, 0, 0, // 68: offset of its name
+    0x50, 0, 0, 0, // 72: offset of its elements
+    0x76, 0, 0, 0, // 76: name of the store: v
+    0x61, 0, // 80: elements of the store: `a`
+    0xFF, 0xFF, 4, 0, // 82: nul
+    0xFF, 0xFF, 8, 0, 1, 0, // 86: a deadkey
+    0xFF, 0xFF, 9, 0, // 92: a code that no item has
+    0x62, 0, // 96: `b`
+    0, 0, // 98: end of the string
 ];
 
 /// Returns whether the file has the numbers and counts of the file of one rule.

@@ -29,7 +29,7 @@ const FAULTS: &[(&str, (u32, u32), Status, &str, Option<usize>)] = &[
 
 /// A source and a script, and the lines of their play, which are of each kind except a refusal.
 const EACH_KIND: (&str, &str) = (
-    "store(o) \"0\"¶@+ 'a' > 'y'¶+ 's' > set(o = \"1\") save(o)¶",
+    "store(o) \"0\"¶§+ 'a' > 'y'¶+ 's' > set(o = \"1\") save(o)¶",
     "[K_A] [K_S]¶expect 'z'¶caret 0¶",
 );
 
@@ -80,7 +80,7 @@ fn ends_so(
 /// Returns whether the first run ends like this if these calls fail.
 fn is_fault(alloc: Global, calls: (u32, u32), wanted: Ending) -> Result<bool, Fail> {
     let mut sink = sink(alloc, calls.1)?;
-    let mut folder = folder(alloc, "@+ 'a' > 'b'¶", b"", "[K_A]¶", calls.0)?;
+    let mut folder = folder(alloc, "§+ 'a' > 'b'¶", b"", "[K_A]¶", calls.0)?;
     ends_so(
         alloc,
         "test a.kmn out a.keys",
@@ -201,7 +201,7 @@ fn sizes(rt: HostRuntime) -> Result<(), Fail> {
 
 /// Writes a source `a.kmn` whose bitmap (the icon file of the keyboard) is one byte longer than its limit.
 fn write_long_picture(alloc: Global, folder: &mut MemoryFolder) -> Result<(), Fail> {
-    let source = written_out(alloc, "store(&bitmap) 'p.ico'¶@+ 'a' > 'b'¶")?;
+    let source = written_out(alloc, "store(&bitmap) 'p.ico'¶§+ 'a' > 'b'¶")?;
     folder.write(alloc, b"a.kmn", source.as_bytes())?;
     let picture = equal_bytes(alloc, 0, 1_048_577)?;
     folder.write(alloc, b"p.ico", picture.as_slice())?;

@@ -18,38 +18,46 @@ enum Change {
 /// The text before a caret and the text after it, a change, and its result.
 type ChangeRow = (&'static str, &'static str, Change, &'static str);
 
-/// In the result of a change the caret is `|`, a line feed `/` and a tab `~`. A refusal is followed by the text after the call.
+/// In the result of a change the caret is `|`, a line feed `¶` and a tab `␉`. A refusal is followed by the text after the call.
 const CHANGES: &[ChangeRow] = &[
-    ("ab", "cd", Change::Key(13, 0), "ab/|cd"),
-    ("", "", Change::Key(13, 0), "/|"),
-    ("ab", "cd", Change::Key(9, 16), "ab~|cd"),
+    // Enter and Tab insert a character, Tab also with SHIFT.
+    ("ab", "cd", Change::Key(13, 0), "ab¶|cd"),
+    ("", "", Change::Key(13, 0), "¶|"),
+    ("ab", "cd", Change::Key(9, 16), "ab␉|cd"),
+    // Left and Right, also with caps lock on.
     ("ab", "cd", Change::Key(37, 0), "a|bcd"),
     ("", "cd", Change::Key(37, 0), "|cd"),
     ("ab", "", Change::Key(37, 256), "a|b"),
     ("ab", "cd", Change::Key(39, 0), "abc|d"),
     ("ab", "", Change::Key(39, 0), "ab|"),
     ("", "cd", Change::Key(39, 0), "c|d"),
+    // Home and End.
     ("ab", "cd", Change::Key(36, 0), "|abcd"),
     ("", "cd", Change::Key(36, 0), "|cd"),
     ("ab", "cd", Change::Key(35, 0), "abcd|"),
     ("ab", "", Change::Key(35, 0), "ab|"),
+    // Delete.
     ("ab", "cd", Change::Key(46, 0), "ab|d"),
     ("ab", "", Change::Key(46, 0), "ab|"),
     ("", "c", Change::Key(46, 0), "|"),
+    // Backspace and F1 do nothing here.
     ("ab", "cd", Change::Key(8, 0), "ab|cd"),
     ("ab", "cd", Change::Key(112, 0), "ab|cd"),
+    // Keys with CTRL or ALT held do nothing. Other bits of the modifiers do not count.
     ("ab", "cd", Change::Key(13, 1), "ab|cd"),
     ("ab", "cd", Change::Key(37, 2), "ab|cd"),
     ("ab", "cd", Change::Key(36, 4), "ab|cd"),
     ("ab", "cd", Change::Key(46, 8), "ab|cd"),
     ("ab", "cd", Change::Key(9, 18), "ab|cd"),
     ("ab", "cd", Change::Key(35, 64), "abcd|"),
+    // Caret moves: a position is at most the length of the text.
     ("ab", "cd", Change::Caret(0), "|abcd"),
     ("ab", "cd", Change::Caret(2), "ab|cd"),
     ("ab", "cd", Change::Caret(3), "abc|d"),
     ("ab", "cd", Change::Caret(4), "abcd|"),
     ("ab", "cd", Change::Caret(5), "E1 ab|cd"),
     ("", "", Change::Caret(0), "|"),
+    // Edits after the caret, before it, and across it.
     ("ab", "cd", Change::Edit(2, 2, "xy"), "ab|xycd"),
     ("ab", "cd", Change::Edit(3, 4, ""), "ab|c"),
     ("ab", "cd", Change::Edit(0, 1, "xyz"), "xyzb|cd"),
@@ -57,11 +65,13 @@ const CHANGES: &[ChangeRow] = &[
     ("ab", "cd", Change::Edit(1, 3, "xyz"), "axyz|d"),
     ("ab", "cd", Change::Edit(1, 3, ""), "a|d"),
     ("ab", "cd", Change::Edit(0, 4, "xyz"), "xyz|"),
+    // Edits with the caret at the start of the text.
     ("", "ab", Change::Edit(0, 0, "xy"), "|xyab"),
     ("", "ab", Change::Edit(0, 2, "xy"), "|xy"),
+    // Positions after the end, or in the wrong order; an edit at the end.
     ("ab", "cd", Change::Edit(4, 5, "x"), "E1 ab|cd"),
     ("ab", "cd", Change::Edit(3, 2, "x"), "E1 ab|cd"),
-    ("ab", "cd", Change::Edit(4, 4, "\t"), "ab|cd~"),
+    ("ab", "cd", Change::Edit(4, 4, "\t"), "ab|cd␉"),
 ];
 
 /// Inserts a text before the caret.
@@ -88,8 +98,8 @@ fn editor_of(alloc: Global, left: &str, right: &str) -> Result<Editor, Memory> {
 /// Returns a character in the notation of the table.
 fn written(c: char) -> char {
     match c {
-        '\n' => '/',
-        '\t' => '~',
+        '\n' => '¶',
+        '\t' => '␉',
         other => other,
     }
 }

@@ -7,7 +7,7 @@ use event_text::{CacheBox, Edited, Inserted, Left};
 use kmn_base::Item::{Char, Mark};
 use kmn_base::limits::EVENT_PUTS;
 use kmn_base::{Item, Memory};
-use source_tests::fixtures::{parted, put_items};
+use source_tests::fixtures::{is_row, parted, put_items};
 use std::alloc::Global;
 use std::fmt::Write;
 use std::test::Fail;
@@ -17,12 +17,15 @@ use std::test::Fail;
 /// mark (a deadkey in the item list), `<` to remove the last item, or `#` to remove the last character with the marks around
 /// it.
 const CASES: &str = "\
+== no step, and appended characters
 | ⇒ 0||
 abc|xy ⇒ 0|xy|abcxy
+== what is appended and removed again is not inserted
 abc|<x ⇒ 1|x|abx
 abc|x<y ⇒ 0|y|abcy
 abc|x<<y ⇒ 1|y|aby
 abc|<<bd ⇒ 1|d|abd
+== marks, and more removals than items
 abc|*d ⇒ 0|d|abc*d
 abc|*d*# ⇒ 0||abc
 ab|<<<<*#x ⇒ 2|x|x";
@@ -97,7 +100,7 @@ fn tells(alloc: Global, row: &str) -> Result<bool, Fail> {
 
 #[test]
 fn edits_of_events(rt: HostRuntime) -> Result<(), Fail> {
-    for row in CASES.lines() {
+    for row in CASES.lines().filter(is_row) {
         assert!(rt; tells(rt.alloc(), row)?, "{row}");
     }
     Ok(())

@@ -37,7 +37,7 @@ fn write_text(out: &mut String, text: &str) -> Result<(), AllocError> {
             '¶' => out.push('\n')?,
             '␍' => out.push('\r')?,
             '⌖' => out.push('\u{FEFF}')?,
-            '@' => out.push_str("begin Unicode > use(main)\ngroup(main) using keys\n")?,
+            '§' => out.push_str("begin Unicode > use(main)\ngroup(main) using keys\n")?,
             _ => out.push(c)?,
         }
     }

@@ -11,8 +11,10 @@ use compile_tests::fixtures::ONE_RULE;
 use host_rows::HOST_RUNS;
 use kmn_base::Seq;
 use kmn_outside::MemoryFolder;
-use rows::{FILE_RUNS, LAYOUT_RUNS, LONG_RUNS, RUNS, SAMPLE, TEXT};
+use rows::{FILE_RUNS, LAYOUT_RUNS, LONG_RUNS, RUNS, TEXT};
 use shadow_rows::SHADOW_RUNS;
+use source_tests::fixtures::is_row;
+use source_tests::sample::SAMPLE;
 use std::alloc::{Alloc, Global};
 use std::process::Abort;
 use std::str;
@@ -133,6 +135,9 @@ fn check_runs(rt: &(impl Abort + Alloc<A = Global>), table: &str) -> Result<(), 
     let table = table.replace(rt.alloc(), "\\\n", "")?;
     let mut lines = table.lines();
     while let Some(words) = lines.next() {
+        if !is_row(&words) {
+            continue;
+        }
         let row = Run {
             words,
             source: lines.next().unwrap_or(""),
@@ -165,7 +170,7 @@ fn runs_on_files(rt: HostRuntime) -> Result<(), Fail> {
 
 /// Returns whether the first source compiles to these bytes.
 fn is_compiled_to(alloc: Global, file: &[u8]) -> Result<bool, Fail> {
-    Ok(compiled(alloc, "@+ 'a' > 'b'¶")?.as_slice() == file)
+    Ok(compiled(alloc, "§+ 'a' > 'b'¶")?.as_slice() == file)
 }
 
 #[test]
@@ -176,7 +181,7 @@ fn first_file(rt: HostRuntime) -> Result<(), Fail> {
 
 /// Returns whether the compiled keyboard of the first source decompiles to this text.
 fn is_decompiled_to(alloc: Global, text: &[u8]) -> Result<bool, Fail> {
-    let file = compiled(alloc, "@+ 'a' > 'b'¶")?;
+    let file = compiled(alloc, "§+ 'a' > 'b'¶")?;
     let mut folder = folder(alloc, "", file.as_slice(), "", 0)?;
     let mut sink = sink(alloc, 0)?;
     ended(alloc, "decompile a.kmx out", &mut folder, &mut sink)?;
@@ -202,7 +207,7 @@ fn is_refused_behind(alloc: Global, count: u32, last: &str, printed: &str) -> Re
         alloc,
         Run {
             words: "test a.kmn out a.keys",
-            source: "@+ 'a' > 'b'¶",
+            source: "§+ 'a' > 'b'¶",
             script: script.as_str(),
             ends: "1 122",
             printed,

@@ -20,6 +20,12 @@ pub fn parted(row: &str) -> Result<(&str, &str), &'static str>
     row.split_once(ANSWER_SIGN).ok_or("a row without an answer")
 }
 
+/// Returns whether a line of a table is a row. Any other line is a heading, which starts with `== ` and names what the rows below
+/// it show.
+pub fn is_row(line: &&str) -> bool {
+    !line.starts_with("== ")
+}
+
 /// Returns the character that a character of a table represents: `¶` is a line feed, `␍` a carriage return, `␉` a tab, `␀` U+0000,
 /// `␡` U+FFFF, `⌖` U+FEFF and `·` U+00A0. Any other character represents itself.
 pub fn character(c: char) -> char {

@@ -17,6 +17,7 @@ mod lines;
 mod names;
 #[cfg(test)]
 mod rows;
+pub mod sample;
 #[cfg(test)]
 mod statements;
 #[cfg(test)]

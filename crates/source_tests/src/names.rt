@@ -1,6 +1,6 @@
 //! Sources, each with the first refusal of its names, and one source with the numbers of its names.
 
-use crate::fixtures::{is_refusal, parted, source_of};
+use crate::fixtures::{is_refusal, is_row, parted, source_of};
 use kmn_base::CompileError;
 use kmn_parser::parse;
 use rule_model::Program;
@@ -9,27 +9,34 @@ use std::test::Fail;
 use store_table::{Names, number};
 
 const REFUSALS: &str = "\
+== start groups
 group(m)¶begin Unicode > use(m)¶begin ANSI > use(m)¶begin Unicode > use(m) ⇒ C02 4
 group(m)¶begin Unicode > use(m)¶begin Unicode > use(x) ⇒ C02 3
 begin Unicode > use(x)¶begin Unicode > use(x)¶group(m) ⇒ C06 1
 group(m)¶begin ANSI > use(x) ⇒ C06 2
+== names of stores and groups
 store(a)¶store(b)¶store(A) ⇒ C03 3
 store(a)¶store(a) outs(z) ⇒ C03 2
 store(&name)¶store(&name)¶store(&language)¶store(&language)¶store(a) ⇒ none
 group(m)¶group(n)¶group(M) ⇒ C04 3
+== the first name in a statement that nothing has
 group(m)¶any(a) > outs(b) ⇒ C05 2
 group(m)¶'x' > use(z) outs(a) ⇒ C06 2
 group(m)¶'x' > outs(a) use(z) ⇒ C05 2
+== stores that name later ones
 store(a) outs(b)¶store(b) ⇒ C07 1
 store(a) outs(a) ⇒ C07 1
 store(a) outs(z) ⇒ C05 1
 store(a) outs(b) outs(z)¶store(b) ⇒ C07 1
 store(a) outs(z) outs(b)¶store(b) ⇒ C05 1
+== match and nomatch
 group(m)¶match > 'x'¶nomatch > 'x'¶match > 'x' ⇒ C15 4
 group(m)¶nomatch > 'x'¶nomatch > outs(z) ⇒ C15 3
 group(m)¶match > 'x'¶group(n)¶match > 'x' ⇒ none
+== the first line counts
 group(m)¶'x' > use(z)¶store(a)¶store(a) ⇒ C06 2
 store(a)¶store(a)¶group(m)¶'x' > use(z) ⇒ C03 2
+== names without ASCII case
 begin Unicode > use(M)¶store(a) 'x'¶store(b) outs(A)¶group(m)¶any(B) > outs(a) use(m) ⇒ none";
 
 /// Marks and custom keys of stores and rules are numbered in the order of their lines.
@@ -102,7 +109,7 @@ fn are_numbered(alloc: Global) -> Result<bool, Fail> {
 
 #[test]
 fn names_of_programs(rt: HostRuntime) -> Result<(), Fail> {
-    for row in REFUSALS.lines() {
+    for row in REFUSALS.lines().filter(is_row) {
         assert!(rt; is_refused(rt.alloc(), row)?, "{row}");
     }
     assert!(rt; are_numbered(rt.alloc())?);

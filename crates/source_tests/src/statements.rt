@@ -1,7 +1,8 @@
 //! Sources that the parser reads, each with the expected result.
 
-use crate::fixtures::{parted, source_of};
-use crate::rows::{ITEMS, LIMITS, LINES, LimitRow, SAMPLE, SAMPLE_RULES, STATEMENTS, TOKENS};
+use crate::fixtures::{is_row, parted, source_of};
+use crate::rows::{ITEMS, LIMITS, LINES, LimitRow, SAMPLE_RULES, STATEMENTS, TOKENS};
+use crate::sample::SAMPLE;
 use crate::telling::{write_error, write_groups, write_program};
 use kmn_base::{Code, CompileError, Refusal};
 use kmn_parser::parse;
@@ -102,7 +103,7 @@ fn is_refused(alloc: Global, source: &[u8], code: Code) -> bool {
 #[test]
 fn worked_rows(rt: HostRuntime) -> Result<(), Fail> {
     for table in &[TOKENS, LINES, STATEMENTS, ITEMS] {
-        for row in table.lines() {
+        for row in table.lines().filter(is_row) {
             assert!(rt; is_answered(rt.alloc(), row)?, "{row}");
         }
     }
