@@ -190,7 +190,7 @@ function missing_at(at, name) {
     return quoted(word(at) ~ /^\$/ ? substr(token[at], 2) : token[at + 2])
 }
 
-# Returns how a key that no key press can give is written.
+# Returns how a key that no key press can produce is written.
 function large_key(at) {
     return item_named(at) (word(at) == "any" ? "" : " as a key\t`U+10000` as a key")
 }

@@ -160,7 +160,7 @@ module _ (convert : Group → Group) (alike : GroupsAlike convert) (start : Ref)
     abbrev given_kb : Keyboard
     given_kb = keyboard start stores dictionary (given_groups groups)
 
-    -- the same in a group, if groups are entered alike
+    -- the same in a group, if entering a group has the same effect in both
     step_same : (first second : Ref → EventState → EventState) → first ≡ second → (press : KeyPress) (ref : Ref) (s : EventState)
         → in_group converted_kb first press (group_at (converted_groups groups) ref) s ≡ in_group given_kb second press (group_at (given_groups groups) ref) s
     step_same first second same press ref s =

@@ -1,4 +1,4 @@
--- Three conversions of tables for Keyman's own engine. Each one leaves the trace of every list of events as it was (`specs/Laws`).
+-- Three conversions of tables for Keyman's own engine. None of them changes the trace of any list of events (`specs/Laws`).
 use Rattle.std.specs.Prelude.{ℕ, Bool, true, false, not, ◌&&◌, ◌||◌, nat_eq, nat_lt, bit_and, if◌then◌else◌, List, [], ◌∷◌, length, map}
 use Rattle.std.specs.List.{list_all, list_any}
 use Rattle.kmn_base.specs.declared.keys.RuleKey.{RuleKey}

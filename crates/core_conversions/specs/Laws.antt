@@ -1,4 +1,4 @@
--- The conversions leave what a keyboard does as it was.
+-- The conversions do not change what a keyboard does.
 use Rattle.std.specs.Prelude.{◌≡◌, List}
 use Rattle.kmn_base.specs.declared.events.Event.{Event}
 use Rattle.rule_model.specs.declared.tables.Tables.{Tables}

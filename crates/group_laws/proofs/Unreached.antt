@@ -90,7 +90,7 @@ module _ (kept : Kept) (caseless : (a b : List ℕ) → same_name a b ≡ true �
         | false ↦ λ e. first_stays groups parts.1
       ] refl
 
-  -- and it enters groups that stay alone
+  -- and it enters only groups that stay
   pub found_stays : (groups : List GroupMeaning) → list_all (is_closed_at kept) groups ≡ true → GroupStays (group_at groups (Named name))
   found_stays groups h = subst GroupStays (sym (found_is_first is_named groups)) (first_stays groups h)
 

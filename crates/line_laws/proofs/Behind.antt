@@ -79,7 +79,7 @@ physical_lines_of_both line front a b h p =
     ∙ ap (λ (xs : List ℕ). physical_lines line k line_start k xs ++ further (k + length a) b n) (sym (drop-append_seam front a))
     ∙ ap (λ (xs : List ℕ). physical_lines_at line k (front ++ a) ++ further (k + length a) xs n) (sym end)
 
--- physical lines of which the last isn't joined, gathered behind a line that was begun
+-- physical lines of which the last is not joined, gathered after a line that was begun
 gather-if : (e : Bool) (xs ys us vs ws : List Logical) → xs ≡ us ++ ws → ys ≡ vs ++ ws → (if e then xs else ys) ≡ (if e then us else vs) ++ ws
 gather-if true xs ys us vs ws g h = g
 gather-if false xs ys us vs ws g h = h

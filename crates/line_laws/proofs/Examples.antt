@@ -25,7 +25,7 @@ cr_lf-both = refl
 cr_lf-each : lines_in (13 ∷ []) ++ lines_in (10 ∷ []) ≡ (13 ∷ []) ∷ (10 ∷ []) ∷ []
 cr_lf-each = refl
 
--- a first U+FEFF is no part of a word, and further on it is
+-- U+FEFF is part of a word, except at the start of the source
 mark-line : logicals (0xEF ∷ 0xBB ∷ 0xBF ∷ 120 ∷ []) ≡ record { first_line = 1; from = 3; to = 4 } ∷ []
 unfolding logicals
 mark-line = refl
@@ -38,7 +38,7 @@ mark-further : with_texts (10 ∷ 0xEF ∷ 0xBB ∷ 0xBF ∷ 120 ∷ []) (line_t
 unfolding line_tokens parts_in is_skipped dropped same_name token_size token_kind in_word
 mark-further = refl
 
--- x, a backslash and an LF are one logical line, and with a y behind them again one
+-- x, a backslash and an LF are one logical line, and so are they with a y after them
 joint-one : logicals (120 ∷ 92 ∷ 10 ∷ []) ≡ record { first_line = 1; from = 0; to = 3 } ∷ []
 unfolding logicals
 joint-one = refl
@@ -50,7 +50,7 @@ joint-both = refl
 joint-joins : ends_joined (physical_lines_at 1 0 (120 ∷ 92 ∷ 10 ∷ [])) ≡ true
 joint-joins = refl
 
--- x and an LF, and y behind them, are two lines
+-- x and an LF, and then y, are two lines
 two_lines : AreLines ((120 ∷ 10 ∷ []) ∷ (121 ∷ []) ∷ [])
 two_lines = (refl, refl, (λ e. refl), refl, refl)
 

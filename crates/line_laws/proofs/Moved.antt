@@ -148,7 +148,7 @@ text-moved front line from to =
     ∙ sym (drop-drop from (length front) (front ++ take to line))
     ∙ ap (λ (xs : List ℕ). drop from xs) (drop-append_seam front (take to line))
 
--- the text of a line that is moved behind a front
+-- the text of a line that is moved to a place after a front
 line-moved : (front line : List ℕ) (n m from at start place x y : ℕ) (r s : LineState) → start ≡ length front + from → place ≡ length front + at → s ≡ moved (length front) r
     → physical_text (front ++ line) (physical_line n start place x s) ≡ physical_text line (physical_line m from at y r)
 line-moved front line n m from at start place x y r s e f g =
@@ -231,14 +231,14 @@ opening-end size source (p ∷ ps) (e, h) =
     parts_end-if size (is_skipped (physical_text source p)) _ _ tt
     (e, parts_end-if size (list_all is_blank (physical_text source p)) _ _ (opening-end size source ps h) (later-end size ps h))
 
--- the texts of parts that end before a place do not ask what stands behind it
+-- the texts of parts that end before a place do not depend on what follows the place
 texts-before : (size : ℕ) (source : List ℕ) (ps : List Part) → PartsEnd size ps → map (part_text source) ps ≡ map (part_text (take size source)) ps
 texts-before size source [] h = refl
 texts-before size source (p ∷ ps) (e, h) =
     ap (λ (xs : List ℕ). drop p.from xs ∷ map (part_text source) ps) (sym (take-take p.to size source e))
     ∙ ap (λ (xs : List (List ℕ)). part_text (take size source) p ∷ xs) (texts-before size source ps h)
 
--- the texts that are tokenised of the line at a place
+-- the texts that are the tokens of the line at a place
 abbrev texts_at : ℕ → ℕ → List ℕ → List (List ℕ)
 texts_at n at source = opened (map (physical_text source) (physical_lines_at n at source))
 
@@ -268,7 +268,7 @@ take-over [] (suc n) h = refl
 take-over (x ∷ xs) zero h = absurd (omega arith)
 take-over (x ∷ xs) (suc n) h = ap (λ (ys : List ℕ). x ∷ ys) (take-over xs n (omega arith))
 
--- a line that is all there is stands from the first byte to the last
+-- if a source is one line, the line is from its first byte to its last
 record IsAll (line : List ℕ) (l : Logical) : Type 0 where
   first : l.from ≡ 0
   last : length line ≤ l.to
@@ -289,7 +289,7 @@ line-is_all (byte ∷ bytes) l h e =
       last = omega (arith, long, length-drop l.from (take l.to line), length-take l.to line);
     }
 
--- bytes that are one line have the same texts wherever they stand
+-- bytes that are one line have the same texts at each place
 texts-of_line : (number : ℕ) (front line behind : List ℕ) (l : Logical) → bom_size line ≡ 0 → logicals line ≡ l ∷ [] → line_texts (front ++ (line ++ behind)) (placed number front line) ≡ line_texts line l
 texts-of_line number front line behind l h e =
     let whole : List ℕ = front ++ (line ++ behind) in
