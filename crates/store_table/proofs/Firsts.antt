@@ -1,5 +1,5 @@
 -- The first refusal, statement by statement.
-use Rattle.std.proofs.Common.{◌≡◌, ℕ, ◌+◌, ◌<◌, Bool, true, false, cond, nat_lt, List, [], ◌∷◌, ◌++◌, take, drop, length, get_or, Option, Some, None, refl, sym, ap, ◌∙◌, arith}
+use Rattle.std.proofs.Common.{◌≡◌, ℕ, ◌+◌, ◌<◌, Bool, true, false, cond, nat_lt, List, [], ◌∷◌, ◌++◌, take, drop, length, get_or, Option, Some, None, refl, sym, ap, ◌∙◌, arith, flat_map, option_to_list}
 use Rattle.std.proofs.lemmas.Bool.Decides.{nat_tests}
 use Rattle.std.proofs.lemmas.List.{drop_more}
 use Rattle.std.proofs.lemmas.List.Concat.{flat_map-append}
@@ -11,9 +11,10 @@ use Rattle.std.specs.Prelude.{◌||◌}
 use Rattle.std.specs.Option.{option_or}
 use Rattle.std.proofs.lemmas.List.Folds.{list_any_more}
 use Rattle.kmn_base.specs.declared.codes.Code.{Code}
-use Rattle.store_table.specs.First.{earlier, first_of, first_code}
-use Rattle.std.proofs.lemmas.List.{map-append}
+use Rattle.store_table.specs.First.{earlier, first_of, first_code, all_of, first_among}
+use Rattle.std.proofs.lemmas.List.{map-append, append_assoc}
 use Rattle.rule_model.specs.declared.program.GroupDef.{GroupDef}
+use Rattle.rule_model.specs.declared.program.RuleDef.{RuleDef}
 use Rattle.store_table.specs.Names.{store_names, group_names}
 
 -- the earliest of three refusals
@@ -60,3 +61,12 @@ first_kept f xs i x best found h e is =
     ap (λ r. earlier (earlier best r) (first_of f (take (i + 1) xs) (drop (i + 1) xs))) is
     ∙ earlier_later best (f (take i xs) x) (first_of f (take (i + 1) xs) (drop (i + 1) xs))
     ∙ ap (earlier best) (sym (first_step f xs i x h e))
+
+-- the refusals so far with those of another statement
+pub all_kept : {X : Type 0} (f : List X → X → Option Refusal) (xs : List X) (i : ℕ) (x : X) (refusals : List Refusal) (found : Option Refusal) → i < length xs → x ≡ get_or xs i x → found ≡ f (take i xs) x
+    → (refusals ++ option_to_list found) ++ all_of f (take (i + 1) xs) (drop (i + 1) xs) ≡ refusals ++ all_of f (take i xs) (drop i xs)
+all_kept f xs i x refusals found h e is =
+    append_assoc refusals (option_to_list found) (all_of f (take (i + 1) xs) (drop (i + 1) xs))
+    ∙ ap (λ r. refusals ++ (option_to_list r ++ all_of f (take (i + 1) xs) (drop (i + 1) xs))) is
+    ∙ ap (λ before. refusals ++ (option_to_list (f (take i xs) x) ++ all_of f before (drop (i + 1) xs))) (take_next xs i x h e)
+    ∙ sym (ap (λ left. refusals ++ all_of f (take i xs) left) (drop_more xs i x h ∙ ap (λ y. y ∷ drop (i + 1) xs) (sym e)))

@@ -1,3 +1,4 @@
+pub mod FirstAmong
 pub mod Firsts
 pub mod Naming
 pub mod PlaceLemmas

@@ -1,5 +1,5 @@
 -- The first refusal of statements: by line, then by reading order in the line, then by code.
-use Rattle.std.specs.Prelude.{ℕ, nat_lt, Bool, if◌then◌else◌, List, [], ◌∷◌, ◌++◌, Option, None, Some, Result, Ok, Err}
+use Rattle.std.specs.Prelude.{ℕ, nat_lt, Bool, if◌then◌else◌, List, [], ◌∷◌, ◌++◌, Option, None, Some, option_to_list, Result, Ok, Err}
 use Rattle.std.specs.Option.{option_or}
 use Rattle.kmn_base.specs.declared.codes.Code.{Code}
 use Rattle.kmn_base.specs.declared.refusals.Refusal.{Refusal}
@@ -30,6 +30,17 @@ abbrev pub first_of : {X : Type 0} → (List X → X → Option Refusal) → Lis
 first_of refusal before [] = None
 first_of refusal before (statement ∷ statements) =
     earlier (refusal before statement) (first_of refusal (before ++ statement ∷ []) statements)
+
+-- all refusals of statements of one kind, in the order of the statements; each is checked with the statements of its kind that precede it
+abbrev pub all_of : {X : Type 0} → (List X → X → Option Refusal) → List X → List X → List Refusal
+all_of refusal before [] = []
+all_of refusal before (statement ∷ statements) =
+    option_to_list (refusal before statement) ++ all_of refusal (before ++ statement ∷ []) statements
+
+-- the refusal with the earliest line among refusals, and the first of those at that line
+abbrev pub first_among : List Refusal → Option Refusal
+first_among [] = None
+first_among (refusal ∷ refusals) = earlier (Some refusal) (first_among refusals)
 
 -- a value, or its refusal if there is one
 abbrev pub or_refusal : {A : Type 0} → A → Option Refusal → Result A Refusal

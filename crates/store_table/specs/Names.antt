@@ -1,5 +1,5 @@
 -- The refusals for a program's names: names that are defined twice, and names that are used and not defined.
-use Rattle.std.specs.Prelude.{ℕ, Bool, false, not, ◌&&◌, nat_eq, if◌then◌else◌, List, [], ◌∷◌, map, flat_map, is_some, Option}
+use Rattle.std.specs.Prelude.{ℕ, Bool, false, not, ◌&&◌, nat_eq, if◌then◌else◌, List, [], ◌∷◌, ◌++◌, map, flat_map, is_some, Option}
 use Rattle.std.specs.List.{list_any}
 use Rattle.std.specs.Option.{option_or}
 use Rattle.kmn_base.specs.declared.codes.Code.{Code}
@@ -18,7 +18,7 @@ use Rattle.rule_model.specs.declared.program.Program.{Program}
 use Rattle.rule_model.specs.Naming.{is_dropped, rule_items}
 use Rattle.rule_model.specs.Src.{is_unicode, is_on_match, is_on_nomatch}
 use Rattle.store_table.specs.declared.stating.Stated.{Stated}
-use Rattle.store_table.specs.First.{broken, first_code, at_line, earlier, first_of}
+use Rattle.store_table.specs.First.{broken, first_code, at_line, earlier, first_of, all_of}
 
 -- whether a name is among others
 unfoldable pub is_named : List (List ℕ) → List ℕ → Bool
@@ -156,3 +156,14 @@ names_refusal program =
     earlier (first_of (begin_refusal (stated program)) [] program.begins)
     (earlier (first_of (store_refusal (stated program)) [] program.stores)
     (earlier (first_of group_refusal [] program.groups) (first_of (rules_refusal (stated program)) [] program.groups)))
+
+-- all refusals of the statements of a group
+abbrev pub rules_refusals : Stated → GroupDef → List Refusal
+rules_refusals stated group = all_of (rule_refusal stated) [] group.rules
+
+-- all refusals for names: of begin, store and group statements, then of the statements of each group
+unfoldable pub names_refusals : Program → List Refusal
+names_refusals program =
+    all_of (begin_refusal (stated program)) [] program.begins
+    ++ (all_of (store_refusal (stated program)) [] program.stores
+    ++ (all_of group_refusal [] program.groups ++ flat_map (rules_refusals (stated program)) program.groups))

@@ -48,14 +48,14 @@ fn begins_refusal(stated: &Stated, begins: &[BeginDef]) -> Option<Refusal>
 }
 
 /// Returns whether an earlier begin statement has the same kind.
-fn is_begun(start: &BeginDef, unicode: bool, ansi: bool) -> bool
+pub fn is_begun(start: &BeginDef, unicode: bool, ansi: bool) -> bool
     ensures { result ≡ (if start.now.unicode then unicode else ansi) }
 {
     if start.unicode { unicode } else { ansi }
 }
 
 /// Returns the rule that a begin statement breaks.
-fn begin_code(stated: &Stated, again: bool, start: &BeginDef) -> Option<Code>
+pub fn begin_code(stated: &Stated, again: bool, start: &BeginDef) -> Option<Code>
     ensures { result ≡ begin_code stated.now again start.now }
 {
     if again {
@@ -68,7 +68,7 @@ fn begin_code(stated: &Stated, again: bool, start: &BeginDef) -> Option<Code>
 }
 
 /// Returns whether one of two conditions is true.
-fn either(one: bool, other: bool) -> bool
+pub fn either(one: bool, other: bool) -> bool
     ensures { result ≡ (one || other) }
 {
     one || other
@@ -94,7 +94,7 @@ fn stores_refusal(
 }
 
 /// Returns the rule that a store statement breaks, after stores with these names.
-fn store_code(stated: &Stated, before: &NameTable, store: &StoreDef) -> Option<Code>
+pub fn store_code(stated: &Stated, before: &NameTable, store: &StoreDef) -> Option<Code>
     ensures { result ≡ store_code stated.now before.now store.now }
 {
     if is_store_again(before, store) {
@@ -183,7 +183,7 @@ fn groups_refusal(alloc: Global, groups: &[GroupDef]) -> Result<Option<Refusal>,
 }
 
 /// Returns the rule that a group statement breaks, after groups with these names.
-fn group_code(before: &NameTable, group: &GroupDef) -> Option<Code>
+pub fn group_code(before: &NameTable, group: &GroupDef) -> Option<Code>
     ensures { result ≡ group_code before.now group.now }
 {
     if before.has(group.name.as_slice()) {
@@ -223,7 +223,7 @@ fn rules_refusal(stated: &Stated, rules: &[RuleDef]) -> Option<Refusal>
 }
 
 /// Returns whether a statement is the second match or nomatch, given whether there is a match and whether there is a nomatch before it.
-fn is_second(rule: &RuleDef, matched: bool, unmatched: bool) -> bool
+pub fn is_second(rule: &RuleDef, matched: bool, unmatched: bool) -> bool
     ensures { result ≡ is_second matched unmatched rule.now.kind }
 {
     match rule.kind {
@@ -235,7 +235,7 @@ fn is_second(rule: &RuleDef, matched: bool, unmatched: bool) -> bool
 
 /// Returns the rule that a rule, match or nomatch statement breaks.
 #[tactic(auto, using(crate::proofs::Firsts::first_code_append))]
-fn rule_code(stated: &Stated, again: bool, rule: &RuleDef) -> Option<Code>
+pub fn rule_code(stated: &Stated, again: bool, rule: &RuleDef) -> Option<Code>
     ensures { result ≡ rule_code stated.now again rule.now }
 {
     if again {
@@ -299,7 +299,7 @@ fn rule_key_code(stated: &Stated, key: &Option<SrcItem>) -> Option<Code>
 }
 
 /// Returns whether a statement is a match statement.
-fn is_match(rule: &RuleDef) -> bool
+pub fn is_match(rule: &RuleDef) -> bool
     ensures { result ≡ is_on_match rule.now }
 {
     match rule.kind {
@@ -309,7 +309,7 @@ fn is_match(rule: &RuleDef) -> bool
 }
 
 /// Returns whether a statement is a nomatch statement.
-fn is_nomatch(rule: &RuleDef) -> bool
+pub fn is_nomatch(rule: &RuleDef) -> bool
     ensures { result ≡ is_on_nomatch rule.now }
 {
     match rule.kind {
