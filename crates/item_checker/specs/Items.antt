@@ -1,5 +1,5 @@
 -- The refusals for a program's items and system stores, if every name is defined. Statements that are read and dropped are also checked.
-use Rattle.std.specs.Prelude.{ℕ, zero, suc, ◌+◌, Bool, true, false, not, ◌&&◌, nat_eq, nat_lt, if◌then◌else◌, List, [], ◌∷◌, ◌++◌, length, slice_get, Option, Some, None, is_some}
+use Rattle.std.specs.Prelude.{ℕ, zero, suc, ◌+◌, Bool, true, false, not, ◌&&◌, nat_eq, nat_lt, if◌then◌else◌, List, [], ◌∷◌, ◌++◌, length, flat_map, slice_get, Option, Some, None, is_some}
 use Rattle.std.specs.List.{list_any}
 use Rattle.std.specs.Option.{option_or}
 use Rattle.kmn_base.specs.declared.codes.Code.{Code}
@@ -20,7 +20,7 @@ use Rattle.rule_model.specs.Match.{same_value}
 use Rattle.rule_model.specs.Naming.{elements_named}
 use Rattle.rule_model.specs.Src.{value_elements}
 use Rattle.kmx_format.specs.Versions.{file_versions}
-use Rattle.store_table.specs.First.{broken, first_code, at_line, earlier, first_of}
+use Rattle.store_table.specs.First.{broken, first_code, at_line, earlier, first_of, all_of}
 use Rattle.store_table.specs.Known.{Known, known, brought, statement_elements}
 use Rattle.store_table.specs.Names.{is_named}
 use Rattle.rule_model.specs.declared.system.TheConstants.{CASED_KEYS, MNEMONIC_LAYOUT, VERSION, BITMAP, LEFT_OUT}
@@ -241,3 +241,12 @@ unfoldable pub items_refusal : Program → Option Refusal
 items_refusal program =
     earlier (first_of (store_refusal (known program)) [] program.stores)
     (first_of (rules_refusal (known program)) [] program.groups)
+
+-- all refusals of the statements of a group
+abbrev pub rules_refusals : Known → GroupDef → List Refusal
+rules_refusals known group = all_of (rule_refusal known) [] group.rules
+
+-- all refusals for items: of store statements, then of the statements of each group
+unfoldable pub items_refusals : Program → List Refusal
+items_refusals program =
+    all_of (store_refusal (known program)) [] program.stores ++ flat_map (rules_refusals (known program)) program.groups

@@ -1,15 +1,15 @@
 //! The items of rules, match and nomatch statements.
 
-ghost use Rattle.std.specs.Prelude.{◌≡◌, [], ◌∷◌, if◌then◌else◌};
+ghost use Rattle.std.specs.Prelude.{◌≡◌, ◌++◌, [], ◌∷◌, OnOk, flat_map, if◌then◌else◌};
 ghost use Rattle.kmn_base.specs.declared.codes.Code.TheVariants.{C10, C12, C13};
-ghost use Rattle.store_table.specs.First.{broken, first_code, first_of};
-ghost use Rattle.item_checker.specs.Items.{index_code, is_any_key, is_far, is_key_place, is_option, is_unfit_store, key_code, key_index_code, match_output_code, output_code, plain_code, has_virtual_key, rule_code, rule_output_code, rule_refusal, rules_refusal};
+ghost use Rattle.store_table.specs.First.{all_of, broken, first_code, first_of};
+ghost use Rattle.item_checker.specs.Items.{index_code, is_any_key, is_far, is_key_place, is_option, is_unfit_store, key_code, key_index_code, match_output_code, output_code, plain_code, has_virtual_key, rule_code, rule_output_code, rule_refusal, rules_refusal, rules_refusals};
 
 use crate::facts::Facts;
 use crate::offsets::{context_at_code, context_code, index_code, is_any_item, offset_code};
-use kmn_base::{Code, Refusal};
+use kmn_base::{Code, Memory, Refusal, Seq};
 use rule_model::{GroupDef, RuleDef, RuleKind, SrcItem};
-use store_table::{at_line, earlier};
+use store_table::{add_refusal, at_line, earlier};
 
 /// Returns the first refusal of the statements of all groups.
 #[tactic(auto, using(store_table::proofs::Firsts::first_kept))]
@@ -33,6 +33,35 @@ fn rules_refusal(facts: &Facts<'_>, rules: &[RuleDef]) -> Option<Refusal>
         first = earlier(first, at_line(rule.line, rule_code(facts, rule)));
     }
     first
+}
+
+/// Appends all refusals of the statements of all groups.
+pub fn add_groups_refusals(
+    refusals: &mut Seq<Refusal>,
+    facts: &Facts<'_>,
+    groups: &[GroupDef],
+) -> Result<(), Memory>
+    ensures { OnOk result (refusals.new ≡ refusals.old ++ flat_map (rules_refusals facts.now) groups.now) }
+{
+    for group in groups {
+        add_rules_refusals(refusals, facts, group.rules.as_slice())?;
+    }
+    Ok(())
+}
+
+/// Appends all refusals of the statements of a group.
+#[tactic(auto, using(store_table::proofs::Firsts::all_kept))]
+fn add_rules_refusals(
+    refusals: &mut Seq<Refusal>,
+    facts: &Facts<'_>,
+    rules: &[RuleDef],
+) -> Result<(), Memory>
+    ensures { OnOk result (refusals.new ≡ refusals.old ++ all_of (rule_refusal facts.now) [] rules.now) }
+{
+    for rule in rules {
+        add_refusal(refusals, at_line(rule.line, rule_code(facts, rule)))?;
+    }
+    Ok(())
 }
 
 /// Returns the rule that a rule, match or nomatch statement breaks.

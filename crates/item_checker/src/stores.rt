@@ -1,19 +1,19 @@
 //! Store statements.
 
-ghost use Rattle.std.specs.Prelude.{◌≡◌, true, [], IfOk};
+ghost use Rattle.std.specs.Prelude.{◌≡◌, ◌++◌, true, [], IfOk, OnOk};
 ghost use Rattle.std.specs.List.{list_all};
-ghost use Rattle.store_table.specs.First.{first_code, first_of};
+ghost use Rattle.store_table.specs.First.{all_of, first_code, first_of};
 ghost use Rattle.rule_model.specs.declared.program.StoreDef.{StoreDef};
 ghost use Rattle.item_checker.specs.Items.{brings_no_character, brings_no_plain_key, uses_option, store_code, store_head_code, store_item_code, store_refusal, needs_characters, needs_plain_keys};
 ghost use Rattle.item_checker.specs.Summaries.{are_found_keys, is_found_key};
 
 use crate::facts::Facts;
 use crate::summaries::is_other_key;
-use kmn_base::{Code, Memory, Refusal};
+use kmn_base::{Code, Memory, Refusal, Seq};
 use rule_model::system::{BITMAP, CASED_KEYS, LEFT_OUT, MNEMONIC_LAYOUT, VERSION};
 use rule_model::{SrcItem, StoreDef};
 use std::alloc::Global;
-use store_table::{at_line, earlier};
+use store_table::{add_refusal, at_line, earlier};
 
 /// Returns the first refusal of store statements. Errors: `Memory` if an allocation fails.
 #[tactic(auto, using(store_table::proofs::Firsts::first_kept, crate::proofs::FoundKeys::found_store))]
@@ -31,6 +31,24 @@ pub fn stores_refusal(
         first = earlier(first, at_line(store.line, code));
     }
     Ok(first)
+}
+
+/// Appends all refusals of store statements. Errors: `Memory` if an allocation fails.
+#[tactic(auto, using(store_table::proofs::Firsts::all_kept, crate::proofs::FoundKeys::found_store))]
+pub fn add_stores_refusals(
+    alloc: Global,
+    refusals: &mut Seq<Refusal>,
+    facts: &Facts<'_>,
+    stores: &[StoreDef],
+) -> Result<(), Memory>
+    requires { list_all (λ (store : StoreDef). are_found_keys facts.now.names store.items) stores.now ≡ true }
+    ensures { OnOk result (refusals.new ≡ refusals.old ++ all_of (store_refusal facts.now) [] stores.now) }
+{
+    for store in stores {
+        let code = store_code(alloc, facts, store)?;
+        add_refusal(refusals, at_line(store.line, code))?;
+    }
+    Ok(())
 }
 
 /// Returns the rule that a store statement breaks. Errors: `Memory` if an allocation fails.
