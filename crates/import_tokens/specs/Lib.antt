@@ -1,0 +1,5 @@
+pub mod Bounds
+pub mod Keys
+pub mod Laws
+pub mod Ranges
+pub mod Scan
