@@ -23,7 +23,8 @@ mod text;
 mod words;
 
 pub use items::{is_item_word, read_items, read_key};
+pub use leads::token_lead;
 pub use slots::broken;
 pub use syntax::{ItemWord, Lead, LineError, Seen, Slot, Taken, TokenRefusal, Where};
-pub use text::{LineTokens, begins_open, text_in};
+pub use text::{LineTokens, begins_open, quoted, text_in};
 pub use words::{bare_name, is_name, is_own_key, is_system_name};

@@ -100,7 +100,7 @@ pub(crate) fn is_wordy(kind: TokenKind) -> bool
 }
 
 /// Returns the characters of a quoted token. Errors: `Memory` if an allocation fails.
-pub(crate) fn quoted(alloc: Global, text: &[u8]) -> Result<Seq<char>, Memory>
+pub fn quoted(alloc: Global, text: &[u8]) -> Result<Seq<char>, Memory>
     ensures { IfOk result (λ characters. characters ≡ quoted text.now) }
 {
     decoded(alloc, inside(text))

@@ -119,6 +119,10 @@ opening_parts source (p ∷ ps) =
     else part_after (dropped (physical_text source p)) p
     ∷ (if list_all is_blank (physical_text source p) then opening_parts source ps else map (part_after 0) ps)
 
+-- the physical lines of a logical line
+abbrev pub physical_lines_in : List ℕ → Logical → List PhysicalLine
+physical_lines_in source l = physical_lines_at l.first_line l.from (take l.to source)
+
 -- the parts of a logical line, which is split into its physical lines again
 unfoldable pub parts_in : List ℕ → Logical → List Part
 parts_in source l =

@@ -7,9 +7,9 @@
 
 ghost use Rattle.std.specs.Prelude.{◌≡◌, ◌≤◌, length, All};
 ghost use Rattle.kmn_base.specs.declared.limits.TheConstants.{TEXT_BYTES};
-ghost use Rattle.kmn_lines.specs.Lines.{logicals, parts_in};
+ghost use Rattle.kmn_lines.specs.Lines.{logicals, physical_lines_in, parts_in};
 ghost use Rattle.kmn_lines.specs.Places.{IsPlaced};
-ghost use Rattle.kmn_lines.specs.Walks.{lines_left, parts_left};
+ghost use Rattle.kmn_lines.specs.Walks.{lines_left, physical_lines_left, parts_left};
 
 pub mod bytes;
 pub mod laws;
@@ -18,6 +18,7 @@ mod line_walk;
 mod logical;
 mod part_walk;
 mod physical_line;
+mod physical_walk;
 mod prefix;
 mod token;
 
@@ -27,6 +28,8 @@ pub use line_state::{LineState, PhysicalLine};
 pub use line_walk::Lines;
 pub use logical::{Logical, Part};
 pub use part_walk::Parts;
+pub use physical_walk::PhysicalLines;
+pub use prefix::dropped;
 pub use token::{Token, TokenKind};
 
 /// Returns the logical lines of a source in order. A byte order mark at its start is not part of a line. A line includes its
@@ -42,6 +45,19 @@ pub fn lines(source: &str) -> Lines<'_>
         bytes,
         at: bom_size(bytes),
         line: 1,
+    }
+}
+
+/// Returns the physical lines of a logical line of this source, in order.
+pub fn physical_lines(source: &str, logical: Logical) -> PhysicalLines<'_>
+    requires few { length source.now ≤ TEXT_BYTES }
+    requires placed { IsPlaced source.now logical }
+    ensures { physical_lines_left result ≡ physical_lines_in source.now logical }
+{
+    PhysicalLines {
+        bytes: before(source.as_bytes(), logical.to as usize),
+        at: logical.from as usize,
+        line: logical.first_line,
     }
 }
 

@@ -41,9 +41,10 @@ fn blanks(text: &[u8]) -> usize
     count
 }
 
-/// Returns the number of bytes of a text that are dropped before it is read.
+/// Returns the number of bytes of a text that are dropped before it is read: its blanks and a `$keyman:` or `$keymanonly:` after
+/// them, or 0.
 #[tactic(auto, unfolding(crate::specs::Lines::dropped))]
-pub(crate) fn dropped(text: &[u8]) -> usize
+pub fn dropped(text: &[u8]) -> usize
     ensures is { result ≡ dropped text.now }
     ensures few { result ≤ length text.now + 12 }
 {

@@ -1,5 +1,5 @@
 -- The tokens of a line, and the results of the steps of a scan.
-use Rattle.std.specs.Prelude.{◌≡◌, ℕ, ◌+◌, ◌<◌, ◌≤◌, List, ◌++◌, length, drop, Option, None, Some, Result, Ok, Err}
+use Rattle.std.specs.Prelude.{◌≡◌, ℕ, ◌+◌, ◌<◌, ◌≤◌, List, ◌++◌, length, drop, Option, None, Some, option_map, Result, Ok, Err}
 use Rattle.kmn_base.specs.declared.codes.Code.{Code}
 use Rattle.kmn_base.specs.declared.refusals.Refusal.{Refusal}
 use Rattle.kmn_base.specs.declared.refusals.CompileError.{CompileError}
@@ -23,6 +23,10 @@ or_refused (Some refused) tokens = Err refused
 -- the tokens of a logical line, or its first refusal
 abbrev pub scanned_line : List ℕ → Logical → Result (List Token) Refusal
 scanned_line source line = or_refused (line_refusal source line) (line_tokens source line)
+
+-- the tokens of a text that is line 1, or its first refusal
+abbrev pub scanned_text : List ℕ → Result (List Token) Refusal
+scanned_text text = or_refused (option_map (refusal 1) (first_fault 0 text)) (scanned 1 0 0 text)
 
 -- the result is the value if there is no fault, else the fault
 abbrev pub Gives : {A : Type 0} → Option Code → A → Result A Code → Type 0

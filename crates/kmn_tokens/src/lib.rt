@@ -2,7 +2,8 @@
 //!
 //! Depends on `kmn_base` and `kmn_lines`, whose `specs/Tokens` defines the tokens of a line and their first fault. The layer
 //! above calls `tokens` for each line that `kmn_lines::lines` returns, and reads statements from the result. It can also
-//! classify a text as a token on its own: `word_size`, `starts_number`, `number`, `has_forbidden`.
+//! split a text that isn't in a source (`text_tokens`), and classify a text as a token on its own: `word_size`,
+//! `starts_number`, `number`, `has_forbidden`.
 #![tactic(auto)]
 
 mod faults;
@@ -14,5 +15,5 @@ mod token_error;
 pub use faults::has_forbidden;
 pub use kmn_lines::{Token, TokenKind};
 pub use numbers::number;
-pub use scan::tokens;
+pub use scan::{text_tokens, tokens};
 pub use sizes::{starts_number, word_size};

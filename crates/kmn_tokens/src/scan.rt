@@ -11,7 +11,7 @@ ghost use Rattle.kmn_base.specs.declared.limits.TheConstants.{TEXT_BYTES};
 ghost use Rattle.kmn_lines.specs.Places.{IsPlaced};
 ghost use Rattle.kmn_lines.specs.Tokens.{scanned, first_fault, part_text, parts_tokens, parts_fault};
 ghost use Rattle.kmn_lines.specs.Walks.{parts_left};
-ghost use Rattle.kmn_tokens.specs.Scanning.{Appends, Steps, scanned_line};
+ghost use Rattle.kmn_tokens.specs.Scanning.{Appends, Steps, scanned_text, scanned_line};
 
 use crate::faults::token_at;
 use crate::sizes::token_size;
@@ -36,6 +36,19 @@ pub fn tokens(alloc: Global, source: &str, logical: Logical) -> Result<Seq<Token
     match add_all(&mut out, source.as_bytes(), parts(source, logical)) {
         Ok(()) => Ok(out),
         Err(error) => Err(error.at(logical.first_line)),
+    }
+}
+
+/// Returns the tokens of a text of one line, each with line number 1. A `c`, a backslash and a line end are no more than other
+/// bytes here. Errors: as in `tokens`, at line 1.
+pub fn text_tokens(alloc: Global, text: &[u8]) -> Result<Seq<Token>, CompileError>
+    requires { length text.now ≤ TEXT_BYTES }
+    ensures { Answers (scanned_text text.now) result }
+{
+    let mut out = Seq::new(alloc);
+    match add_tokens(&mut out, 1, 0, text) {
+        Ok(()) => Ok(out),
+        Err(error) => Err(error.at(1)),
     }
 }
 
