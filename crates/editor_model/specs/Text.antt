@@ -24,7 +24,7 @@ pub record HasTextOf (other editor : EditorText) : Type 0 where
   pub left : editor.left ≡ other.left
   pub right : editor.right ≡ other.right
 
--- the text before the caret after a key that was passed on; a key with control or alt does not change the text
+-- the text before the caret after a key that was passed on; a key with control or alt changes neither the text nor the caret
 abbrev pub left_after : KeyPress → List ℕ → List ℕ → List ℕ
 left_after press left right = if is_plain press then editor_left press.code left right else left
 

@@ -9,7 +9,7 @@ pub enum EditError {
     /// A position is past the end of the text, or an edit ends before it begins.
     #[error("refused E1")]
     Place,
-    /// The text would be too long.
+    /// The text would have more than 1,000,000 characters.
     #[error("refused E2")]
     Length,
     #[error("out of memory")]

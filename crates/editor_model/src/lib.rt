@@ -1,9 +1,10 @@
-//! Models the text of an application with a caret: how a keyboard's edits, the keys that a keyboard passes on, caret moves and
-//! external edits change it.
+//! Models an application's text and caret: how the edits of a keyboard, the keys that it passes on, caret moves and external edits
+//! (edits by the application) change them.
 //!
-//! It depends on `kmn_base`, `virtual_keys` and `rule_model`, whose `specs/Event` defines these changes and when they are
-//! refused. The layer above uses `Editor`, which contracts model as an `EditorText`: the text before the caret, the text after
-//! it and the spare room. Only `reserve`, `edit` and `copy` allocate.
+//! Depends on `kmn_base`, on `virtual_keys` and on `rule_model`. `specs/Event` of `rule_model` defines these changes, and which caret
+//! moves and external edits are refused. The layer above uses `Editor`. Contracts model it as an `EditorText`: the text before the
+//! caret, the text after it, and the spare room, which is the number of characters that can be inserted without an allocation. Only
+//! `reserve`, `edit` and `copy` allocate.
 #![tactic(auto)]
 
 mod editor;

@@ -1,4 +1,4 @@
--- The items of a section use up its tokens: no token is left over, and no token is used twice.
+-- The readings of a section's items use up its tokens: no token is left over, and no token is read twice.
 use Rattle.std.proofs.Common.{◌≡◌, ℕ, zero, suc, ◌+◌, ◌-◌, ◌<◌, ◌≤◌, Bool, true, false, if◌then◌else◌, List, [], ◌∷◌, ◌++◌, map, length, take, drop, Option, None, Some, Result, Ok, Err, refl, ap, subst, arith, length-drop}
 use Rattle.std.specs.Prelude.{flat_map}
 use Rattle.kmn_base.specs.declared.codes.Code.{Code}

@@ -118,7 +118,8 @@ pub enum Slot {
     KeyEnd,
 }
 
-/// An item that was read: what it denotes, the number of its tokens after the first, and what its section has seen after it.
+/// The result of one reading: an item, or an item for each character of a quoted token; the number of its tokens after the first;
+/// and what its section has seen after it.
 #[derive(Drop)]
 pub struct Taken {
     pub items: Seq<SrcItem>,
