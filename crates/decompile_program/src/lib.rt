@@ -15,9 +15,10 @@
 //! Law: if tables can be played and written out, the program takes the same steps as the tables for all events. For this law,
 //! call `decompiling_keeps_meaning`, a function with an empty body.
 //!
-//! Depends on `rule_model`; `kmx_format`, which defines the tables that can be played; `indexed_tables`, which finds stores and keys;
-//! `store_table` (`NameTable` finds the names that are already used); `kmn_parser` for the names that a source can have; and
-//! `kmn_lines`, `kmn_tokens` and `kmn_items`, which decide whether a source reads a text as a name.
+//! Depends on `rule_model`; `kmx_format`, which defines the tables that can be played; `kmx_parts`, which reads the records of a file in
+//! place; `indexed_tables`, which finds stores and keys; `store_table` (`NameTable` finds the names that are already used); `kmn_parser`
+//! for the names that a source can have; and `kmn_lines`, `kmn_tokens` and `kmn_items`, which decide whether a source reads a text as a
+//! name.
 #![tactic(auto)]
 
 mod all_names;

@@ -11,45 +11,47 @@ use crate::source_names::is_source_name;
 use crate::used::named_flags;
 use indexed_tables::flag_at;
 use kmn_base::{Memory, Text};
+use kmx_parts::FileTables;
+use rule_model::Store;
 use rule_model::system::{BITMAP, MNEMONIC_LAYOUT};
-use rule_model::{Group, Store, Tables};
 use std::alloc::Global;
 use store_table::NameTable;
 
-/// Returns the names of groups, given the free names.
+/// Returns the names of the groups of a file, given the free names.
 pub(crate) fn group_names(
     alloc: Global,
     free: &[Text],
-    groups: &[Group],
+    file: &FileTables<'_>,
 ) -> Result<Vec<Text>, Memory>
-    ensures { IfOk result (λ names. names.items ≡ group_names free.now [] groups.now) }
+    ensures { IfOk result (λ names. names.items ≡ group_names free.now [] file.now.groups) }
 {
     let mut naming = Naming {
         alloc,
         earlier: NameTable::new(alloc),
         free,
     };
-    naming.group_names(groups)
+    naming.group_names(file)
 }
 
-/// Returns the names of stores, given the free names.
+/// Returns the names of the stores of a file, given the free names.
 pub(crate) fn store_names(
     alloc: Global,
     free: &[Text],
-    tables: &Tables,
+    file: &FileTables<'_>,
+    stores: &[Store],
 ) -> Result<Vec<Option<Text>>, Memory>
-    ensures { IfOk result (λ names. names.items ≡ store_names (named_stores tables.now) free.now [] 0 tables.now.stores) }
+    requires { stores.now ≡ file.now.stores }
+    ensures { IfOk result (λ names. names.items ≡ store_names (named_stores file.now) free.now [] 0 file.now.stores) }
 {
-    let flags = named_flags(alloc, tables)?;
+    let flags = named_flags(alloc, file)?;
     let mut naming = Naming {
         alloc,
         earlier: NameTable::new(alloc),
         free,
     };
     let mut names = Vec::new(alloc);
-    let stores = tables.stores.as_slice();
     for (number, store) in stores.iter().enumerate() {
-        let written = is_written(flags.as_slice(), number, store, tables);
+        let written = is_written(flags.as_slice(), number, store, file);
         let name = naming.store_name(written, store)?;
         names.push(name)?;
     }
@@ -58,10 +60,10 @@ pub(crate) fn store_names(
 
 /// Returns whether the store of a number is written, given the flags of the stores that are named.
 #[tactic(auto, using(indexed_tables::proofs::OptionFlags::flag_is))]
-fn is_written(flags: &[bool], number: usize, store: &Store, tables: &Tables) -> bool
-    requires flags { flags.now ≡ with_flags (replicate (length tables.now.stores) false) (named_stores tables.now) }
-    requires within { number < length tables.now.stores }
-    ensures { result ≡ is_written (named_stores tables.now) number store.now }
+fn is_written(flags: &[bool], number: usize, store: &Store, file: &FileTables<'_>) -> bool
+    requires flags { flags.now ≡ with_flags (replicate (length file.now.stores) false) (named_stores file.now) }
+    requires within { number < length file.now.stores }
+    ensures { result ≡ is_written (named_stores file.now) number store.now }
 {
     if store.system == 0 {
         flag_at(flags, number)
@@ -109,14 +111,15 @@ impl<'a> Naming<'a> {
         }
     }
 
-    /// Returns the names of groups.
-    fn group_names(&mut self, groups: &[Group]) -> Result<Vec<Text>, Memory>
-        ensures { IfOk result (λ names. names.items ≡ group_names self.old.free.now self.old.earlier groups.now) }
+    /// Returns the names of the groups of a file.
+    fn group_names(&mut self, file: &FileTables<'_>) -> Result<Vec<Text>, Memory>
+        ensures { IfOk result (λ names. names.items ≡ group_names self.old.free.now self.old.earlier file.now.groups) }
     {
         let mut names = Vec::new(self.alloc);
-        for group in groups {
-            let kept = keeps_name(&self.earlier, group.name.as_slice());
-            names.push(self.name(group.name.as_slice(), kept)?)?;
+        for group in file.groups() {
+            let own = group.name(self.alloc)?;
+            let kept = keeps_name(&self.earlier, own.as_slice());
+            names.push(self.name(own.as_slice(), kept)?)?;
         }
         Ok(names)
     }

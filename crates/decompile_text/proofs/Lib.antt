@@ -7,6 +7,7 @@ pub mod Marks
 pub mod MoreText
 pub mod OneByOne
 pub mod Puts
+pub mod Reached
 pub mod StoreTexts
 pub mod WholeTexts
 pub mod ValueSizes

@@ -13,20 +13,24 @@ use crate::values::SizedNames;
 use decompile_program::Called;
 use kmn_base::{Element, Memory};
 use kmn_parser::system_store_name;
+use kmx_parts::{FileGroup, FileRule, FileTables, Outputs, Patterns};
 use rule_model::system::NO_GROUP;
-use rule_model::{Group, Out, Pat, Rule, Store};
+use rule_model::{Out, Store};
 
-/// Appends the lines of the groups.
+/// Appends the lines of the groups of a file.
 pub(crate) fn put_groups(
     page: &mut Page,
     names: &SizedNames<'_>,
-    groups: &[Group],
+    file: &FileTables<'_>,
 ) -> Result<(), Memory>
-    ensures { OnOk result (page.new ≡ with_groups names.now 0 page.old groups.now) }
+    ensures { OnOk result (page.new ≡ with_groups names.now 0 page.old file.now.groups) }
 {
     let called = names.called();
-    for (number, group) in groups.iter().enumerate() {
-        put_group(page, names, called.group_at(number), group)?;
+    for number in 0..file.group_count() {
+        let Some(group) = file.group(number) else {
+            return Ok(());
+        };
+        put_group(page, names, called.group(number), &group)?;
     }
     Ok(())
 }
@@ -37,15 +41,15 @@ fn put_group(
     page: &mut Page,
     names: &SizedNames<'_>,
     name: &[u8],
-    group: &Group,
+    group: &FileGroup<'_>,
 ) -> Result<(), Memory>
     ensures { OnOk result (page.new ≡ with_text page.old (group_text names.now name.now group.now)) }
 {
     put_call(page, b"group", name)?;
-    page.put(keys_part(group.using_keys))?;
-    put_rules(page, names, group.rules.as_slice())?;
-    put_statement(page, names, b"match", group.on_match.as_slice())?;
-    put_statement(page, names, b"nomatch", group.on_nomatch.as_slice())
+    page.put(keys_part(group.using_keys()))?;
+    put_rules(page, names, group)?;
+    put_statement(page, names, b"match", group.on_match())?;
+    put_statement(page, names, b"nomatch", group.on_nomatch())
 }
 
 /// Returns the rest of a group's line after the name.
@@ -55,34 +59,34 @@ fn keys_part(using_keys: bool) -> &'static [u8]
     if using_keys { b" using keys\n" } else { b"\n" }
 }
 
-/// Appends the lines of records.
-fn put_rules(page: &mut Page, names: &SizedNames<'_>, rules: &[Rule]) -> Result<(), Memory>
-    ensures { OnOk result (page.new ≡ with_rules names.now page.old rules.now) }
+/// Appends the lines of the records of a group.
+fn put_rules(page: &mut Page, names: &SizedNames<'_>, group: &FileGroup<'_>) -> Result<(), Memory>
+    ensures { OnOk result (page.new ≡ with_rules names.now page.old group.now.rules) }
 {
-    for rule in rules {
-        put_rule(page, names, rule)?;
+    for rule in group.rules() {
+        put_rule(page, names, &rule)?;
     }
     Ok(())
 }
 
 /// Appends the line of a record.
 #[tactic(auto, using(crate::proofs::MoreText::with_text_append, crate::proofs::MoreText::with_no_text, crate::proofs::OneByOne::elements_are, crate::proofs::OneByOne::context_is, crate::proofs::OneByOne::outputs_are, crate::proofs::OneByOne::rules_are), unfolding(crate::specs::Texts::rule_text))]
-fn put_rule(page: &mut Page, names: &SizedNames<'_>, rule: &Rule) -> Result<(), Memory>
+fn put_rule(page: &mut Page, names: &SizedNames<'_>, rule: &FileRule<'_>) -> Result<(), Memory>
     ensures { OnOk result (page.new ≡ with_text page.old (rule_text names.now rule.now)) }
 {
-    put_context(page, names, rule.context.as_slice())?;
-    put_key_part(page, names.called(), &rule.key)?;
+    put_context(page, names, rule.context())?;
+    put_key_part(page, names.called(), &rule.key())?;
     page.put(b">")?;
-    put_some_outputs(page, names, rule.output.as_slice())?;
+    put_some_outputs(page, names, rule.output())?;
     page.put(b"\n")
 }
 
 /// Appends the items of a context, each followed by a space.
-fn put_context(page: &mut Page, names: &SizedNames<'_>, context: &[Pat]) -> Result<(), Memory>
-    ensures { OnOk result (page.new ≡ with_context names.now page.old context.now) }
+fn put_context(page: &mut Page, names: &SizedNames<'_>, context: Patterns<'_>) -> Result<(), Memory>
+    ensures { OnOk result (page.new ≡ with_context names.now page.old context.entry) }
 {
     for pattern in context {
-        put_pattern(page, names, pattern)?;
+        put_pattern(page, names, &pattern)?;
         page.put(b" ")?;
     }
     Ok(())
@@ -90,23 +94,41 @@ fn put_context(page: &mut Page, names: &SizedNames<'_>, context: &[Pat]) -> Resu
 
 /// Appends the output of a record, or `nul` if the output is empty.
 #[tactic(auto, using(crate::proofs::MoreText::with_text_append, crate::proofs::MoreText::with_no_text, crate::proofs::OneByOne::elements_are, crate::proofs::OneByOne::context_is, crate::proofs::OneByOne::outputs_are, crate::proofs::OneByOne::rules_are))]
-fn put_some_outputs(page: &mut Page, names: &SizedNames<'_>, outputs: &[Out]) -> Result<(), Memory>
-    ensures { OnOk result (page.new ≡ with_text page.old (some_outputs_text names.now outputs.now)) }
+fn put_some_outputs(
+    page: &mut Page,
+    names: &SizedNames<'_>,
+    outputs: Outputs<'_>,
+) -> Result<(), Memory>
+    ensures { OnOk result (page.new ≡ with_text page.old (some_outputs_text names.now outputs.entry)) }
 {
-    if outputs.is_empty() {
-        page.put(b" nul")
-    } else {
-        put_outputs(page, names, outputs)
+    let mut others = outputs;
+    match others.next() {
+        Some(first) => put_all_outputs(page, names, &first, others),
+        None => page.put(b" nul"),
     }
 }
 
+/// Appends the items of an output, each preceded by a space: the first one and the others.
+fn put_all_outputs(
+    page: &mut Page,
+    names: &SizedNames<'_>,
+    first: &Out,
+    others: Outputs<'_>,
+) -> Result<(), Memory>
+    ensures { OnOk result (page.new ≡ with_outputs names.now page.old (first.now ∷ others.entry)) }
+{
+    page.put(b" ")?;
+    put_output(page, names, first)?;
+    put_outputs(page, names, others)
+}
+
 /// Appends the items of an output, each preceded by a space.
-fn put_outputs(page: &mut Page, names: &SizedNames<'_>, outputs: &[Out]) -> Result<(), Memory>
-    ensures { OnOk result (page.new ≡ with_outputs names.now page.old outputs.now) }
+fn put_outputs(page: &mut Page, names: &SizedNames<'_>, outputs: Outputs<'_>) -> Result<(), Memory>
+    ensures { OnOk result (page.new ≡ with_outputs names.now page.old outputs.entry) }
 {
     for output in outputs {
         page.put(b" ")?;
-        put_output(page, names, output)?;
+        put_output(page, names, &output)?;
     }
     Ok(())
 }
@@ -117,29 +139,31 @@ fn put_statement(
     page: &mut Page,
     names: &SizedNames<'_>,
     word: &[u8],
-    outputs: &[Out],
+    outputs: Outputs<'_>,
 ) -> Result<(), Memory>
-    ensures { OnOk result (page.new ≡ with_text page.old (statement_text names.now word.now outputs.now)) }
+    ensures { OnOk result (page.new ≡ with_text page.old (statement_text names.now word.now outputs.entry)) }
 {
-    match outputs {
-        [] => Ok(()),
-        [_, ..] => put_some_statement(page, names, word, outputs),
+    let mut others = outputs;
+    match others.next() {
+        Some(first) => put_some_statement(page, names, word, &first, others),
+        None => Ok(()),
     }
 }
 
-/// Appends a match or nomatch line that begins with this word.
+/// Appends a match or nomatch line that begins with this word, with the first item of the output and the others.
 #[tactic(auto, using(crate::proofs::MoreText::with_text_append, crate::proofs::OneByOne::outputs_are))]
 fn put_some_statement(
     page: &mut Page,
     names: &SizedNames<'_>,
     word: &[u8],
-    outputs: &[Out],
+    first: &Out,
+    others: Outputs<'_>,
 ) -> Result<(), Memory>
-    ensures { OnOk result (page.new ≡ with_text page.old (word.now ++ (codes " >" ++ (outputs_text names.now outputs.now ++ 10 ∷ [])))) }
+    ensures { OnOk result (page.new ≡ with_text page.old (word.now ++ (codes " >" ++ (outputs_text names.now (first.now ∷ others.entry) ++ 10 ∷ [])))) }
 {
     page.put(word)?;
     page.put(b" >")?;
-    put_outputs(page, names, outputs)?;
+    put_all_outputs(page, names, first, others)?;
     page.put(b"\n")
 }
 

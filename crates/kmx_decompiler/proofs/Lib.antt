@@ -3,7 +3,7 @@ pub mod FewCounts
 pub mod LeastPlaces
 pub mod Lengths
 pub mod NoCauses
-pub mod OptionStores
+pub mod OrderSteps
 pub mod RecordPlaces
 pub mod Refusing
 pub mod StoreLengths

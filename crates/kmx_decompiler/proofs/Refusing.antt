@@ -1,15 +1,13 @@
 -- The reason why a file has no text, determined part by part.
-use Rattle.std.proofs.Common.{◌≡◌, ℕ, ◌<◌, ◌≤◌, ◌^◌, true, false, List, [], ◌∷◌, length, length-append, Option, Some, None, ap, sym, subst, ◌∙◌, arith}
-use Rattle.std.specs.Prelude.{All, flat_map, nat_lt, if◌then◌else◌, option_map}
+use Rattle.std.proofs.Common.{◌≡◌, ℕ, ◌≤◌, true, false, List, length, Option, Some, None, ap, sym, subst, ◌∙◌}
+use Rattle.std.specs.Prelude.{All, nat_lt, if◌then◌else◌, option_map}
 use Rattle.std.specs.Str.{IsUtf8}
 use Rattle.std.specs.Option.{option_or}
-use Rattle.std.proofs.lemmas.List.Elements.{All-nil, All-cons, All-weaker}
-use Rattle.kmn_base.specs.declared.limits.TheConstants.{KEY_NAMES, RECORDS, TEXT_BYTES}
+use Rattle.std.proofs.lemmas.List.Elements.{All-weaker}
+use Rattle.kmn_base.specs.declared.limits.TheConstants.{KEY_NAMES, TEXT_BYTES}
 use Rattle.rule_model.specs.declared.program.Program.{Program}
-use Rattle.rule_model.specs.declared.tables.Group.{Group}
 use Rattle.rule_model.specs.declared.tables.Tables.{Tables}
 use Rattle.rule_model.specs.Tab.{tab_dictionary}
-use Rattle.kmx_format.specs.File.{rules_of}
 use Rattle.kmx_format.specs.Playable.{IsPlayable, IsPlayableStore}
 use Rattle.kmx_format.specs.TablesOf.{tables_of}
 use Rattle.kmn_parser.specs.Programs.{program_text}
@@ -24,23 +22,8 @@ use Rattle.decompile_program.proofs.FewNames.{HasFewElements, few_names}
 use Rattle.kmx_decompiler.specs.Refusals.{too_many}
 use Rattle.kmx_decompiler.proofs.NoCauses.{written_without_cause, keys_without_cause}
 
-pub few_stores : (tables : Tables) → IsPlayable tables → length tables.stores < 2 ^ 32
-few_stores tables h = let few = h.store_count in omega arith
-
-pub few_groups : (tables : Tables) → IsPlayable tables → length tables.groups < 2 ^ 32
-few_groups tables h = let few = h.group_count in omega arith
-
 pub few_keys : (tables : Tables) → IsPlayable tables → length (tab_dictionary tables.stores) ≤ KEY_NAMES
 few_keys tables h = few_names tables.stores (All-weaker IsPlayableStore HasFewElements (λ store s. s.element_count) tables.stores h.stores)
-
-few-in : (groups : List Group) → length (flat_map rules_of groups) ≤ RECORDS → All (λ (group : Group). length group.rules < 2 ^ 32) groups
-few-in [] few = All-nil (λ (group : Group). length group.rules < 2 ^ 32)
-few-in (group ∷ groups) few =
-    let both = length-append group.rules (flat_map rules_of groups) in
-    All-cons (λ (g : Group). length g.rules < 2 ^ 32) group groups (omega (arith, few, both)) (few-in groups (omega (arith, few, both)))
-
-pub few_rules : (tables : Tables) → IsPlayable tables → All (λ (group : Group). length group.rules < 2 ^ 32) tables.groups
-few_rules tables h = few-in tables.groups h.rule_count
 
 -- the excess of a text that is too large, and of one that is not
 pub larger_text : (program : Program) (size : ℕ) → size ≡ length (program_text program) → nat_lt TEXT_BYTES size ≡ true → excess program ≡ Some (TooLarge size)

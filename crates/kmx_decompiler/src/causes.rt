@@ -12,6 +12,7 @@ use crate::items::{
 use crate::value_causes::JudgedNames;
 use decompile_program::{Called, named_by_output, named_by_pattern};
 use kmn_base::{Element, RuleKey};
+use kmx_parts::{FileRule, Outputs, Patterns};
 use rule_model::{Out, Pat};
 
 /// Returns whether at least one of the elements has no spelling.
@@ -53,12 +54,15 @@ pub(crate) fn is_unspelled_key(names: &Called<'_>, key: &RuleKey) -> bool
 }
 
 /// Returns whether at least one item of an output has no spelling.
-pub(crate) fn are_unspelled_outputs(names: &JudgedNames<'_>, outputs: &[Out]) -> bool
-    ensures { result ≡ list_any (is_unspelled_output names.now) outputs.now }
+pub(crate) fn are_unspelled_outputs(names: &JudgedNames<'_>, outputs: Outputs<'_>) -> bool
+    ensures { result ≡ list_any (is_unspelled_output names.now) outputs.entry }
 {
-    outputs
-        .iter()
-        .any(|output| is_unspelled_output(names, output))
+    for output in outputs {
+        if is_unspelled_output(names, &output) {
+            return true;
+        }
+    }
+    false
 }
 
 /// Returns whether an item of an output has no spelling.
@@ -100,20 +104,25 @@ fn has_unspelled_value(names: &JudgedNames<'_>, value: Option<u32>) -> bool
     }
 }
 
-/// Returns whether a context has no spelling.
-pub(crate) fn is_unspelled_context(names: &JudgedNames<'_>, context: &[Pat]) -> bool
-    ensures { result ≡ is_unspelled_context names.now context.now }
+/// Returns whether the context of a record has no spelling.
+pub(crate) fn is_unspelled_context(names: &JudgedNames<'_>, rule: &FileRule<'_>) -> bool
+    ensures { result ≡ is_unspelled_context names.now rule.now.context }
 {
-    are_unspelled_patterns(names, context) || stands_behind_match(context) || 1 < nul_count(context)
+    are_unspelled_patterns(names, rule.context())
+        || stands_behind_match(rule.context())
+        || 1 < nul_count(rule.context())
 }
 
 /// Returns whether at least one item of a context has no spelling.
-fn are_unspelled_patterns(names: &JudgedNames<'_>, context: &[Pat]) -> bool
-    ensures { result ≡ list_any (is_unspelled_pattern names.now) context.now }
+fn are_unspelled_patterns(names: &JudgedNames<'_>, context: Patterns<'_>) -> bool
+    ensures { result ≡ list_any (is_unspelled_pattern names.now) context.entry }
 {
-    context
-        .iter()
-        .any(|pattern| is_unspelled_pattern(names, pattern))
+    for pattern in context {
+        if is_unspelled_pattern(names, &pattern) {
+            return true;
+        }
+    }
+    false
 }
 
 /// Returns whether an item of a context has no spelling.

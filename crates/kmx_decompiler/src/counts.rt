@@ -19,7 +19,8 @@ use kmn_base::limits::{ALL_ELEMENTS, STORES};
 use kmn_base::texts::character_count;
 use kmn_base::{Memory, Text};
 use kmx_format::version_text;
-use rule_model::{Store, Tables};
+use kmx_parts::FileTables;
+use rule_model::Store;
 use std::alloc::Global;
 
 /// The number of stores, and the number of elements of all these stores.
@@ -41,17 +42,17 @@ pub(crate) fn count_all(
     alloc: Global,
     front: &Front,
     names: &Called<'_>,
-    tables: &Tables,
+    file: &FileTables<'_>,
 ) -> Result<WrittenCounts, Memory>
-    requires front { IsFront tables.now front.now }
-    requires names { names.now ≡ names_for tables.now }
-    requires playable { IsPlayable tables.now }
-    requires written { CanBeWrittenOut tables.now }
-    requires keys { All IsUtf8 (tab_dictionary tables.now.stores) }
-    ensures stores { IfOk result (λ counts. counts.stores ≡ store_count (back tables.now)) }
-    ensures elements { IfOk result (λ counts. counts.elements ≡ element_count (back tables.now)) }
+    requires front { IsFront file.now front.now }
+    requires names { names.now ≡ names_for file.now }
+    requires playable { IsPlayable file.now }
+    requires written { CanBeWrittenOut file.now }
+    requires keys { All IsUtf8 (tab_dictionary file.now.stores) }
+    ensures stores { IfOk result (λ counts. counts.stores ≡ store_count (back file.now)) }
+    ensures elements { IfOk result (λ counts. counts.elements ≡ element_count (back file.now)) }
 {
-    count_lengths(alloc, front, names, tables)
+    count_lengths(alloc, front, names, file)
 }
 
 impl WrittenCounts {
@@ -90,19 +91,19 @@ fn count_lengths(
     alloc: Global,
     front: &Front,
     names: &Called<'_>,
-    tables: &Tables,
+    file: &FileTables<'_>,
 ) -> Result<WrittenCounts, Memory>
-    requires front { IsFront tables.now front.now }
-    requires names { names.now ≡ names_for tables.now }
-    requires keys { spaced_size (tab_dictionary tables.now.stores) < 2 ^ 32 }
-    ensures { IfOk result (λ counts. counts ≡ with_lengths none_counted (text_lengths tables.now)) }
+    requires front { IsFront file.now front.now }
+    requires names { names.now ≡ names_for file.now }
+    requires keys { spaced_size (tab_dictionary file.now.stores) < 2 ^ 32 }
+    ensures { IfOk result (λ counts. counts ≡ with_lengths none_counted (text_lengths file.now)) }
 {
-    let counts = NONE.with(version_text(tables.version).len());
+    let counts = NONE.with(version_text(file.version()).len());
     let counts = counts.with_some(usize::from(front.marks));
     let counts = counts.with_some(front.keys.len());
-    let counts = with_stores(counts, names, tables.stores.as_slice());
+    let counts = with_stores(counts, names, names.elements());
     let counts = with_dictionary(counts, front.keys.as_slice());
-    let values = values_of(alloc, names, tables.groups.as_slice())?;
+    let values = values_of(alloc, names, file)?;
     Ok(with_values(counts, &values))
 }
 

@@ -1,7 +1,8 @@
 //! Tests of elements, items and contexts that do not depend on the tables.
 
-ghost use Rattle.std.specs.Prelude.{◌≡◌, bit_and, false, filter, filter_map, length, nat_eq, option_to_list};
+ghost use Rattle.std.specs.Prelude.{◌≡◌, ◌≤◌, bit_and, false, filter, filter_map, length, nat_eq, option_to_list};
 ghost use Rattle.std.specs.List.{list_all, list_any};
+ghost use Rattle.kmn_base.specs.declared.limits.TheConstants.{FILE_BYTES};
 ghost use Rattle.kmn_parser.specs.Names.{is_inner};
 ghost use Rattle.virtual_keys.specs.Dictionary.{is_nameable};
 ghost use Rattle.rule_model.specs.Tab.{element_char};
@@ -13,6 +14,7 @@ ghost use Rattle.kmx_decompiler.specs.Causes.{is_far_mark, is_far_output, is_far
 use kmn_base::limits::DEADKEYS;
 use kmn_base::texts::is_forbidden;
 use kmn_base::{Element, SHIFT_FLAGS};
+use kmx_parts::Patterns;
 use rule_model::{Out, Pat};
 
 /// Returns whether the number of a deadkey is larger than a source can have.
@@ -113,8 +115,8 @@ pub(crate) fn output_value(output: &Out) -> Option<u32>
 }
 
 /// Returns whether a condition or `nul` follows an item that is matched.
-pub(crate) fn stands_behind_match(context: &[Pat]) -> bool
-    ensures { result ≡ stands_behind_match false context.now }
+pub(crate) fn stands_behind_match(context: Patterns<'_>) -> bool
+    ensures { result ≡ stands_behind_match false context.entry }
 {
     let mut matched = false;
     for pattern in context {
@@ -127,8 +129,9 @@ pub(crate) fn stands_behind_match(context: &[Pat]) -> bool
 }
 
 /// Returns the number of `nul` items in a context.
-pub(crate) fn nul_count(context: &[Pat]) -> usize
-    ensures { result ≡ length (filter is_nul context.now) }
+pub(crate) fn nul_count(context: Patterns<'_>) -> usize
+    requires { length context ≤ FILE_BYTES }
+    ensures { result ≡ length (filter is_nul context.entry) }
 {
-    context.iter().filter(|pattern| pattern.is_nul()).count()
+    context.filter(|pattern| pattern.is_nul()).count()
 }

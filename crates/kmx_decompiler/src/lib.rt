@@ -1,7 +1,7 @@
 //! Decompiles the valid files of `kmx_verifier`: `decompile` returns the source that `decompile_program` and `decompile_text` define
 //! for the tables of a file, or the reason why the file has none, and laws state that the source keeps the meaning and compiles again.
 //!
-//! Depends on `kmx_verifier`, whose `Verified` returns the bytes of a valid file and copies its tables; `decompile_program` and
+//! Depends on `kmx_verifier`, whose `Verified` is a valid file; `kmx_parts`, which reads its records in place; `decompile_program` and
 //! `decompile_text`, which create the text of the tables; `kmn_parser` and `rule_checker`, for the laws on the language and the
 //! checker; and `kmn_compiler`, which specifies the result of a compilation. `specs/Unspelled` defines the reason why a file has no
 //! text that is a source. The layer above calls `decompile`, which returns exactly the text or exactly that reason, and prints the
@@ -21,11 +21,13 @@ mod dictionary;
 mod items;
 mod laws;
 mod no_spelling;
+mod options;
 mod order;
 mod places;
 mod refusals;
 mod round_trips;
 mod store_causes;
+mod stores;
 mod value_causes;
 mod values;
 

@@ -1,49 +1,39 @@
 //! Finds the first record whose context is longer than the context of the record before it.
 
-ghost use Rattle.std.specs.Prelude.{◌≡◌, ◌<◌, ◌^◌, All, length};
-ghost use Rattle.kmx_decompiler.specs.Unspelled.{longer_behind, first_longer, disorder};
+ghost use Rattle.std.specs.Prelude.{◌≡◌};
+ghost use Rattle.kmx_decompiler.specs.Unspelled.{first_longer, disorder};
 
 use crate::NoSpelling;
-use rule_model::{Group, Rule};
+use kmx_parts::{FileGroup, FileTables};
 
 /// Returns the refusal of the first record of all groups that has a longer context than the record before it, if any.
-pub(crate) fn disorder(groups: &[Group]) -> Option<NoSpelling>
-    requires groups { length groups.now < 2 ^ 32 }
-    requires rules { All (λ group. length group.rules < 2 ^ 32) groups.now }
-    ensures { result ≡ disorder 0 groups.now }
+pub(crate) fn disorder(file: &FileTables<'_>) -> Option<NoSpelling>
+    ensures { result ≡ disorder 0 file.now.groups }
 {
-    for (group, records) in groups.iter().enumerate() {
-        if let Some(rule) = first_longer(records.rules.as_slice()) {
-            let group = group as u32;
+    for group in 0..file.group_count() {
+        let records = file.group(group)?;
+        if let Some(rule) = first_longer(&records) {
             return Some(NoSpelling::Order { group, rule });
         }
     }
     None
 }
 
-/// Returns the number of the first record that has a longer context than the record before it, if any. Records are counted from 0.
-fn first_longer(rules: &[Rule]) -> Option<u32>
-    requires { length rules.now < 2 ^ 32 }
-    ensures { result ≡ first_longer rules.now }
+/// Returns the number of the first record of a group that has a longer context than the record before it, if any. Records are counted
+/// from 0.
+#[tactic(auto, using(crate::proofs::OrderSteps::none_longer))]
+fn first_longer(group: &FileGroup<'_>) -> Option<u32>
+    ensures { result ≡ first_longer group.now.rules }
 {
-    match rules {
-        [] => None,
-        [first, others @ ..] => longer_behind(first.context.len(), others),
-    }
-}
-
-/// Returns the number of the first record that has a longer context than the record before it, if any. The records are counted
-/// from 1, and `previous` is the length of the context before the first of them.
-fn longer_behind(previous: usize, rules: &[Rule]) -> Option<u32>
-    requires { length rules.now < 2 ^ 32 }
-    ensures { result ≡ longer_behind 1 previous rules.now }
-{
-    let mut previous = previous;
-    for (before, rule) in rules.iter().enumerate() {
-        if previous < rule.context.len() {
-            return Some(before as u32 + 1);
+    let first = group.rule(0)?;
+    let mut previous = first.context().count();
+    for number in 1..group.rule_count() {
+        let rule = group.rule(number)?;
+        let length = rule.context().count();
+        if previous < length {
+            return Some(number);
         }
-        previous = rule.context.len();
+        previous = length;
     }
     None
 }

@@ -9,8 +9,8 @@ ghost use Rattle.kmx_decompiler.specs.Causes.{is_first_dictionary, is_unspelled_
 use crate::causes::has_unspelled_element;
 use crate::dictionary::is_unspelled_dictionary;
 use crate::items::has_no_character;
+use crate::options::UsedOptions;
 use decompile_program::Called;
-use indexed_tables::IndexedTables;
 use kmn_base::{Element, Memory};
 use rule_model::Store;
 use rule_model::system::{BITMAP, MNEMONIC_LAYOUT};
@@ -27,13 +27,13 @@ pub(crate) struct NumberedStore<'a> {
 /// Returns whether a store with its number has no spelling.
 pub(crate) fn is_unspelled_store(
     alloc: Global,
-    indexed: &IndexedTables<'_>,
+    options: &UsedOptions<'_>,
     names: &Called<'_>,
     numbered: NumberedStore<'_>,
 ) -> Result<bool, Memory>
-    requires number { numbered.number < length indexed.now.stores }
+    requires number { numbered.number < length options.now.stores }
     requires dictionary { numbered.is_dictionary ≡ is_first_dictionary names.now.elements numbered.number }
-    ensures { IfOk result (λ unspelled. unspelled ≡ is_unspelled_store names.now (tab_options indexed.now) numbered.entry.number numbered.entry.store.now) }
+    ensures { IfOk result (λ unspelled. unspelled ≡ is_unspelled_store names.now (tab_options options.now) numbered.entry.number numbered.entry.store.now) }
 {
     let elements = numbered.store.elements.as_slice();
     if has_unspelled_element(names, elements) {
@@ -42,30 +42,21 @@ pub(crate) fn is_unspelled_store(
     if numbered.is_dictionary && is_unspelled_dictionary(alloc, elements)? {
         return Ok(true);
     }
-    Ok(is_unspelled_otherwise(indexed, names, numbered.number, numbered.store))
+    Ok(is_unspelled_otherwise(options, names, numbered.number, numbered.store))
 }
 
 /// Returns whether the store of a number has no spelling as an option or as a system store.
 fn is_unspelled_otherwise(
-    indexed: &IndexedTables<'_>,
+    options: &UsedOptions<'_>,
     names: &Called<'_>,
     number: u32,
     store: &Store,
 ) -> bool
-    requires { number < length indexed.now.stores }
-    ensures { result ≡ ((list_any (nat_eq number) (tab_options indexed.now) && is_unspelled_option names.now number store.now) || is_unspelled_system store.now) }
+    requires { number < length options.now.stores }
+    ensures { result ≡ ((list_any (nat_eq number) (tab_options options.now) && is_unspelled_option names.now number store.now) || is_unspelled_system store.now) }
 {
-    (is_option(indexed, number) && is_unspelled_option(names, number, store))
+    (options.is_option(number) && is_unspelled_option(names, number, store))
         || is_unspelled_system(store)
-}
-
-/// Returns whether some item uses the store of a number as an option.
-#[tactic(auto, using(crate::proofs::OptionStores::is_option), unfolding(rule_model::specs::Tab::tab))]
-fn is_option(indexed: &IndexedTables<'_>, number: u32) -> bool
-    requires { number < length indexed.now.stores }
-    ensures { result ≡ list_any (nat_eq number) (tab_options indexed.now) }
-{
-    indexed.option_number(number).is_some()
 }
 
 /// Returns whether the store of a number, which is used as an option, has no spelling.

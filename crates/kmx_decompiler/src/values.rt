@@ -1,4 +1,4 @@
-//! Collects the values that conditions and `set` items name, each once.
+//! Collects the values that conditions and `set` items of a file name, each once.
 
 ghost use Rattle.std.specs.Prelude.{◌≡◌, [], ◌∷◌, length, flat_map, filter_map, option_to_list, option_copied, slice_get, IfOk, OnOk};
 ghost use Rattle.std.specs.Str.{bytes_eq};
@@ -10,7 +10,7 @@ use crate::items::{output_value, pattern_value};
 use decompile_program::Called;
 use indexmap::IndexSet;
 use kmn_base::{Element, Memory};
-use rule_model::{Group, Out, Pat, Rule};
+use kmx_parts::{FileGroup, FileRule, FileTables, Outputs, Patterns};
 use std::alloc::Global;
 use std::marker::Model;
 
@@ -29,18 +29,18 @@ impl Model for WrittenValues {
     ghost view = { λ values. map (λ value. value.items) values.found.keys };
 }
 
-/// Returns the values of groups.
+/// Returns the values of the groups of a file.
 #[tactic(auto, using(crate::proofs::ValueSets::with_values_append))]
 pub(crate) fn values_of(
     alloc: Global,
     names: &Called<'_>,
-    groups: &[Group],
+    file: &FileTables<'_>,
 ) -> Result<WrittenValues, Memory>
-    ensures { IfOk result (λ values. values ≡ with_values names.now [] (flat_map group_values groups.now)) }
+    ensures { IfOk result (λ values. values ≡ with_values names.now [] (flat_map group_values file.now.groups)) }
 {
     let mut values = WrittenValues::new(alloc);
-    for group in groups {
-        add_group(&mut values, names, group)?;
+    for group in file.groups() {
+        add_group(&mut values, names, &group)?;
     }
     Ok(values)
 }
@@ -83,32 +83,44 @@ impl WrittenValues {
 
 /// Adds the values of a group.
 #[tactic(auto, using(crate::proofs::ValueSets::with_values_append))]
-fn add_group(values: &mut WrittenValues, names: &Called<'_>, group: &Group) -> Result<(), Memory>
+fn add_group(
+    values: &mut WrittenValues,
+    names: &Called<'_>,
+    group: &FileGroup<'_>,
+) -> Result<(), Memory>
     ensures { OnOk result (values.new ≡ with_values names.now values.old (group_values group.now)) }
 {
-    add_rules(values, names, group.rules.as_slice())?;
-    add_outputs(values, names, group.on_match.as_slice())?;
-    add_outputs(values, names, group.on_nomatch.as_slice())
+    add_rules(values, names, group)?;
+    add_outputs(values, names, group.on_match())?;
+    add_outputs(values, names, group.on_nomatch())
 }
 
-/// Adds the values of records.
+/// Adds the values of the records of a group.
 #[tactic(auto, using(crate::proofs::ValueSets::with_values_append))]
-fn add_rules(values: &mut WrittenValues, names: &Called<'_>, rules: &[Rule]) -> Result<(), Memory>
-    ensures { OnOk result (values.new ≡ with_values names.now values.old (flat_map rule_values rules.now)) }
+fn add_rules(
+    values: &mut WrittenValues,
+    names: &Called<'_>,
+    group: &FileGroup<'_>,
+) -> Result<(), Memory>
+    ensures { OnOk result (values.new ≡ with_values names.now values.old (flat_map rule_values group.now.rules)) }
 {
-    for rule in rules {
-        add_rule(values, names, rule)?;
+    for rule in group.rules() {
+        add_rule(values, names, &rule)?;
     }
     Ok(())
 }
 
 /// Adds the values of a record.
 #[tactic(auto, using(crate::proofs::ValueSets::with_values_append))]
-fn add_rule(values: &mut WrittenValues, names: &Called<'_>, rule: &Rule) -> Result<(), Memory>
+fn add_rule(
+    values: &mut WrittenValues,
+    names: &Called<'_>,
+    rule: &FileRule<'_>,
+) -> Result<(), Memory>
     ensures { OnOk result (values.new ≡ with_values names.now values.old (rule_values rule.now)) }
 {
-    add_context(values, names, rule.context.as_slice())?;
-    add_outputs(values, names, rule.output.as_slice())
+    add_context(values, names, rule.context())?;
+    add_outputs(values, names, rule.output())
 }
 
 /// Adds the values of a context.
@@ -116,12 +128,12 @@ fn add_rule(values: &mut WrittenValues, names: &Called<'_>, rule: &Rule) -> Resu
 fn add_context(
     values: &mut WrittenValues,
     names: &Called<'_>,
-    context: &[Pat],
+    context: Patterns<'_>,
 ) -> Result<(), Memory>
-    ensures { OnOk result (values.new ≡ with_values names.now values.old (flat_map pattern_values context.now)) }
+    ensures { OnOk result (values.new ≡ with_values names.now values.old (flat_map pattern_values context.entry)) }
 {
     for pattern in context {
-        add_store(values, names, pattern_value(pattern))?;
+        add_store(values, names, pattern_value(&pattern))?;
     }
     Ok(())
 }
@@ -145,12 +157,12 @@ fn add_store(
 fn add_outputs(
     values: &mut WrittenValues,
     names: &Called<'_>,
-    outputs: &[Out],
+    outputs: Outputs<'_>,
 ) -> Result<(), Memory>
-    ensures { OnOk result (values.new ≡ with_values names.now values.old (flat_map output_values outputs.now)) }
+    ensures { OnOk result (values.new ≡ with_values names.now values.old (flat_map output_values outputs.entry)) }
 {
     for output in outputs {
-        add_store(values, names, output_value(output))?;
+        add_store(values, names, output_value(&output))?;
     }
     Ok(())
 }

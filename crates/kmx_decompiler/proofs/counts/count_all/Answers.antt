@@ -9,10 +9,10 @@ use Rattle.kmx_decompiler.proofs.counts.count_all.Goals as goal
 
 pub returns-clause-stores : goal.returns-clause-stores
 returns-clause-stores c =
-    IfOk-weaker c.count_lengths.result (λ (counts : WrittenCounts). counts ≡ with_lengths none_counted (text_lengths c.args.tables.now)) (λ (counts : WrittenCounts). counts.stores ≡ store_count (back c.args.tables.now))
-    (λ (counts : WrittenCounts) is. stores_counted c.args.tables.now counts c.requires.playable c.requires.written c.requires.keys is) c.count_lengths.ensures
+    IfOk-weaker c.count_lengths.result (λ (counts : WrittenCounts). counts ≡ with_lengths none_counted (text_lengths c.args.file.now)) (λ (counts : WrittenCounts). counts.stores ≡ store_count (back c.args.file.now))
+    (λ (counts : WrittenCounts) is. stores_counted c.args.file.now counts c.requires.playable c.requires.written c.requires.keys is) c.count_lengths.ensures
 
 pub returns-clause-elements : goal.returns-clause-elements
 returns-clause-elements c =
-    IfOk-weaker c.count_lengths.result (λ (counts : WrittenCounts). counts ≡ with_lengths none_counted (text_lengths c.args.tables.now)) (λ (counts : WrittenCounts). counts.elements ≡ element_count (back c.args.tables.now))
-    (λ (counts : WrittenCounts) is. elements_counted c.args.tables.now counts c.requires.playable c.requires.written c.requires.keys is) c.count_lengths.ensures
+    IfOk-weaker c.count_lengths.result (λ (counts : WrittenCounts). counts ≡ with_lengths none_counted (text_lengths c.args.file.now)) (λ (counts : WrittenCounts). counts.elements ≡ element_count (back c.args.file.now))
+    (λ (counts : WrittenCounts) is. elements_counted c.args.file.now counts c.requires.playable c.requires.written c.requires.keys is) c.count_lengths.ensures

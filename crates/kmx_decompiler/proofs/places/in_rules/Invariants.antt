@@ -1,4 +1,4 @@
-use Rattle.std.proofs.Common.{◌≡◌, ◌+◌, ◌*◌, drop}
+use Rattle.std.proofs.Common.{◌≡◌, ◌+◌, ◌*◌, length}
 use Rattle.kmx_format.specs.declared.sizes.TheConstants.{RULE_BYTES}
 use Rattle.kmx_decompiler.specs.Places.{rule_causes}
 use Rattle.kmx_decompiler.specs.Least.{lesser}
@@ -6,6 +6,6 @@ use Rattle.kmx_decompiler.proofs.places.in_rules.Given as goal
 
 abbrev pub invariant-loop-rule : goal.invariant-loop-rule
 invariant-loop-rule l = record {
-  least : lesser (rule_causes l.names l.place (drop l.rule-index l.rules)) l.least ≡ lesser (rule_causes l.names l.fn.place l.rules) l.fn.least;
-  place : l.place ≡ l.fn.place + RULE_BYTES * l.rule-index;
+  least : lesser (rule_causes l.names l.place l.rule-iterator) l.least ≡ lesser (rule_causes l.names l.fn.place l.group.rules) l.fn.least;
+  place : l.place + RULE_BYTES * length l.rule-iterator ≡ l.fn.place + RULE_BYTES * length l.group.rules;
 }

@@ -7,7 +7,7 @@ use Rattle.kmx_decompiler.proofs.places.in_stores.Given as goal
 
 abbrev pub invariant-loop-number : goal.invariant-loop-number
 invariant-loop-number l = record {
-  least : lesser (store_causes l.names (tab_options l.indexed) l.place l.number (drop l.number l.stores)) l.least
-      ≡ lesser (store_causes l.names (tab_options l.indexed) l.fn.place 0 l.stores) None;
+  least : lesser (store_causes l.names (tab_options l.options) l.place l.number (drop l.number l.stores)) l.least
+      ≡ lesser (store_causes l.names (tab_options l.options) l.fn.place 0 l.stores) None;
   place : l.place ≡ l.fn.place + STORE_BYTES * l.number;
 }
