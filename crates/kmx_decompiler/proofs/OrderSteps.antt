@@ -23,9 +23,9 @@ first_behind rules first previous at is =
 -- a record whose context isn't longer is passed
 pub longer_after : (rules : List Rule) (n previous size : ℕ) (rule : Rule) (whole : Option ℕ) → Some rule ≡ slice_get rules n → size ≡ length rule.context
     → nat_lt previous size ≡ false → longer_behind n previous (drop n rules) ≡ whole → longer_behind (n + 1) size (drop (n + 1) rules) ≡ whole
-longer_after rules n previous size rule whole at is no so_far =
+longer_after rules n previous size rule whole at is shorter so_far =
     let rest : List Rule = drop (n + 1) rules in
-    let short : nat_lt previous (length rule.context) ≡ false = ap (nat_lt previous) (sym is) ∙ no in
+    let short : nat_lt previous (length rule.context) ≡ false = ap (nat_lt previous) (sym is) ∙ shorter in
     ap (λ (k : ℕ). longer_behind (n + 1) k rest) is
     ∙ (sym (ap (λ b. if b then Some n else longer_behind (n + 1) (length rule.context) rest) short)
     ∙ (sym (ap (longer_behind n previous) (reached rules n rule at)) ∙ so_far))
@@ -33,9 +33,9 @@ longer_after rules n previous size rule whole at is no so_far =
 -- a record whose context is longer is the first
 pub longer_here : (rules : List Rule) (n previous size : ℕ) (rule : Rule) (whole : Option ℕ) → Some rule ≡ slice_get rules n → size ≡ length rule.context
     → nat_lt previous size ≡ true → longer_behind n previous (drop n rules) ≡ whole → Some n ≡ whole
-longer_here rules n previous size rule whole at is yes so_far =
+longer_here rules n previous size rule whole at is longer so_far =
     let rest : List Rule = drop (n + 1) rules in
-    let long : nat_lt previous (length rule.context) ≡ true = ap (nat_lt previous) (sym is) ∙ yes in
+    let long : nat_lt previous (length rule.context) ≡ true = ap (nat_lt previous) (sym is) ∙ longer in
     sym (ap (λ b. if b then Some n else longer_behind (n + 1) (length rule.context) rest) long)
     ∙ (sym (ap (longer_behind n previous) (reached rules n rule at)) ∙ so_far)
 

@@ -128,6 +128,14 @@ pub(crate) fn stands_behind_match(context: Patterns<'_>) -> bool
     false
 }
 
+/// Returns the number of items in a context.
+pub(crate) fn item_count(context: Patterns<'_>) -> usize
+    requires { length context ≤ FILE_BYTES }
+    ensures { result ≡ length context.entry }
+{
+    context.count()
+}
+
 /// Returns the number of `nul` items in a context.
 pub(crate) fn nul_count(context: Patterns<'_>) -> usize
     requires { length context ≤ FILE_BYTES }

@@ -4,6 +4,7 @@ ghost use Rattle.std.specs.Prelude.{◌≡◌};
 ghost use Rattle.kmx_decompiler.specs.Unspelled.{first_longer, disorder};
 
 use crate::NoSpelling;
+use crate::items::item_count;
 use kmx_parts::{FileGroup, FileTables};
 
 /// Returns the refusal of the first record of all groups that has a longer context than the record before it, if any.
@@ -26,10 +27,10 @@ fn first_longer(group: &FileGroup<'_>) -> Option<u32>
     ensures { result ≡ first_longer group.now.rules }
 {
     let first = group.rule(0)?;
-    let mut previous = first.context().count();
+    let mut previous = item_count(first.context());
     for number in 1..group.rule_count() {
         let rule = group.rule(number)?;
-        let length = rule.context().count();
+        let length = item_count(rule.context());
         if previous < length {
             return Some(number);
         }
