@@ -1,0 +1,14 @@
+pub mod Outputs
+pub mod Contexts
+pub mod Keys
+pub mod Marks
+pub mod Reached
+pub mod Empty
+pub mod Facts
+pub mod Records
+pub mod Told
+pub mod Found
+pub mod Changes
+pub mod Widths
+pub mod Spent
+pub mod Queued
