@@ -1,14 +1,18 @@
 //! What Keyman's own engine treats differently in small keyboards. The rows were derived from its source, and most were measured on it.
 
-use compile_tests::sources::tables;
+use compile_tests::fixtures::compiled;
 use core_constructs::{
     Construct, Difference, FileConstruct, GroupConstruct, GroupDifference, Told, told,
 };
+use kmx_verifier::verify;
 use source_tests::fixtures::parted;
 use std::alloc::{AllocError, Global};
 use std::test::Fail;
 
-/// Each line has a source and, after ` ⇒ `, what is told of it, separated by commas: a line with its words, a group with a word, or
+/// The lines that `H` stands for.
+const HEAD: &str = "begin Unicode > use(main)\ngroup(main) using keys\n";
+
+/// Each line has a source of lines separated by `¶` and, after ` ⇒ `, what is told of it, separated by commas: a line with its words, a group with a word, or
 /// a word for the file.
 const TOLD: &str = "\
 H¶+ 'a' > layer('caps')¶if(&layer = 'caps') + 'b' > 'B' ⇒ 3 layer,4 layer
@@ -149,11 +153,26 @@ fn told_text(alloc: Global, told: &Told) -> Result<String, AllocError> {
     Ok(text)
 }
 
+/// Returns the source of these lines.
+fn source(alloc: Global, lines: &str) -> Result<String, AllocError> {
+    let mut text = String::new(alloc);
+    for line in lines.split("¶") {
+        if line == "H" {
+            text.push_str(HEAD)?;
+        } else {
+            text.push_str(line)?;
+            text.push_str("\n")?;
+        }
+    }
+    Ok(text)
+}
+
 /// Returns whether the row's keyboard is told as the row says.
 fn is_told(alloc: Global, row: &str) -> Result<bool, Fail> {
-    let (source, wanted) = parted(row)?;
-    let tables = tables(alloc, source)?;
-    let told = told(alloc, 0, &tables)?;
+    let (lines, wanted) = parted(row)?;
+    let bytes = compiled(alloc, source(alloc, lines)?.as_str())?;
+    let file = verify(alloc, bytes.as_slice())?;
+    let told = told(alloc, 0, &file.copied_tables(alloc)?)?;
     let text = told_text(alloc, &told)?;
     Ok(text.as_str().strip_suffix(",").unwrap_or("") == wanted)
 }
