@@ -31,7 +31,7 @@ abbrev pub with_effects : ℕ → List Out → ℕ → ℕ
 with_effects length items count = counted count (sum_by (item_effects length) items)
 
 -- the effects of a record: its context is deleted, its output runs, and then the match output
-abbrev pub rule_effects : Group → Rule → ℕ
+unfoldable pub rule_effects : Group → Rule → ℕ
 rule_effects group rule = with_effects 0 (live group.on_match) (with_effects (length rule.context) (live rule.output) (counted 0 (length rule.context)))
 
 -- the effects of a group: of its nomatch output and one character, of one of its records, or 22, since K_BKSP deletes up to 21 marks and

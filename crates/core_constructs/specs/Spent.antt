@@ -70,7 +70,7 @@ abbrev pub after_match : ℕ → Group → Rule → List ℕ → List ℕ
 after_match spent group rule units =
     if ends rule.output then units else raised_by (spent_after [] (live group.on_match) spent) (live group.on_match) units
 
-abbrev pub after_rule : Facts → ℕ → Group → List ℕ → Rule → List ℕ
+unfoldable pub after_rule : Facts → ℕ → Group → List ℕ → Rule → List ℕ
 after_rule facts spent group units rule =
     after_match (spent_by facts rule.context (live rule.output) spent) group rule
     (raised_by (spent_by facts rule.context (live rule.output) spent) (live rule.output) units)

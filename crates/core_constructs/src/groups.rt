@@ -1,8 +1,8 @@
 //! The groups whose match or nomatch output Keyman's own engine treats differently.
 
-ghost use Rattle.std.specs.Prelude.{◌≡◌, ◌++◌, filter, map, IfOk, OnOk};
+ghost use Rattle.std.specs.Prelude.{◌≡◌, ◌++◌, filter, map, slice_get, IfOk, OnOk};
 ghost use Rattle.core_constructs.specs.Changes.{saves_early};
-ghost use Rattle.core_constructs.specs.Told.{group_has, group_difference, differences_of, differences_at, group_differences};
+ghost use Rattle.core_constructs.specs.Told.{group_has, group_difference, differences_of, differences_in, differences_at, group_differences};
 
 use crate::changes::saves_early;
 use crate::construct::{GROUP_CONSTRUCTS, GroupConstruct, GroupDifference};
@@ -22,24 +22,24 @@ pub(crate) fn group_differences(
     ensures { IfOk result (λ list. list ≡ group_differences tables.now facts.now) }
 {
     let mut list = Seq::new(alloc);
+    let groups = tables.groups.as_slice();
     let reached = facts.reached.as_slice();
     for number in reached {
-        add_at(&mut list, tables, facts, *number)?;
+        add_at(&mut list, groups, facts, *number)?;
     }
     Ok(list)
 }
 
 /// Adds the constructs of the group of a number, if there is one.
-#[tactic(auto, using(crate::proofs::Saved::append_none))]
 fn add_at(
     list: &mut Seq<GroupDifference>,
-    tables: &Tables,
+    groups: &[Group],
     facts: &Facts,
     number: u32,
 ) -> Result<(), Memory>
-    ensures { OnOk result (list.new ≡ list.old ++ differences_at tables.now facts.now number) }
+    ensures { OnOk result (list.new ≡ list.old ++ differences_in facts.now number (slice_get groups.now number)) }
 {
-    match tables.groups.as_slice().get(number as usize) {
+    match groups.get(number as usize) {
         Some(group) => add_group(list, facts, number, group, &GROUP_CONSTRUCTS),
         None => Ok(()),
     }

@@ -107,6 +107,7 @@ fn group_effects(group: &Group) -> usize
 }
 
 /// Returns the effects of a record.
+#[tactic(auto, unfolding(crate::specs::Queued::rule_effects))]
 fn rule_effects(group: &Group, rule: &Rule) -> usize
     ensures { result ≡ rule_effects group.now rule.now }
 {

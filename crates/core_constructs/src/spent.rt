@@ -16,16 +16,16 @@ use rule_model::{Group, Out, Pat, Rule};
 use std::alloc::Global;
 
 /// Returns the units that can be spent when an event enters each group.
-#[tactic(auto, using(crate::proofs::Depths::spent_none, crate::proofs::Depths::spent_more))]
+#[tactic(auto, using(crate::proofs::Depths::spent_none, crate::proofs::Depths::spent_step))]
 pub(crate) fn spent_in(alloc: Global, facts: &Facts, groups: &[Group]) -> Result<Seq<u32>, Memory>
     ensures { IfOk result (λ spent. spent ≡ spent_in facts.now groups.now) }
 {
-    let mut spent = Seq::from_vec(vec![in alloc; 0; groups.len()]?);
+    let mut spent = vec![in alloc; 0; groups.len()]?;
     for _entry in 0..EVENT_ENTRIES {
-        let before = spent.copy(alloc)?;
+        let before = Vec::from_slice(alloc, spent.as_slice())?;
         raise_groups(facts, groups, before.as_slice(), spent.as_mut_slice());
     }
-    Ok(spent)
+    Ok(Seq::from_vec(spent))
 }
 
 /// Raises the units of each group that a group which an event can enter uses.
@@ -71,6 +71,7 @@ fn raise_group(facts: &Facts, spent: u32, group: &Group, units: &mut [u32])
 }
 
 /// Raises the units of the groups that a record uses, and the match output after it.
+#[tactic(auto, unfolding(crate::specs::Spent::after_rule))]
 fn raise_rule(facts: &Facts, spent: u32, group: &Group, rule: &Rule, units: &mut [u32])
     ensures { units.new ≡ after_rule facts.now spent group.now units.old rule.now }
 {
