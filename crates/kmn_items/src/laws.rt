@@ -2,14 +2,15 @@
 
 ghost use Rattle.kmn_items.specs.ItemLaws.{KeysAreOneItem, TokensAreTakenUp};
 
-/// If the items of a section (a store, a context, a key or an output) can be read, each reading begins where the previous one ended,
-/// and no token is left over. A reading uses one or more tokens and returns one item. Only a quoted token is different: it returns an
-/// item for each of its characters.
+/// If the items of a section (a store, a context, a key or an output) can be read, they are the items of successive readings, in order.
+/// A reading is one use of `read_item` that is not refused. It uses one or more tokens and returns one item or, for a quoted token, an
+/// item for each of its characters. The first reading begins at the first token, each other reading begins where the previous one
+/// ended, and no token is left over.
 pub fn tokens_are_taken_up()
     ensures { TokensAreTakenUp }
 {}
 
-/// If tokens can be read as a key, the key is the only item that they denote.
+/// If `read_key` reads tokens as a key, then `read_items` for the section of a key reads exactly one item from them, which is this key.
 #[tactic(auto, using(crate::proofs::KeyItems::keys_are_one_item))]
 pub fn keys_are_one_item()
     ensures { KeysAreOneItem }
