@@ -13,8 +13,9 @@ use kmn_items::{LineError, LineTokens};
 use rule_model::RuleKind;
 use std::alloc::Global;
 
-/// Reads the tokens of a line with a number, after the last group before it.
-pub(crate) fn read_line(
+/// Reads the tokens of a line with a number, after the last group before it. Errors: `Memory` if an allocation fails; else the first
+/// fault among the tokens, `S01` to `S12`, `L02` or `L04`.
+pub fn read_line(
     alloc: Global,
     group: LastGroup,
     number: u32,

@@ -113,7 +113,7 @@ fn read_on(
 }
 
 /// Returns the last group after a statement.
-fn group_after(group: LastGroup, statement: &Statement) -> LastGroup
+pub fn group_after(group: LastGroup, statement: &Statement) -> LastGroup
     ensures { result ≡ group_after group statement.now }
 {
     match statement {
@@ -134,7 +134,7 @@ fn last_group(using_keys: bool) -> LastGroup
 }
 
 /// Appends a statement to a program.
-fn add_statement(program: &mut Program, statement: Statement) -> Result<(), Memory>
+pub fn add_statement(program: &mut Program, statement: Statement) -> Result<(), Memory>
     ensures { OnOk result (program.new ≡ with_statement program.old statement) }
 {
     match statement {

@@ -23,7 +23,7 @@ pub(crate) fn is_sign(sign: Sign, kind: TokenKind) -> bool
 
 /// Returns the index of the first token that is a symbol, or the number of tokens, whose texts are in a source.
 #[tactic(auto, using(crate::proofs::LineLemmas::place_with_texts, kmn_items::proofs::TextLemmas::length_with_texts))]
-pub(crate) fn place_of(sign: Sign, tokens: LineTokens<'_>) -> usize
+pub fn place_of(sign: Sign, tokens: LineTokens<'_>) -> usize
     ensures place { result ≡ place_of sign (texts tokens.entry) }
     ensures within { result ≤ length (texts tokens.entry) }
 {
