@@ -84,7 +84,7 @@ with_kind outline (Group name readonly) tokens =
 with_kind outline (Store name) tokens = record outline { stores = outline.stores ++ name ∷ [] }
 with_kind outline Match tokens = with_output outline (output_of tokens)
 with_kind outline Rule tokens = with_output outline (output_of tokens)
-with_kind outline other tokens = outline
+with_kind outline _ tokens = outline
 
 -- an outline with another line
 abbrev pub with_line : Outline → List LineToken → Outline

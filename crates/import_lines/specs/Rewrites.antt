@@ -163,4 +163,4 @@ line_rewrite outline group tokens = line_of_kind outline group (line_kind tokens
 -- the group after a line
 abbrev pub group_after : List ℕ → LineKind → List ℕ
 group_after group (Group name readonly) = name
-group_after group other = group
+group_after group _ = group
