@@ -68,7 +68,7 @@ pub record AreTotals (known : Known) (before : List Statement) (totals : Totals)
   pub records : totals.records ≡ capped (all_records known before)
   pub sums : AreSums totals
 
-flat_push : {X Y : Type 0} (f : X → List Y) (xs : List X) (x : X) → flat_map f (xs ++ x ∷ []) ≡ flat_map f xs ++ f x
+pub flat_push : {X Y : Type 0} (f : X → List Y) (xs : List X) (x : X) → flat_map f (xs ++ x ∷ []) ≡ flat_map f xs ++ f x
 flat_push f xs x = flat_map-append f xs (x ∷ []) ∙ ap (λ ys. flat_map f xs ++ ys) (append-nil (f x))
 
 items_push : (f : SrcItem → List (List ℕ)) (before : List Statement) (statement : Statement)
@@ -98,7 +98,7 @@ module _ (known : Known) (counted : StoreCounts) (are : AreCounts counted known.
       gains_both totals named (with_values named (rule_items rule)) (flat_map mark_names (rule_items rule)) (flat_map key_names (rule_items rule)) [] [] [] (flat_map item_values (rule_items rule))
       (names_gain totals (rule_items rule)) (values_gain named (rule_items rule))
 
-  totals_rule : (before : List Statement) (totals : Totals) (rule : RuleDef) → AreTotals known before totals → AreTotals known (before ++ OfRule rule ∷ []) (after_rule counted totals rule)
+  pub totals_rule : (before : List Statement) (totals : Totals) (rule : RuleDef) → AreTotals known before totals → AreTotals known (before ++ OfRule rule ∷ []) (after_rule counted totals rule)
   totals_rule before totals rule told =
       let items = rule_items rule in
       let now = with_values (with_names totals items) items in
@@ -133,7 +133,7 @@ module _ (known : Known) (counted : StoreCounts) (are : AreCounts counted known.
     has_large_store : now.has_large_store ≡ list_any (nat_lt STORE_ELEMENTS) (flat_map (statement_size known) before ++ more)
     sums : AreSums totals → AreSums now
 
-  not_capped : (limit n : ℕ) → limit < 0xFFFF_FFFF → nat_lt limit (capped n) ≡ nat_lt limit n
+  pub not_capped : (limit n : ℕ) → limit < 0xFFFF_FFFF → nat_lt limit (capped n) ≡ nat_lt limit n
   not_capped limit n h = grind (arith, nat_tests)
 
   sized : (before : List Statement) (totals : Totals) (count size : ℕ) → count ≡ capped size → AreTotals known before totals → (dropped : Bool)
@@ -163,7 +163,7 @@ module _ (known : Known) (counted : StoreCounts) (are : AreCounts counted known.
         sums = λ h. record { key_characters = h.key_characters; value_elements = h.value_elements; has_large_value = h.has_large_value };
       }
 
-  totals_store : (before : List Statement) (totals : Totals) (store : StoreDef) → AreTotals known before totals → AreTotals known (before ++ OfStore store ∷ []) (after_store counted totals store)
+  pub totals_store : (before : List Statement) (totals : Totals) (store : StoreDef) → AreTotals known before totals → AreTotals known (before ++ OfStore store ∷ []) (after_store counted totals store)
   totals_store before totals store told =
       let one = sized before totals (total (count_of counted) 0 store.items) (length (statement_elements known store))
       (items_count known.names counted known.cased known.stores are store.items) told (is_dropped store) in
@@ -222,7 +222,7 @@ module _ (known : Known) (counted : StoreCounts) (are : AreCounts counted known.
     unfolding all_sizes
     sizes_are = λ j. flat_map (statement_size known) through ++ (dictionary_size (told.keys j) ++ map length (told.values j))
 
-    few : nat_lt STORES (store_count totals) ≡ are_many_stores (sizes known through)
+    pub few : nat_lt STORES (store_count totals) ≡ are_many_stores (sizes known through)
     unfolding all_sizes
     few =
         ap (λ n. nat_lt STORES (n + min 1 (length totals.keys) + capped (length totals.values))) told.stores
@@ -236,7 +236,7 @@ module _ (known : Known) (counted : StoreCounts) (are : AreCounts counted known.
         )
         ∙ ap length sizes_are)
 
-    much : passes_elements totals ≡ have_many_elements (sizes known through)
+    pub much : passes_elements totals ≡ have_many_elements (sizes known through)
     unfolding all_sizes
     much =
         (λ j. told.has_large_store j || (told.sums.has_large_value j || (dictionary_large j || all_large j)))
@@ -286,7 +286,7 @@ module _ (known : Known) (counted : StoreCounts) (are : AreCounts counted known.
             ∙ ap (λ code. earlier walk.first (at_line rule.line code)) (same_code (before ++ OfRule rule ∷ []) (after_rule counted walk.totals rule) next context (nat_lt OUTPUT_ITEMS size)),
       )
 
-  none_told : AreTotals known [] no_totals
+  pub none_told : AreTotals known [] no_totals
   none_told = record { marks = refl; keys = refl; values = refl; stores = refl; elements = refl; has_large_store = refl; records = refl; sums = record { key_characters = refl; value_elements = refl; has_large_value = refl } }
 
   walk_finds_first : (statements : List Statement) → (walked counted no_walk statements).first ≡ first_of (statement_refusal known) [] statements

@@ -27,3 +27,6 @@ pub mod JoinedCodes
 pub mod KnownValues
 pub mod SpelledTexts
 pub mod Walked
+pub mod Listed
+pub mod AllPassed
+pub mod LimitsLeast

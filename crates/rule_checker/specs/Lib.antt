@@ -4,4 +4,6 @@ pub mod Cased
 pub mod Counting
 pub mod KeyCodes
 pub mod Limits
+pub mod AllLimits
 pub mod Walking
+pub mod Listing

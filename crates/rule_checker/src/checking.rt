@@ -90,8 +90,8 @@ fn checked_names(alloc: Global, program: &Program) -> Result<Names, CompileError
     }
 }
 
-/// Returns the refusal of a program without a start.
-fn start_refusal(program: &Program) -> Option<Refusal>
+/// Returns the refusal of a program without a `begin Unicode`: C01, at line 1.
+pub fn start_refusal(program: &Program) -> Option<Refusal>
     ensures { result ≡ start_refusal program.now }
 {
     if is_started(program.begins.as_slice()) {

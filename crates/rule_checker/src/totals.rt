@@ -9,6 +9,7 @@
 ghost use Rattle.std.specs.Prelude.{◌≡◌, ◌||◌, OnOk, option_to_list};
 ghost use Rattle.rule_model.specs.Naming.{rule_items};
 ghost use Rattle.rule_checker.specs.Counting.{capped};
+ghost use Rattle.rule_checker.specs.Listing.{totals_passed};
 ghost use Rattle.rule_checker.specs.Walking.{after_rule, after_store, dictionary_count, key_count_of, no_totals, passes_elements, record_count_of, store_count, totals_code, with_key, with_mark, with_names, with_names_of, with_records, with_size, with_store_size, with_value, with_value_of, with_values};
 
 use crate::counting::{StoreCounts, records_named, store_count, virtual_count};
@@ -45,6 +46,15 @@ pub struct Totals {
     pub has_large_store: bool,
     /// The records of rules.
     pub records: u32,
+}
+
+/// Which of the limits that all statements share are passed: C18, C19, C21 and C22.
+#[derive(Clone, Copy)]
+pub struct Passed {
+    pub elements: bool,
+    pub stores: bool,
+    pub marks: bool,
+    pub records: bool,
 }
 
 /// Counts a store statement.
@@ -297,6 +307,18 @@ pub(crate) fn totals_code(totals: &Totals, context: bool, output: bool) -> Optio
         Some(Code::C22)
     } else {
         None
+    }
+}
+
+/// Returns which limits of all statements are passed.
+pub(crate) fn totals_passed(totals: &Totals) -> Passed
+    ensures { result ≡ totals_passed totals.now }
+{
+    Passed {
+        elements: passes_elements(totals),
+        stores: (STORES as u64) < store_count_of(totals),
+        marks: DEADKEYS < totals.marks.len(),
+        records: (RECORDS as u32) < totals.records,
     }
 }
 

@@ -1,6 +1,7 @@
 //! Tests the crates that read sources: `keys` tests `virtual_keys`, `lines` tests `kmn_lines`, and `tokens` tests `kmn_tokens`.
 //! `statements` tests `kmn_parser` on the sources in `rows`, each with its statements or its refusal. `names` tests `store_table` on
-//! programs, each with the first refusal of its names, and on one program with the numbers of its names.
+//! programs, each with the first refusal of its names, and on one program with the numbers of its names. `faults` tests
+//! `source_faults` on sources, each with all of its refusals.
 //!
 //! The tests are in a separate crate because a crate with tests is proved twice, once with its tests and once without. So each of
 //! the tested crates is proved once, and the tests are proved after it. `telling` writes what a program states in the notation of
@@ -8,6 +9,8 @@
 //! its expected result, `compile_tests` and `play_tests` to compare refusals, and `engine_tests` and `play_tests` to write items.
 #![tactic(auto)]
 
+#[cfg(test)]
+mod faults;
 pub mod fixtures;
 #[cfg(test)]
 mod keys;

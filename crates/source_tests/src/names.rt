@@ -1,12 +1,12 @@
-//! Sources, each with the first refusal of its names, and one source with the numbers of its names.
+//! Sources, each with the first refusal of its names or with all of them, and one source with the numbers of its names.
 
 use crate::fixtures::{is_refusal, is_row, parted, source_of};
-use kmn_base::CompileError;
+use kmn_base::{CompileError, Refusal};
 use kmn_parser::parse;
 use rule_model::Program;
 use std::alloc::Global;
 use std::test::Fail;
-use store_table::{Names, number};
+use store_table::{Names, names_refusals, number};
 
 const REFUSALS: &str = "\
 == start groups
@@ -38,6 +38,13 @@ group(m)¶'x' > use(z)¶store(a)¶store(a) ⇒ C06 2
 store(a)¶store(a)¶group(m)¶'x' > use(z) ⇒ C03 2
 == names without ASCII case
 begin Unicode > use(M)¶store(a) 'x'¶store(b) outs(A)¶group(m)¶any(B) > outs(a) use(m) ⇒ none";
+
+/// Each statement has at most one refusal: those of begins come first, then those of stores, groups and rules.
+const ALL_REFUSALS: &str = "\
+group(m)¶any(a) > outs(b)¶'x' > use(z) outs(a)¶store(c) outs(d) ⇒ C05 4, C05 2, C06 3
+store(a)¶store(a)¶begin ANSI > use(x)¶begin ANSI > use(m)¶group(m)¶group(M) ⇒ C06 3, C02 4, C03 2, C04 6
+group(m)¶match > 'x'¶match > use(z)¶nomatch > use(z)¶group(n)¶match > outs(a) ⇒ C15 3, C06 4, C05 6
+store(a) outs(b)¶store(b) outs(a) outs(z)¶store(c) outs(b) ⇒ C07 1, C05 2";
 
 /// Marks and custom keys of stores and rules are numbered in the order of their lines.
 const NUMBERED: &str = "\
@@ -81,6 +88,25 @@ fn is_refused(alloc: Global, row: &str) -> Result<bool, Fail> {
     })
 }
 
+/// Returns whether a program has all refusals of its row.
+fn are_all_refused(alloc: Global, row: &str) -> Result<bool, Fail> {
+    let (source, wanted) = parted(row)?;
+    let refusals = names_refusals(alloc, &program(alloc, source)?)?;
+    Ok(are_refusals(refusals.as_slice(), wanted))
+}
+
+/// Returns whether an expected result has the codes and the lines of refusals.
+fn are_refusals(refusals: &[Refusal], wanted: &str) -> bool {
+    let mut place = 0;
+    for one in wanted.split(", ") {
+        match refusals.get(place) {
+            Some(refusal) if is_refusal(*refusal, one) => place += 1,
+            _ => return false,
+        }
+    }
+    place == refusals.len()
+}
+
 /// Returns whether a name has its numbers.
 fn has_numbers(names: &Names, row: NumberRow) -> bool {
     let (name, store, group, mark, key) = row;
@@ -111,6 +137,9 @@ fn are_numbered(alloc: Global) -> Result<bool, Fail> {
 fn names_of_programs(rt: HostRuntime) -> Result<(), Fail> {
     for row in REFUSALS.lines().filter(is_row) {
         assert!(rt; is_refused(rt.alloc(), row)?, "{row}");
+    }
+    for row in ALL_REFUSALS.lines() {
+        assert!(rt; are_all_refused(rt.alloc(), row)?, "{row}");
     }
     assert!(rt; are_numbered(rt.alloc())?);
     Ok(())
