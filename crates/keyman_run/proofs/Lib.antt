@@ -8,7 +8,7 @@ pub mod MeaningLaws
 pub mod RunLaws
 pub mod ShadowLaws
 mod StatedLoads
-mod TextLaws
+pub mod TextLaws
 pub mod TraceLaws
 pub mod WordsLaws
 pub mod WorkLaws

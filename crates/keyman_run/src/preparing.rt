@@ -137,7 +137,7 @@ fn read_source<F: Folder>(
 }
 
 /// Reads the bitmap that a source's program names and compiles the program with it.
-fn compile_beside<F: Folder>(
+pub fn compile_beside<F: Folder>(
     alloc: Global,
     source: &FileName<'_>,
     checked: &Checked,

@@ -7,7 +7,7 @@ use kmn_base::{Memory, Refusal, Seq};
 use std::alloc::Global;
 
 /// Returns refusals in the order of their lines. Those at one line stay in their order. Errors: `Memory` if an allocation fails.
-pub(crate) fn sort_by_line(alloc: Global, refusals: &[Refusal]) -> Result<Seq<Refusal>, Memory>
+pub fn sort_by_line(alloc: Global, refusals: &[Refusal]) -> Result<Seq<Refusal>, Memory>
     ensures { IfOk result (λ sorted. sorted ≡ in_lines refusals.now) }
 {
     let mut sorted = Vec::from_slice(alloc, refusals)?;

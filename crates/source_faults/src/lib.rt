@@ -6,6 +6,7 @@
 //! again by a later pass, and it does not cause refusals of other lines: `specs/Reading` continues after a refused line,
 //! `specs/Words` takes the words of a line that cannot be read for names that it defines, and `specs/Stubs` replaces a refused
 //! statement by what others need of it. `laws` states that the first of all refusals is the one that compilation reports.
+//! `sort_by_line` returns refusals in the order of their lines.
 #![tactic(auto)]
 
 mod found;
@@ -17,4 +18,5 @@ mod refused_lines;
 mod stubs;
 mod words;
 
+pub use in_lines::sort_by_line;
 pub use listing::faults;
