@@ -40,7 +40,7 @@ use Rattle.rule_model.specs.KeyEvent.{begin_event, after_key}
 use Rattle.rule_model.specs.Event.{State, happening}
 use Rattle.rule_model.proofs.Steps.{trace_keeps}
 use Rattle.compile_laws.proofs.Keyboards.{tab_groups, tab_start, tab_choice}
-use Rattle.core_export.specs.Differences.{line_of}
+use Rattle.core_constructs.specs.Told.{line_of}
 use Rattle.core_export.specs.Saves.{may_save, group_may_save, saving_groups, may_save_twice, rule_saves_twice, first_line, nomatch_lines, group_saving_lines, saving_line}
 use Rattle.core_export.specs.Laws.{NoEventSavesTwice}
 use Rattle.core_export.proofs.Counts.{count_append}

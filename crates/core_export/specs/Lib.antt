@@ -2,9 +2,7 @@ pub mod Checksum
 pub mod Export
 pub mod ExportLaws
 pub mod Words
-pub mod Constructs
-pub mod Differences
-pub mod Found
 pub mod Laws
 pub mod Readable
 pub mod Saves
+pub mod Told

@@ -1,3 +1,4 @@
 pub mod Answered
 pub mod Differs
+pub mod Left
 pub mod LongFiles

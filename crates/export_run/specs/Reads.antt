@@ -1,11 +1,10 @@
 -- The results of reading and exporting a file.
 use Rattle.std.specs.Prelude.{◌≡◌, ◌⊎◌, ℕ, true, false, IsTrue, List, [], ◌∷◌, ◌++◌, Some, Result, Ok, Err}
 use Rattle.kmn_outside.specs.Outside.{Files, Rose, SameFiles, call_of}
-use Rattle.kmx_format.specs.TablesOf.{tables_of}
 use Rattle.kmx_verifier.specs.FaultOf.{IsValid, fault_of}
 use Rattle.kmx_verifier.specs.declared.faults.VerifyError.{VerifyError}
 use Rattle.kmx_verifier.specs.declared.faults.VerifyError.TheVariants as verify
-use Rattle.core_export.specs.Differences.{differences}
+use Rattle.core_export.specs.Told.{told_of}
 use Rattle.core_export.specs.Export.{Exports, IsExportError}
 use Rattle.core_export.specs.declared.errors.ExportError.{ExportError}
 use Rattle.core_export.specs.declared.errors.ExportError.TheVariants as error
@@ -16,9 +15,9 @@ use Rattle.export_run.specs.declared.reading.Export.{Export}
 use Rattle.export_run.specs.declared.reading.ExportStop.{ExportStop}
 use Rattle.export_run.specs.declared.reading.ExportStop.TheVariants as stop
 
--- the exported file of these bytes, with the lines for which the other engine behaves differently
+-- the exported file of these bytes, with all that the other engine treats differently
 abbrev pub IsExportOf : List ℕ → Export → Type 0
-IsExportOf bytes out = Exports bytes (Ok out.bytes) × (out.differences ≡ differences (tables_of bytes))
+IsExportOf bytes out = Exports bytes (Ok out.bytes) × (out.differences ≡ told_of bytes)
 
 -- why a valid file isn't exported
 abbrev pub IsReasonOfValid : List ℕ → ExportReason → Type 0

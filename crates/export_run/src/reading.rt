@@ -3,7 +3,8 @@
 ghost use Rattle.std.specs.Prelude.{◌≡◌};
 ghost use Rattle.export_run.specs.Reads.{Answers, Gives, States};
 
-use core_export::{Difference, ExportError, differences, export};
+use core_constructs::Told;
+use core_export::{ExportError, export, told_of};
 use keyman_words::{FileName, LONG_FILE, read};
 use kmn_base::limits::FILE_BYTES;
 use kmn_base::{Memory, Seq};
@@ -30,11 +31,11 @@ pub enum ExportReason {
     Overlapping,
 }
 
-/// The export of a file, and the lines of its source for which Keyman's own engine behaves differently.
+/// The export of a file, and what Keyman's own engine treats differently.
 #[derive(Drop)]
 pub struct Export {
     pub bytes: Seq<u8>,
-    pub differences: Seq<Difference>,
+    pub differences: Told,
 }
 
 /// Why a run stops before it writes.
@@ -116,6 +117,6 @@ fn export_file(alloc: Global, file: &Verified<'_>) -> Result<Export, ExportStop>
     ensures { Answers file.now result }
 {
     let bytes = export(alloc, file)?;
-    let differences = differences(alloc, file)?;
+    let differences = told_of(alloc, file)?;
     Ok(Export { bytes, differences })
 }

@@ -31,8 +31,7 @@ pub fn export_run<F: Folder, S: Sink>(
     }
 }
 
-/// Exports a file by name, writes the export under another name, and prints its size and the lines of the source for which the
-/// other engine behaves differently.
+/// Exports a file by name, writes the export under another name, and prints its size and what the other engine treats differently.
 fn export_file<F: Folder, S: Sink>(
     alloc: Global,
     file: &FileName<'_>,

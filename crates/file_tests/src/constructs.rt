@@ -137,7 +137,7 @@ fn put_group(text: &mut String, alloc: Global, told: &GroupDifference) -> Result
 }
 
 /// Returns all that is told, each followed by a comma.
-fn told_text(alloc: Global, told: &Told) -> Result<String, AllocError> {
+pub fn told_text(alloc: Global, told: &Told) -> Result<String, AllocError> {
     let mut text = String::new(alloc);
     for difference in told.lines.as_slice() {
         put_line(&mut text, alloc, difference)?;

@@ -52,6 +52,21 @@ fn with_empty_output() -> [u8; 122] {
     file
 }
 
+/// Returns the file whose header has the flag by which the other engine turns caps lock off.
+fn with_caps_flag() -> [u8; 122] {
+    let mut file = one_rule();
+    file[48] = 4;
+    file
+}
+
+/// Returns the export of that file. The checksum was computed by another program.
+fn exported_with_caps_flag() -> [u8; 122] {
+    let mut file = exported();
+    file[8..12].copy_from_slice(&[0xBE, 0xD4, 0xAB, 0x65]);
+    file[48] = 4;
+    file
+}
+
 /// Returns a file of one store without a name and one group, whose match output sets and resets the store.
 fn nameless() -> [u8; 116] {
     let mut file = [0; 116];
@@ -208,6 +223,15 @@ fn files(rt: HostRuntime) -> Result<(), Fail> {
             0,
             "exported bytes=122\n",
             &with_empty_output()
+        )?
+    );
+    assert!(rt;
+        file_ends(
+            alloc,
+            &with_caps_flag(),
+            0,
+            "exported bytes=122\ndiffers file caps\n",
+            &exported_with_caps_flag()
         )?
     );
     assert!(rt; file_ends(alloc, &nameless(), 1, "refused K02\n", b"")?);

@@ -1,5 +1,5 @@
-//! Tests the printed lines of an export: where another engine behaves differently, where an event may save twice, and where that
-//! engine misreads an item.
+//! Tests the printed lines of an export: what another engine treats differently, where an event may save twice, and where that engine
+//! misreads an item. The rows were derived from the source of that engine, and computed by another program.
 
 use crate::sources::file;
 use export_run::export_run;
@@ -14,9 +14,10 @@ use std::test::Fail;
 /// `refused` line is the only printed line.
 const CASES: &str = "\
 H¶+ 'a' > 'b' ⇒ 
-H¶+ 'a' > use(g)¶match > use(g) 'b'¶group(g) ⇒ differs 3 match
+H¶+ 'a' > use(g)¶match > use(g) 'b'¶group(g) ⇒ differs 3 match,differs group 0 use
 H¶+ 'a' > use(g) 'b'¶group(g) ⇒ differs 3 use
-H¶+ 'a' > use(g) nul¶match > 'b'¶group(g) ⇒ differs 3 use.match
+H¶+ 'a' > use(g) nul¶match > 'b'¶group(g) ⇒ differs 3 match
+H¶+ 'a' > use(g) 'c'¶match > 'b'¶group(g) ⇒ differs 3 use.match
 store(o) '1'¶H¶if(o = '1') nul + 'a' > 'b' ⇒ differs 4 nul
 store(o) '1'¶H¶nul if(o = '1') + 'a' > 'b' ⇒ 
 store(v) 'ab'¶H¶nul any(v) + 'a' > index(v,2)¶any(v) + 'b' > index(v,1) ⇒ differs 4 offset
@@ -24,20 +25,26 @@ H¶nul 'b' + 'a' > context(2) ⇒ differs 3 offset
 H¶nul 'b' context(2) + 'a' > 'c' ⇒ differs 3 offset
 H¶nul 'b' + 'a' > context ⇒ 
 H¶+ 'a' > use(g)¶group(g)¶'' > 'b'¶'c' > 'd' ⇒ differs 5 empty
-H¶+ [CTRL LCTRL K_A] > 'b'¶+ [ALT RALT K_A] > 'b'¶+ [CTRL K_A] > 'b' ⇒ differs 3 sides,differs 4 sides
-H¶+ [LCTRL RALT K_A] > 'b'¶+ [LCTRL LALT K_A] > 'b'¶+ [CTRL RALT K_A] > 'b' ⇒ differs 3 right
-H¶dk*21 + 'a' > 'b'¶dk*21 'b' + 'a' > 'b' ⇒ differs 4 long
+H¶+ [CTRL LCTRL K_A] > 'b'¶+ [ALT RALT K_A] > 'b'¶+ [CTRL K_A] > 'b' ⇒ differs 3 sides,differs 4 sides,differs file both
+H¶+ [LCTRL RALT K_A] > 'b'¶+ [LCTRL LALT K_A] > 'b'¶+ [CTRL RALT K_A] > 'b' ⇒ differs 3 right,differs 5 sides
+H¶dk*21 + 'a' > 'b' dk(1)¶dk*21 'b' + 'a' > 'b' ⇒ differs 4 long,differs file marks
+H¶dk*21 + 'a' > 'b'¶dk*21 'b' + 'a' > 'b' ⇒ 
 H¶U+10000*31 'b' + 'a' > 'b'¶U+10000*32 + 'a' > 'b' ⇒ differs 4 long
-store(v) 'ab'¶H¶any*21 + 'a' > 'b'¶any*22 + 'a' > 'b' ⇒ differs 5 long
-store(k) [K_A] [CTRL LCTRL K_B]¶H¶+ any(k) > 'b'¶+ [LCTRL RALT CTRL K_C] > use(g) 'c'¶group(g) ⇒ differs 4 sides,differs 5 use.sides.right
+store(v) 'a' U+10000¶H¶any*31 'b' + 'a' > 'b'¶any*32 + 'a' > 'b' ⇒ differs 5 long
+store(k) [K_A] [CTRL LCTRL K_B]¶H¶+ any(k) > 'b'¶+ [LCTRL RALT CTRL K_C] > use(g) 'c'¶group(g) ⇒ differs 4 sides,differs 5 use.sides
+H¶layer('caps') + 'a' > 'b'¶+ '5' > layer('shift') ⇒ differs 3 layer,differs 4 layer.keypad
+H¶platform(' windows') + 'a' > 'b' ⇒ differs 3 platform
 store(o) '1'¶H¶+ 'a' > save(o) ⇒ 
+store(o) '1'¶H¶+ 'a' > save(o) reset(o) ⇒ differs 4 save
+store(o) '1'¶H¶+ 'a' > use(g)¶group(g)¶'b' > 'c'¶match > layer('caps')¶nomatch > save(o) reset(o) ⇒ differs group 1 save,differs group 1 layer
+H¶+ 'a' > use(g) 'c' dk(1)¶'b' + [U_00E1] > 'd'¶+ [ALT K_B] > 'b'¶nomatch > use(main)¶group(g)¶'b' > 'c' ⇒ differs 3 use,differs group 0 nomatch,differs file marks,differs file own,differs file both,differs file budget
 store(o) '1'¶H¶+ 'a' > save(o) save(o) ⇒ refused K01 line 4
 store(o) '1'¶H¶+ 'a' > save(o) use(g)¶group(g)¶'b' > save(o) ⇒ refused K01 line 4
 store(o) '1'¶H¶+ 'a' > save(o) use(g)¶group(g)¶'b' > 'c' ⇒ 
 store(o) '1'¶H¶+ 'a' > save(o)¶+ 'b' > 'c'¶match > save(o) ⇒ refused K01 line 4
 store(o) '1'¶H¶+ 'a' > 'b'¶+ 'b' > use(g)¶match > use(g)¶group(g)¶nomatch > save(o) ⇒ refused K01 line 5
 store(o) '1'¶H¶+ 'a' > 'b'¶nomatch > save(o) save(o) ⇒ refused K01 line 4
-store(o) '1'¶H¶+ 'a' > use(main)¶+ 'b' > save(o) ⇒ 
+store(o) '1'¶H¶+ 'a' > use(main)¶+ 'b' > save(o) ⇒ differs file budget
 store(o) '1'¶H¶+ 'a' > use(main) use(main)¶+ 'b' > save(o) ⇒ refused K01 line 4
 store(o) '1'¶H¶+ 'a' > use(g)¶group(g)¶'b' > use(h)¶group(h)¶'c' > save(o) reset(o) use(h) ⇒ refused K01 line 8
 store(o) '1'¶H¶+ 'a' > save(o) save(o) U+0010 ⇒ refused K01 line 4

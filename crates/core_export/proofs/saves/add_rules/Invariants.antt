@@ -2,7 +2,7 @@ use Rattle.std.proofs.Common.{◌≡◌, drop, filter, map}
 use Rattle.std.specs.List.{fold}
 use Rattle.std.specs.Ordering.{nat_cmp}
 use Rattle.std.specs.BTreeSet.{insert_key}
-use Rattle.core_export.specs.Differences.{line_of}
+use Rattle.core_constructs.specs.Told.{line_of}
 use Rattle.core_export.specs.Saves.{rule_saves_twice}
 use Rattle.core_export.proofs.saves.add_rules.Given as goal
 

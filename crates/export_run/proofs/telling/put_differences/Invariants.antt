@@ -1,7 +1,7 @@
 use Rattle.std.proofs.Common.{◌≡◌, drop, flat_map, IsTrue}
 use Rattle.play_transcript.specs.Printing.{AppendsBut}
 use Rattle.export_run.specs.Lines.{differs_line}
-use Rattle.export_run.proofs.printing.put_differences.Given as goal
+use Rattle.export_run.proofs.telling.put_differences.Given as goal
 
 abbrev pub invariant-loop-difference : goal.invariant-loop-difference
 invariant-loop-difference g l =

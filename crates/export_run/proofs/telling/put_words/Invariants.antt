@@ -1,7 +1,7 @@
 use Rattle.std.proofs.Common.{◌≡◌, ◌++◌, ◌∷◌, drop, map, flat_map}
 use Rattle.std.specs.String.{string_bytes}
 use Rattle.export_run.specs.Lines.{construct_word}
-use Rattle.export_run.proofs.printing.put_words.Given as goal
+use Rattle.export_run.proofs.telling.put_words.Given as goal
 
 abbrev pub invariant-loop-construct : goal.invariant-loop-construct
 invariant-loop-construct l =

@@ -1,6 +1,0 @@
-use Rattle.std.proofs.Common.{◌≡◌, map, take}
-use Rattle.core_export.specs.Found.{told_at}
-use Rattle.core_export.proofs.differing.told.Given as goal
-
-abbrev pub invariant-loop-line : goal.invariant-loop-line
-invariant-loop-line l = l.told ≡ map (told_at l.all) (take l.line-index l.lines)
