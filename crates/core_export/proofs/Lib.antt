@@ -15,3 +15,4 @@ pub mod Units
 pub mod Counts
 pub mod SavedOnce
 pub mod Sets
+pub mod ConvertedExports

@@ -6,8 +6,7 @@ use Rattle.core_export.specs.Saves.{saving_line}
 use Rattle.core_export.specs.declared.errors.ExportError.{ExportError}
 use Rattle.core_export.specs.declared.errors.ExportError.TheVariants as error
 use Rattle.core_export.specs.Readable.{has_nameless, has_misread, is_overfull, AreSafe, IsReadable}
-use Rattle.core_export.specs.Export.{with_played_version, SaysTheSame, Replaces, AreUnsafe, IsSafe, IsExportError, Exports}
-use Rattle.core_export.specs.ExportLaws.{ExportsAreSafe}
+use Rattle.core_export.specs.Export.{with_played_version, SaysTheSame, Replaces, AreUnsafe, IsSafe, IsExportError, ExportsUnconverted}
 
 -- with a lower version, tables are still safe and need the same space
 played_safe : (tables : Tables) → AreSafe tables → AreSafe (with_played_version tables)
@@ -29,7 +28,7 @@ readable bytes out safe same size = record {
 }
 
 -- if a file does not crash the engine, replacing its words is its export
-pub exports_safe : (bytes : List ℕ) (result : Result (List ℕ) ExportError) → AreSafe (tables_of bytes) → is_overfull (tables_of bytes) (length bytes) ≡ false → Replaces bytes result → Exports bytes result
+pub exports_safe : (bytes : List ℕ) (result : Result (List ℕ) ExportError) → AreSafe (tables_of bytes) → is_overfull (tables_of bytes) (length bytes) ≡ false → Replaces bytes result → ExportsUnconverted bytes result
 exports_safe bytes (Ok out) tables fits words =
     let safe : IsSafe bytes = record { tables = tables; fits = fits } in
     (safe, words, readable bytes out safe words.4.same words.3.size)
@@ -50,6 +49,3 @@ unsafe_exported bytes error.Overfull unsafe = absurd unsafe
 unsafe_exported bytes error.NoZeroUnit unsafe = absurd unsafe
 unsafe_exported bytes error.Overlapping unsafe = absurd unsafe
 unsafe_exported bytes error.Memory unsafe = unsafe
-
-pub exports_are_safe : ExportsAreSafe
-exports_are_safe bytes out exports = exports.2

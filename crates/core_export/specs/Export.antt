@@ -1,5 +1,5 @@
 -- The file that Keyman's own engine plays, and its properties.
-use Rattle.std.specs.Prelude.{◌≡◌, ℕ, zero, suc, ◌+◌, ◌*◌, ◌<◌, ◌≤◌, min, true, false, nat_eq, if◌then◌else◌, List, length, slice_get, Option, Some, None, Result, Ok, Err}
+use Rattle.std.specs.Prelude.{◌≡◌, ℕ, zero, suc, ◌+◌, ◌*◌, ◌<◌, ◌≤◌, ◌⊎◌, min, true, false, nat_eq, if◌then◌else◌, List, length, slice_get, Option, Some, None, Result, Ok, Err}
 use Rattle.std.specs.Option.{option_or}
 use Rattle.rule_model.specs.declared.tables.Tables.{Tables}
 use Rattle.kmx_format.specs.declared.places.TheConstants.{CHECKSUM_AT, GROUPS_AT, RULE_CONTEXT_AT, RULE_OUTPUT_AT, STORES_AT, VERSION_AT}
@@ -7,6 +7,8 @@ use Rattle.kmx_format.specs.declared.sizes.TheConstants.{STORE_BYTES, GROUP_BYTE
 use Rattle.kmx_format.specs.TablesOf.{word_at, string_at, tables_of}
 use Rattle.kmx_view.specs.View.{store_count, group_count}
 use Rattle.kmx_verifier.specs.FaultOf.{IsValid}
+use Rattle.core_conversions.specs.Conversions.{plain_sides}
+use Rattle.core_export.specs.Converted.{converted_bytes}
 use Rattle.core_export.specs.Saves.{saving_line}
 use Rattle.core_export.specs.Checksum.{checksum}
 use Rattle.core_export.specs.Readable.{are_contents_pointed, are_groups_pointed, has_misread, has_nameless, is_overfull, misread_line, AreSafe, IsReadable}
@@ -193,9 +195,32 @@ IsExportError bytes NoZeroUnit = IsSafe bytes × IsWordsError bytes NoZeroUnit
 IsExportError bytes Overlapping = IsSafe bytes × IsWordsError bytes Overlapping
 IsExportError bytes Memory = Unit {0}
 
--- the result of the exporter
+-- the result of exporting a file without converting it
+abbrev pub ExportsUnconverted : List ℕ → Result (List ℕ) ExportError → Type 0
+ExportsUnconverted bytes (Ok out) = IsSafe bytes × Replaces bytes (Ok out) × IsReadable out
+ExportsUnconverted bytes (Err error) = IsExportError bytes error
+
+-- `out` is the export of a converted file, which is valid and has the converted tables
+pub record IsConvertedExport (bytes converted out : List ℕ) : Type 0 where
+  pub valid : IsValid converted
+  pub tables : tables_of converted ≡ plain_sides (tables_of bytes)
+  pub exported : ExportsUnconverted converted (Ok out)
+
+-- a converted file has no export
+pub record HasNoExport (bytes converted : List ℕ) : Type 0 where
+  pub none : (out : List ℕ) → IsConvertedExport bytes converted out → ⊥
+
+-- the export of a converted file, or None if there is none
+abbrev pub FindsConverted : List ℕ → List ℕ → Option (List ℕ) → Type 0
+FindsConverted bytes converted (Some out) = IsConvertedExport bytes converted out
+FindsConverted bytes converted None = HasNoExport bytes converted
+
+-- the result of the exporter: the export of the converted file, or that of the file itself if there is no such export. If the file
+-- itself isn't exported, this is the error
 abbrev pub Exports : List ℕ → Result (List ℕ) ExportError → Type 0
-Exports bytes (Ok out) = IsSafe bytes × Replaces bytes (Ok out) × IsReadable out
+Exports bytes (Ok out) =
+    ((own : List ℕ) × ExportsUnconverted bytes (Ok own))
+    × (IsConvertedExport bytes (converted_bytes bytes) out ⊎ (HasNoExport bytes (converted_bytes bytes) × ExportsUnconverted bytes (Ok out)))
 Exports bytes (Err error) = IsExportError bytes error
 
 -- what an error of a check reports: `Overlapping` if the property does not hold; `Memory` has no condition

@@ -1,5 +1,5 @@
 -- Laws of exported files.
-use Rattle.std.specs.Prelude.{◌≡◌, ◌≢◌, ℕ, ◌<◌, List, [], ◌∷◌, Some, Ok, IsSome}
+use Rattle.std.specs.Prelude.{◌≡◌, ◌≢◌, ℕ, ◌<◌, List, [], ◌∷◌, length, Some, Ok, IsSome}
 use Rattle.rule_model.specs.declared.tables.Group.{Group}
 use Rattle.std.specs.List.{All}
 use Rattle.kmn_base.specs.declared.events.Event.{Event}
@@ -44,3 +44,11 @@ ExportedFilesStay = (bytes out : List ℕ) (unit : ℕ) → All (λ byte. byte <
 -- each file that the exporter writes is one that the engine reads without a crash
 abbrev pub ExportsAreSafe : Type 0
 ExportsAreSafe = (bytes out : List ℕ) → Exports bytes (Ok out) → IsReadable out
+
+-- each file that the exporter writes takes the same steps as the given file for all events, also if it is converted
+abbrev pub ExportsPlayAlike : Type 0
+ExportsPlayAlike = (bytes out : List ℕ) → Exports bytes (Ok out) → (events : List Event) → trace (tab (tables_of out)) events ≡ trace (tab (tables_of bytes)) events
+
+-- each file that the exporter writes has the size of the given file
+abbrev pub ExportsKeepSize : Type 0
+ExportsKeepSize = (bytes out : List ℕ) → Exports bytes (Ok out) → length out ≡ length bytes

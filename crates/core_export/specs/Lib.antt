@@ -6,3 +6,4 @@ pub mod Laws
 pub mod Readable
 pub mod Saves
 pub mod Told
+pub mod Converted

@@ -5,7 +5,6 @@ use Rattle.kmx_format.specs.TablesOf.{word_at, tables_of}
 use Rattle.core_constructs.specs.declared.construct.Told.{Told}
 use Rattle.core_constructs.specs.Told.{told}
 
--- what is told of the tables of a file and of the flags in its header. They are also those of its export: it has the same tables except for
--- the version, and none of its replaced words is the flags, unless an array of the file overlaps the header
+-- what is told of the tables of a file and of the flags in its header
 abbrev pub told_of : List ℕ → Told
 told_of bytes = told (word_at bytes FLAGS_AT) (tables_of bytes)

@@ -1,6 +1,6 @@
 //! Laws of `specs/ExportLaws`, each the contract of a function with an empty body.
 
-ghost use Rattle.core_export.specs.ExportLaws.{WrittenFilesAreExported, NamedFilesHaveZeroUnits, CompiledFilesAreExported, ExportingKeepsMeaning, ExportedFilesStay, ExportsAreSafe};
+ghost use Rattle.core_export.specs.ExportLaws.{WrittenFilesAreExported, NamedFilesHaveZeroUnits, CompiledFilesAreExported, ExportingKeepsMeaning, ExportedFilesStay, ExportsAreSafe, ExportsPlayAlike, ExportsKeepSize};
 ghost use Rattle.core_export.specs.Laws.{NoEventSavesTwice};
 
 /// If a file is written from tables, it says the same with its words replaced. So `export` never returns `Overlapping` for it.
@@ -23,15 +23,22 @@ pub fn exporting_keeps_meaning()
     ensures { ExportingKeepsMeaning }
 {}
 
-/// If an exported file is exported again, it does not change.
+/// If the words of an exported file are replaced again, it does not change.
 pub fn exported_files_stay()
     ensures { ExportedFilesStay }
 {}
 
 /// If `export` writes a file, this file does not crash Keyman's own engine.
-#[tactic(auto, using(crate::proofs::Safe::exports_are_safe))]
+#[tactic(auto, using(crate::proofs::ConvertedExports::exports_are_safe))]
 pub fn exports_are_safe()
     ensures { ExportsAreSafe }
+{}
+
+/// If `export` writes a file, converted or not, it takes the same steps as the given file for every list of events, and has its size.
+#[tactic(auto, using(crate::proofs::ConvertedExports::exports_play_alike, crate::proofs::ConvertedExports::exports_keep_size))]
+pub fn exports_play_alike()
+    ensures alike { ExportsPlayAlike }
+    ensures size { ExportsKeepSize }
 {}
 
 /// If `saving_line` returns no line, no event of the keyboard saves twice, for every list of events.

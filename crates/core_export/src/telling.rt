@@ -12,8 +12,6 @@ use std::alloc::Global;
 
 /// Returns what Keyman's own engine treats differently in a file: by source line, by group, and once for the file.
 ///
-/// The flags are those in the header of the given file. An export keeps them, so they are also the flags that the engine reads.
-///
 /// Errors: `Memory` if an allocation fails.
 pub fn told_of(alloc: Global, file: &Verified<'_>) -> Result<Told, Memory>
     ensures { IfOk result (λ all. all ≡ told_of file.now) }

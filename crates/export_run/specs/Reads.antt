@@ -5,6 +5,7 @@ use Rattle.kmx_verifier.specs.FaultOf.{IsValid, fault_of}
 use Rattle.kmx_verifier.specs.declared.faults.VerifyError.{VerifyError}
 use Rattle.kmx_verifier.specs.declared.faults.VerifyError.TheVariants as verify
 use Rattle.core_export.specs.Told.{told_of}
+use Rattle.core_constructs.specs.declared.construct.Told.{Told}
 use Rattle.core_export.specs.Export.{Exports, IsExportError}
 use Rattle.core_export.specs.declared.errors.ExportError.{ExportError}
 use Rattle.core_export.specs.declared.errors.ExportError.TheVariants as error
@@ -15,9 +16,9 @@ use Rattle.export_run.specs.declared.reading.Export.{Export}
 use Rattle.export_run.specs.declared.reading.ExportStop.{ExportStop}
 use Rattle.export_run.specs.declared.reading.ExportStop.TheVariants as stop
 
--- the exported file of these bytes, with all that the other engine treats differently
+-- the exported file of these bytes, with all that the other engine treats differently in it
 abbrev pub IsExportOf : List ℕ → Export → Type 0
-IsExportOf bytes out = Exports bytes (Ok out.bytes) × (out.differences ≡ told_of bytes)
+IsExportOf bytes out = Exports bytes (Ok out.bytes) × (out.differences ≡ told_of out.bytes)
 
 -- why a valid file isn't exported
 abbrev pub IsReasonOfValid : List ℕ → ExportReason → Type 0
@@ -53,6 +54,13 @@ export_stop error.Overfull = stop.Refused Overfull
 export_stop error.NoZeroUnit = stop.Refused NoZeroUnit
 export_stop error.Overlapping = stop.Refused Overlapping
 export_stop error.Memory = stop.Memory
+
+-- all that the other engine treats differently in bytes, or why a run stops: they are not a valid file
+abbrev pub Differs : List ℕ → Result Told ExportStop → Type 0
+Differs bytes (Ok told) = told ≡ told_of bytes
+Differs bytes (Err (stop.Refused (File fault))) = fault_of bytes ≡ Some fault
+Differs bytes (Err stop.Memory) = Unit {0}
+Differs bytes (Err _) = ⊥
 
 -- the export of a valid file, or why there is none
 abbrev pub Answers : List ℕ → Result Export ExportStop → Type 0

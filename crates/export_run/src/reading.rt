@@ -1,7 +1,7 @@
 //! Reads a file by name and exports it.
 
 ghost use Rattle.std.specs.Prelude.{◌≡◌};
-ghost use Rattle.export_run.specs.Reads.{Answers, Gives, States};
+ghost use Rattle.export_run.specs.Reads.{Answers, Differs, Gives, States};
 
 use core_constructs::Told;
 use core_export::{ExportError, export, told_of};
@@ -31,7 +31,7 @@ pub enum ExportReason {
     Overlapping,
 }
 
-/// The export of a file, and what Keyman's own engine treats differently.
+/// The export of a file, and what Keyman's own engine treats differently in it.
 #[derive(Drop)]
 pub struct Export {
     pub bytes: Seq<u8>,
@@ -117,6 +117,15 @@ fn export_file(alloc: Global, file: &Verified<'_>) -> Result<Export, ExportStop>
     ensures { Answers file.now result }
 {
     let bytes = export(alloc, file)?;
-    let differences = told_of(alloc, file)?;
+    let differences = told_in(alloc, bytes.as_slice())?;
     Ok(Export { bytes, differences })
+}
+
+/// Returns what Keyman's own engine treats differently in the bytes of a file.
+#[tactic(auto, using(crate::proofs::Answered::fault_differs))]
+fn told_in(alloc: Global, bytes: &[u8]) -> Result<Told, ExportStop>
+    ensures { Differs bytes.now result }
+{
+    let file = verify(alloc, bytes)?;
+    Ok(told_of(alloc, &file)?)
 }

@@ -25,13 +25,13 @@ H¶nul 'b' + 'a' > context(2) ⇒ differs 3 offset
 H¶nul 'b' context(2) + 'a' > 'c' ⇒ differs 3 offset
 H¶nul 'b' + 'a' > context ⇒ 
 H¶+ 'a' > use(g)¶group(g)¶'' > 'b'¶'c' > 'd' ⇒ differs 5 empty
-H¶+ [CTRL LCTRL K_A] > 'b'¶+ [ALT RALT K_A] > 'b'¶+ [CTRL K_A] > 'b' ⇒ differs 3 sides,differs 4 sides,differs file both
+H¶+ [CTRL LCTRL K_A] > 'b'¶+ [ALT LCTRL K_A] > 'b'¶+ [ALT RALT K_B] > 'b' ⇒ differs 4 sides,differs file both
 H¶+ [LCTRL RALT K_A] > 'b'¶+ [LCTRL LALT K_A] > 'b'¶+ [CTRL RALT K_A] > 'b' ⇒ differs 3 right,differs 5 sides
 H¶dk*21 + 'a' > 'b' dk(1)¶dk*21 'b' + 'a' > 'b' ⇒ differs 4 long,differs file marks
 H¶dk*21 + 'a' > 'b'¶dk*21 'b' + 'a' > 'b' ⇒ 
 H¶U+10000*31 'b' + 'a' > 'b'¶U+10000*32 + 'a' > 'b' ⇒ differs 4 long
 store(v) 'a' U+10000¶H¶any*31 'b' + 'a' > 'b'¶any*32 + 'a' > 'b' ⇒ differs 5 long
-store(k) [K_A] [CTRL LCTRL K_B]¶H¶+ any(k) > 'b'¶+ [LCTRL RALT CTRL K_C] > use(g) 'c'¶group(g) ⇒ differs 4 sides,differs 5 use.sides
+store(k) [K_A] [CTRL LALT K_B]¶H¶+ any(k) > 'b'¶+ [LCTRL RALT CTRL K_C] > use(g) 'c'¶group(g) ⇒ differs 4 sides,differs 5 use.sides
 H¶layer('caps') + 'a' > 'b'¶+ '5' > layer('shift') ⇒ differs 3 layer,differs 4 layer.keypad
 H¶platform(' windows') + 'a' > 'b' ⇒ differs 3 platform
 store(o) '1'¶H¶+ 'a' > save(o) ⇒ 
