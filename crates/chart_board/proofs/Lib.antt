@@ -1,0 +1,4 @@
+pub mod Contexts
+pub mod FirstStates
+pub mod OwnKeys
+pub mod Previews

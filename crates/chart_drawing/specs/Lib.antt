@@ -1,0 +1,3 @@
+pub mod Escaped
+pub mod Glyphs
+pub mod Picture
