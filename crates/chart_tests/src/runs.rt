@@ -1,0 +1,115 @@
+//! Tests runs of `chart_run` over a folder and a sink in memory.
+
+use chart_run::chart_run;
+use compile_tests::fixtures::ONE_RULE;
+use kmn_base::Seq;
+use kmn_outside::{MemoryFolder, MemorySink};
+use run_tests::commands::words;
+use std::alloc::Global;
+use std::test::Fail;
+
+/// A run with command-line arguments over a folder that contains a file `in` and a script `keys`. The folder call and the sink call
+/// with these numbers fail. If a number is 0, no call fails.
+#[derive(Drop)]
+struct Run<'a> {
+    words: &'a str,
+    file: &'a [u8],
+    keys: &'a str,
+    folder_call: u32,
+    sink_call: u32,
+}
+
+/// The end of a run: the exit status, and the printed text or how it begins.
+#[derive(Drop)]
+struct End<'a> {
+    status: u8,
+    printed: &'a str,
+}
+
+/// The key A, whose rule types a b.
+const KEY_A: &str =
+    "<g class='ruled' transform='translate(112,128)'><title>A: b U+0062</title><rect width='60' height='60' rx='6'/><text class='cap' x='6' y='13'>A</text><text class='text' x='30' y='42' font-size='24'>b</text></g>\n";
+
+/// Returns the file of one rule, `+ 'a' > 'b'`, with the version 17.0.
+fn one_rule() -> [u8; 122] {
+    let mut file = ONE_RULE;
+    file[5] = 0x11;
+    file
+}
+
+/// Returns whether a text has a part.
+fn has(text: &[u8], part: &[u8]) -> bool {
+    (0..text.len()).any(|place| text[place..].starts_with(part))
+}
+
+/// Returns whether a run ends like this. Only a run that ends with status 0 writes a drawing, which has the key A.
+fn ends(alloc: Global, run: &Run, end: &End) -> Result<bool, Fail> {
+    let words = words(alloc, run.words)?;
+    let mut files = Vec::new(alloc);
+    files.push((
+        Seq::from_slice(alloc, b"in")?,
+        Seq::from_slice(alloc, run.file)?,
+    ))?;
+    files.push((
+        Seq::from_slice(alloc, b"keys")?,
+        Seq::from_slice(alloc, run.keys.as_bytes())?,
+    ))?;
+    let folder_fails = Vec::from_slice(alloc, &[run.folder_call])?;
+    let mut folder = MemoryFolder::new(alloc, Seq::from_vec(files), Seq::from_vec(folder_fails));
+    let sink_fails = Vec::from_slice(alloc, &[run.sink_call])?;
+    let mut sink = MemorySink::new(alloc, Seq::from_vec(sink_fails));
+    let status = chart_run(alloc, words.as_slice(), &mut folder, &mut sink);
+    let drawn = folder.file(b"out").unwrap_or(&[]);
+    Ok(
+        status.number() == end.status
+            && sink.written().starts_with(end.printed.as_bytes())
+            && has(drawn, KEY_A.as_bytes()) == (end.status == 0 || run.sink_call == 1),
+    )
+}
+
+#[test]
+fn runs(rt: HostRuntime) -> Result<(), Fail> {
+    let alloc = rt.alloc();
+    let file = one_rule();
+    let rows: [(&str, &[u8], &str, (u32, u32), u8, &str); 10] = [
+        ("in out", &file, "", (0, 0), 0, "drawn bytes="),
+        ("in out keys", &file, "[K_B]\n", (0, 0), 0, "drawn bytes="),
+        ("in out", &file[..60], "", (0, 0), 1, "refused V01 at 60\n"),
+        (
+            "in out keys",
+            &file,
+            "[K_A\n",
+            (0, 0),
+            1,
+            "refused P03 line 1\n",
+        ),
+        (
+            "in out keys",
+            &file,
+            "caret 9\n",
+            (0, 0),
+            1,
+            "refused E1 event 1\n",
+        ),
+        ("in", &file, "", (0, 0), 2, ""),
+        ("none out", &file, "", (0, 0), 3, ""),
+        ("in out none", &file, "", (0, 0), 3, ""),
+        ("in out", &file, "", (2, 0), 4, ""),
+        ("in out", &file, "", (0, 1), 4, ""),
+    ];
+    for row in &rows {
+        let run = Run {
+            words: row.0,
+            file: row.1,
+            keys: row.2,
+            folder_call: row.3.0,
+            sink_call: row.3.1,
+        };
+        let end = End {
+            status: row.4,
+            printed: row.5,
+        };
+        assert!(rt; ends(alloc, &run, &end)?, "{} {}", row.0, row.2);
+    }
+    Ok(())
+}
