@@ -1,0 +1,4 @@
+pub mod Meanings
+pub mod Printed
+pub mod Orders
+pub mod Runs
