@@ -30,9 +30,13 @@ key_places =
 abbrev pub produces : Bool → ℕ → ℕ → Bool
 produces shifted c code = option_map_or (nat_eq c) (char_of_press (record { code = code; mods = if shifted then SHIFT else 0 })) false
 
+-- the code of the first key of a table that produces a character
+abbrev pub producing_in : List (List ℕ × ℕ) → ℕ → Option ℕ
+producing_in table c = option_map (λ row. row.1) (find (λ row. produces false c row.1 || produces true c row.1) table)
+
 -- the code of the first key of the board that produces a character
 abbrev pub key_producing : ℕ → Option ℕ
-key_producing c = option_map (λ row. row.1) (find (λ row. produces false c row.1 || produces true c row.1) key_places)
+key_producing c = producing_in key_places c
 
 -- SHIFT for a key that needs it, unless it is among the words of its bracket
 abbrev pub shift_tokens : Bool → List LineToken → List LineToken

@@ -3,3 +3,4 @@ pub mod Keys
 pub mod Laws
 pub mod Ranges
 pub mod Scan
+pub mod Spelling

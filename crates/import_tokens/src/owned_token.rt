@@ -1,10 +1,11 @@
-//! A token with its own text, so that it can be in a line that is written.
+//! A token with its own text, so that it can be part of a line that is being written.
 
 ghost use Rattle.std.specs.Prelude.{◌≡◌, IfOk};
 ghost use Rattle.kmn_items.specs.TokenTexts.{text_at};
 
 use kmn_base::names::same_name;
 use kmn_base::{Memory, Seq, Text};
+use kmn_items::quoted;
 use kmn_lines::TokenKind;
 use std::alloc::Global;
 use std::marker::Model;
@@ -27,7 +28,7 @@ impl Model for OwnedToken {
 impl OwnedToken {
     ghost use Rattle.std.specs.Prelude.{◌≡◌, ◌&&◌, ◌∷◌, [], IfOk};
     ghost use Rattle.kmn_base.specs.Names.{same_name};
-    ghost use Rattle.kmn_items.specs.TokenTexts.{is_word};
+    ghost use Rattle.kmn_items.specs.TokenTexts.{is_word, quoted};
     ghost use Rattle.kmn_parser.specs.Texts.{word};
 
     /// Creates a token of a kind with a text. Errors: `Memory` if an allocation fails.
@@ -68,6 +69,13 @@ impl OwnedToken {
         ensures { result ≡ (is_word self.now.kind && same_name self.now.text text.now) }
     {
         self.kind == TokenKind::Word && same_name(self.text.as_slice(), text)
+    }
+
+    /// Returns its characters, if it is quoted. Errors: `Memory` if an allocation fails.
+    pub fn quoted(&self, alloc: Global) -> Result<Seq<char>, Memory>
+        ensures { IfOk result (λ characters. characters ≡ quoted self.now.text) }
+    {
+        quoted(alloc, self.text.as_slice())
     }
 }
 
