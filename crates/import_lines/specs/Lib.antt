@@ -1,6 +1,2 @@
-pub mod Laws
-pub mod LineKinds
-pub mod Names
-pub mod Outline
 pub mod Rewrites
 pub mod Written

@@ -11,18 +11,18 @@ use Rattle.import_tokens.specs.Ranges.{without_ranges}
 use Rattle.import_tokens.specs.Keys.{with_key_names}
 use Rattle.import_lines.specs.declared.change_kind.ChangeKind.{ChangeKind}
 use Rattle.import_lines.specs.declared.change_kind.ChangeKind.TheVariants as change
-use Rattle.import_lines.specs.declared.line_kind.LineKind.{LineKind}
-use Rattle.import_lines.specs.declared.line_kind.LineKind.TheVariants.{Header, CapsHeader, Store, Begin, Group, Match, Rule, Other}
-use Rattle.import_lines.specs.declared.line_kind.Start.{Start}
-use Rattle.import_lines.specs.declared.line_kind.Start.TheVariants.{Keys, Layers, Unnamed}
-use Rattle.import_lines.specs.declared.outline.Outline.{Outline}
+use Rattle.import_outline.specs.declared.line_kinds.LineKind.{LineKind}
+use Rattle.import_outline.specs.declared.line_kinds.LineKind.TheVariants.{Header, CapsHeader, Store, Begin, Group, Match, Rule, Other}
+use Rattle.import_outline.specs.declared.line_kinds.Start.{Start}
+use Rattle.import_outline.specs.declared.line_kinds.Start.TheVariants.{Keys, Layers, Unnamed}
+use Rattle.import_outline.specs.declared.outline.Outline.{Outline}
 use Rattle.import_lines.specs.declared.rewrite.Form.{Form}
 use Rattle.import_lines.specs.declared.rewrite.Form.TheVariants.{Unchanged, Rebuilt, WebOnly, Commented}
 use Rattle.import_lines.specs.declared.rewrite.Rewrite.{Rewrite}
 use Rattle.import_lines.specs.declared.rewrite.Changed.{Changed}
-use Rattle.import_lines.specs.Names.{has_name}
-use Rattle.import_lines.specs.LineKinds.{line_kind}
-use Rattle.import_lines.specs.Outline.{is_web_only, is_plain_readonly, begins_context}
+use Rattle.import_outline.specs.Names.{has_name}
+use Rattle.import_outline.specs.LineKinds.{line_kind}
+use Rattle.import_outline.specs.Outline.{is_web_only, is_plain_readonly, begins_context}
 
 -- a rewrite with one change
 abbrev pub rewrite : Form → ChangeKind → Rewrite

@@ -9,10 +9,10 @@ use Rattle.kmn_lines.specs.Lines.{physical_lines_at, logicals}
 use Rattle.kmn_lines.specs.declared.logical.Logical.{Logical}
 use Rattle.import_lines.specs.declared.change_kind.ChangeKind.{ChangeKind}
 use Rattle.import_tokens.specs.Scan.{tokens_of}
-use Rattle.import_lines.specs.LineKinds.{line_kind}
-use Rattle.import_lines.specs.declared.outline.Outline.{Outline}
+use Rattle.import_outline.specs.LineKinds.{line_kind}
+use Rattle.import_outline.specs.declared.outline.Outline.{Outline}
 use Rattle.import_lines.specs.declared.rewrite.WrittenLine.{WrittenLine}
-use Rattle.import_lines.specs.Outline.{source_outline}
+use Rattle.import_outline.specs.Outline.{source_outline}
 use Rattle.import_lines.specs.Rewrites.{line_rewrite, group_after}
 use Rattle.import_lines.specs.Written.{form_bytes, line_bytes, inner_ends, begins_lf, ends_cr, ends_whole, ends_joined, is_empty, has_same_line_ends, can_replace, unchanged_line, if_same_line_ends}
 use Rattle.kmn_import.specs.Import.{written_lines}

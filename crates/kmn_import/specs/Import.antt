@@ -11,10 +11,10 @@ use Rattle.rule_checker.specs.Refused.{checked}
 use Rattle.import_tokens.specs.Scan.{tokens_of}
 use Rattle.import_lines.specs.declared.change_kind.ChangeKind.{ChangeKind}
 use Rattle.import_lines.specs.declared.change_kind.ChangeKind.TheVariants as change
-use Rattle.import_lines.specs.declared.outline.Outline.{Outline}
+use Rattle.import_outline.specs.declared.outline.Outline.{Outline}
 use Rattle.import_lines.specs.declared.rewrite.WrittenLine.{WrittenLine}
-use Rattle.import_lines.specs.LineKinds.{line_kind}
-use Rattle.import_lines.specs.Outline.{source_outline}
+use Rattle.import_outline.specs.LineKinds.{line_kind}
+use Rattle.import_outline.specs.Outline.{source_outline}
 use Rattle.import_lines.specs.Rewrites.{line_rewrite, group_after}
 use Rattle.import_lines.specs.Written.{written_line}
 use Rattle.kmn_import.specs.declared.change.Change.{Change}

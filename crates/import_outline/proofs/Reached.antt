@@ -1,14 +1,14 @@
--- What names reach is closed: with a group stands each one that it enters.
+-- What names reach is closed: with a group it has each one that it enters.
 use Rattle.std.proofs.Common.{◌≡◌, ℕ, zero, suc, ◌+◌, ◌≤◌, ◌<◌, Bool, true, false, not, ◌&&◌, List, [], ◌∷◌, ◌++◌, length, map, refl, sym, ◌∙◌, ap, subst, arith, append-nil, if◌then◌else◌}
 use Rattle.std.specs.Prelude.{filter, ◌||◌}
 use Rattle.std.specs.List.{list_all}
 use Rattle.std.proofs.lemmas.Bool.{and_parts, false≢true}
 use Rattle.kmn_base.specs.Names.{same_name}
 use Rattle.virtual_keys.proofs.NamePlaces.{same_name-self}
-use Rattle.import_lines.specs.Names.{has_name}
-use Rattle.import_lines.specs.Outline.{with_used, with_used_times}
-use Rattle.import_lines.specs.declared.outline.GroupUse.{GroupUse}
-use Rattle.import_lines.specs.Laws.{is_closed_use, ReachableIsClosed}
+use Rattle.import_outline.specs.Names.{has_name}
+use Rattle.import_outline.specs.Outline.{with_used, with_used_times}
+use Rattle.import_outline.specs.declared.outline.GroupUse.{GroupUse}
+use Rattle.import_outline.specs.Laws.{is_closed_use, ReachableIsClosed}
 
 abbrev goes_on : List (List ℕ) → GroupUse → Bool
 goes_on names entry = has_name names entry.user && not (has_name names entry.used)

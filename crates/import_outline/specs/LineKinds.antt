@@ -4,11 +4,11 @@ use Rattle.std.specs.Str.{byte, str_to_ascii_lowercase}
 use Rattle.kmn_items.specs.TokenTexts.{LineToken, text_at, begins_open, is_close}
 use Rattle.kmn_parser.specs.Line.{begins_word, place_of, is_use, is_none_left}
 use Rattle.kmn_parser.specs.declared.statement.Sign.TheVariants as sign
-use Rattle.import_lines.specs.declared.line_kind.LineKind.{LineKind}
-use Rattle.import_lines.specs.declared.line_kind.LineKind.TheVariants.{Header, CapsHeader, Store, Begin, Group, Match, Rule, Other}
-use Rattle.import_lines.specs.declared.line_kind.Start.{Start}
-use Rattle.import_lines.specs.declared.line_kind.Start.TheVariants.{Keys, Layers, Unnamed}
-use Rattle.import_lines.specs.Names.{has_name}
+use Rattle.import_outline.specs.declared.line_kinds.LineKind.{LineKind}
+use Rattle.import_outline.specs.declared.line_kinds.LineKind.TheVariants.{Header, CapsHeader, Store, Begin, Group, Match, Rule, Other}
+use Rattle.import_outline.specs.declared.line_kinds.Start.{Start}
+use Rattle.import_outline.specs.declared.line_kinds.Start.TheVariants.{Keys, Layers, Unnamed}
+use Rattle.import_outline.specs.Names.{has_name}
 
 -- the words of old headers, each of which is a system store now
 unfoldable pub header_words : List (List ℕ)

@@ -1,9 +1,9 @@
 -- The law of the groups that names reach.
 use Rattle.std.specs.Prelude.{◌≡◌, ℕ, Bool, true, not, ◌||◌, List}
 use Rattle.std.specs.List.{list_all}
-use Rattle.import_lines.specs.declared.outline.GroupUse.{GroupUse}
-use Rattle.import_lines.specs.Names.{has_name}
-use Rattle.import_lines.specs.Outline.{reachable}
+use Rattle.import_outline.specs.declared.outline.GroupUse.{GroupUse}
+use Rattle.import_outline.specs.Names.{has_name}
+use Rattle.import_outline.specs.Outline.{reachable}
 
 -- whether a use by a group among names is of a group among them
 abbrev pub is_closed_use : List (List ℕ) → GroupUse → Bool

@@ -7,13 +7,13 @@ use Rattle.kmn_lines.specs.Lines.{logicals}
 use Rattle.kmn_parser.specs.Line.{begins_word, place_of}
 use Rattle.kmn_parser.specs.declared.statement.Sign.TheVariants as sign
 use Rattle.import_tokens.specs.Scan.{tokens_of}
-use Rattle.import_lines.specs.declared.line_kind.LineKind.{LineKind}
-use Rattle.import_lines.specs.declared.line_kind.LineKind.TheVariants.{Store, Begin, Group, Match, Rule}
-use Rattle.import_lines.specs.declared.line_kind.Start.TheVariants.{Keys, Layers, Unnamed}
-use Rattle.import_lines.specs.declared.outline.Outline.{Outline}
-use Rattle.import_lines.specs.declared.outline.GroupUse.{GroupUse}
-use Rattle.import_lines.specs.Names.{has_name}
-use Rattle.import_lines.specs.LineKinds.{line_kind}
+use Rattle.import_outline.specs.declared.line_kinds.LineKind.{LineKind}
+use Rattle.import_outline.specs.declared.line_kinds.LineKind.TheVariants.{Store, Begin, Group, Match, Rule}
+use Rattle.import_outline.specs.declared.line_kinds.Start.TheVariants.{Keys, Layers, Unnamed}
+use Rattle.import_outline.specs.declared.outline.Outline.{Outline}
+use Rattle.import_outline.specs.declared.outline.GroupUse.{GroupUse}
+use Rattle.import_outline.specs.Names.{has_name}
+use Rattle.import_outline.specs.LineKinds.{line_kind}
 
 -- before the first line
 abbrev pub empty_outline : Outline
@@ -132,10 +132,10 @@ abbrev pub is_web_only : Outline → List ℕ → Bool
 is_web_only outline name = has_name (layered_groups outline) name && not (has_name (kept_groups outline) name)
 
 -- whether all groups that a group uses are readonly
-abbrev pub uses_readonly : Outline → List ℕ → Bool
-uses_readonly outline name = list_all (λ (entry : GroupUse). not (same_name name entry.user) || has_name outline.readonly entry.used) outline.uses
+abbrev pub uses_readonly : List (List ℕ) → List ℕ → List GroupUse → Bool
+uses_readonly readonly name uses = list_all (λ (entry : GroupUse). not (same_name name entry.user) || has_name readonly entry.used) uses
 
 -- whether a readonly group that keys reach can be an ordinary group that changes no text
 abbrev pub is_plain_readonly : Outline → List ℕ → Bool
 is_plain_readonly outline name =
-    has_name outline.readonly name && not (is_web_only outline name) && not (has_name outline.writing name) && uses_readonly outline name
+    has_name outline.readonly name && not (is_web_only outline name) && not (has_name outline.writing name) && uses_readonly outline.readonly name outline.uses

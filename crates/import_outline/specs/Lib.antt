@@ -1,0 +1,4 @@
+pub mod Laws
+pub mod LineKinds
+pub mod Names
+pub mod Outline
