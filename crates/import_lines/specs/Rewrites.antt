@@ -2,7 +2,7 @@
 use Rattle.std.specs.Prelude.{ℕ, ◌+◌, ◌==◌, bytes_eq, Bool, true, false, not, ◌&&◌, if◌then◌else◌, List, [], ◌∷◌, ◌++◌, length, take, drop, map, codes}
 use Rattle.kmn_base.specs.declared.limits.TheConstants.{STORE_ELEMENTS}
 use Rattle.kmn_base.specs.Names.{same_name}
-use Rattle.kmn_items.specs.TokenTexts.{LineToken, is_quoted, quoted, inside}
+use Rattle.kmn_items.specs.TokenTexts.{LineToken, is_quoted, inside}
 use Rattle.kmn_parser.specs.Line.{place_of}
 use Rattle.kmn_parser.specs.Texts.{word, opening, closing, quoted_token}
 use Rattle.kmn_parser.specs.declared.statement.Sign.TheVariants as sign
@@ -83,9 +83,13 @@ abbrev pub is_one : List LineToken → Bool
 is_one (token ∷ []) = bytes_eq (bare_text token) (codes "1")
 is_one other = false
 
--- whether a store of these tokens states a mnemonic layout, in a source without a list of cased keys
+-- whether a store of these tokens states a mnemonic layout
+abbrev pub states_mnemonic : List ℕ → List LineToken → Bool
+states_mnemonic name tokens = same_name name (codes "&mnemoniclayout") && is_one (drop 4 tokens)
+
+-- whether it does, in a source without a list of cased keys
 abbrev pub is_mnemonic : Outline → List ℕ → List LineToken → Bool
-is_mnemonic outline name tokens = same_name name (codes "&mnemoniclayout") && is_one (drop 4 tokens) && not (has_name outline.stores (codes "&casedkeys"))
+is_mnemonic outline name tokens = states_mnemonic name tokens && not (has_name outline.stores (codes "&casedkeys"))
 
 -- a store statement
 abbrev pub store_line : Outline → List ℕ → List LineToken → Rewrite

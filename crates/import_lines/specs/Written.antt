@@ -6,7 +6,7 @@ use Rattle.std.specs.Str.{is_utf8}
 use Rattle.kmn_base.specs.Bytes.{is_blank}
 use Rattle.kmn_base.specs.declared.limits.TheConstants.{TEXT_BYTES}
 use Rattle.kmn_lines.specs.Bytes.{first_or_end}
-use Rattle.kmn_lines.specs.Lines.{ends_line, physical_lines_at, physical_text, dropped, logicals}
+use Rattle.kmn_lines.specs.Lines.{ends_line, physical_lines_at, physical_lines_in, physical_text, dropped, logicals}
 use Rattle.kmn_lines.specs.Laws.{bytes_between, last_or}
 use Rattle.kmn_lines.specs.Tokens.{line_tokens, line_refusal}
 use Rattle.kmn_lines.specs.declared.line_state.PhysicalLine.{PhysicalLine}
@@ -19,7 +19,11 @@ use Rattle.import_lines.specs.declared.rewrite.Form.{Form}
 use Rattle.import_lines.specs.declared.rewrite.Form.TheVariants.{Unchanged, Rebuilt, WebOnly, Commented}
 use Rattle.import_lines.specs.declared.rewrite.Rewrite.{Rewrite}
 use Rattle.import_lines.specs.declared.rewrite.WrittenLine.{WrittenLine}
-use Rattle.import_lines.specs.Rewrites.{same_texts}
+use Rattle.import_outline.specs.declared.outline.Outline.{Outline}
+use Rattle.import_lines.specs.declared.in_group.InGroup.{InGroup}
+use Rattle.import_tokens.specs.Scan.{tokens_of}
+use Rattle.import_outline.specs.LineKinds.{line_kind}
+use Rattle.import_lines.specs.Rewrites.{same_texts, line_rewrite, group_after}
 
 -- whether no blank is written before a token: before ( ) ] and a comma
 abbrev pub is_unspaced : TokenKind → Bool
@@ -33,10 +37,6 @@ spaced_token joined token = (if joined || is_unspaced token.kind then [] else 32
 abbrev pub spaced : Bool → List LineToken → List ℕ
 spaced joined [] = []
 spaced joined (token ∷ tokens) = spaced_token joined token ++ spaced (is_open token.kind || is_bracket_open token.kind) tokens
-
--- the physical lines of a logical line
-abbrev pub physical_lines_in : List ℕ → Logical → List PhysicalLine
-physical_lines_in source l = physical_lines_at l.first_line l.from (take l.to source)
 
 -- the prefix before the first text of a logical line
 abbrev pub prefix : List ℕ → List PhysicalLine → List ℕ
@@ -131,15 +131,20 @@ abbrev pub is_empty : List ℕ → Bool
 is_empty [] = true
 is_empty (b ∷ bs) = false
 
--- whether as many lines end in bytes as in others, and they begin and end with the same ones
-abbrev pub has_same_line_ends : List ℕ → List ℕ → Bool
-has_same_line_ends old new =
+-- whether as many lines end in bytes as in others, and they begin and end with the same ones, given whether a backslash joins each with the
+-- next line
+abbrev pub has_same_ends : List ℕ → List ℕ → Bool → Bool → Bool
+has_same_ends old new old_joined new_joined =
     nat_eq (inner_ends new) (inner_ends old) && (beq (begins_lf new) (begins_lf old) && (beq (ends_cr new) (ends_cr old) && (beq (is_empty new) (is_empty old)
-    && (beq (ends_whole new) (ends_whole old) && beq (ends_joined (physical_lines_at 1 0 new)) (ends_joined (physical_lines_at 1 0 old))))))
+    && (beq (ends_whole new) (ends_whole old) && beq new_joined old_joined))))
 
--- whether new bytes can replace old ones between lines: they are no longer than a source, and their line ends are the same
+-- the same, with whether a backslash joins the bytes themselves with the next line
+abbrev pub has_same_line_ends : List ℕ → List ℕ → Bool
+has_same_line_ends old new = has_same_ends old new (ends_joined (physical_lines_at 1 0 old)) (ends_joined (physical_lines_at 1 0 new))
+
+-- whether new bytes can replace old ones between lines: they are UTF-8 and no longer than a source, and their line ends are the same
 abbrev pub can_replace : List ℕ → List ℕ → Bool
-can_replace old new = nat_le (length new) TEXT_BYTES && has_same_line_ends old new
+can_replace old new = nat_le (length new) TEXT_BYTES && is_utf8 new && has_same_line_ends old new
 
 -- a line that is kept
 abbrev pub unchanged_line : List ℕ → WrittenLine
@@ -154,3 +159,10 @@ if_same_line_ends old (kind ∷ kinds) (Some new) = if can_replace old new then 
 -- a logical line after its rewrite
 abbrev pub written_line : List ℕ → Logical → Rewrite → WrittenLine
 written_line source l r = if_same_line_ends (line_bytes source l) r.kinds (form_bytes source l r.form)
+
+-- a logical line after its rewrite in the group before it, and the group after it
+abbrev pub line_in_group : List ℕ → Outline → List ℕ → Logical → InGroup
+line_in_group source outline group l =
+    let tokens = tokens_of source l in
+    let here = group_after group (line_kind tokens) in
+    record { line = written_line source l (line_rewrite outline here tokens); group = here }

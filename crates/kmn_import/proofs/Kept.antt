@@ -3,6 +3,7 @@ use Rattle.std.proofs.Common.{◌≡◌, ℕ, Bool, true, false, ◌&&◌, List,
 use Rattle.std.specs.Prelude.{nat_eq, nat_le}
 use Rattle.std.specs.List.{AllZip}
 use Rattle.std.specs.Bool.{beq}
+use Rattle.std.specs.Str.{is_utf8}
 use Rattle.std.proofs.lemmas.Bool.{and_parts, eqb-true, false≢true}
 use Rattle.kmn_base.specs.declared.limits.TheConstants.{TEXT_BYTES}
 use Rattle.kmn_lines.specs.Lines.{physical_lines_at, logicals}
@@ -36,7 +37,7 @@ same_bool false false e = refl
 
 fit_alike : (old new : List ℕ) → can_replace old new ≡ true → AreAlike new old
 fit_alike old new h =
-    let e = (and_parts (nat_le (length new) TEXT_BYTES) (has_same_line_ends old new) h).1 in
+    let e = (and_parts (nat_le (length new) TEXT_BYTES && is_utf8 new) (has_same_line_ends old new) h).1 in
     let joints : Bool = beq (ends_joined (physical_lines_at 1 0 new)) (ends_joined (physical_lines_at 1 0 old)) in
     let ends : Bool = beq (ends_whole new) (ends_whole old) && joints in
     let none : Bool = beq (is_empty new) (is_empty old) && ends in

@@ -1,0 +1,3 @@
+pub mod LineEnds
+pub mod Replacing
+pub mod Utf8Tests
