@@ -1,3 +1,5 @@
 pub mod Accepted
 pub mod Alike
 pub mod Kept
+pub mod Texts
+pub mod Utf16Steps

@@ -33,11 +33,15 @@ written_lines source outline group (l ∷ ls) =
 abbrev pub written_source : List ℕ → List WrittenLine
 written_source source = written_lines source (source_outline source) [] (logicals source)
 
+-- the changes of a line with a number
+abbrev pub changes_of : ℕ → List ChangeKind → List Change
+changes_of number kinds = map (λ (kind : ChangeKind). record { line = number; kind = kind }) kinds
+
 -- the changes of lines, in order
 abbrev pub line_changes : List Logical → List WrittenLine → List Change
 line_changes [] lines = []
 line_changes (l ∷ ls) [] = []
-line_changes (l ∷ ls) (line ∷ lines) = map (λ (kind : ChangeKind). record { line = l.first_line; kind = kind }) line.kinds ++ line_changes ls lines
+line_changes (l ∷ ls) (line ∷ lines) = changes_of l.first_line line.kinds ++ line_changes ls lines
 
 -- a source with each line rewritten; a byte order mark is kept
 abbrev pub rewritten_source : List ℕ → Imported

@@ -1,3 +1,4 @@
 pub mod Import
 pub mod Laws
+pub mod Units
 pub mod Utf16
