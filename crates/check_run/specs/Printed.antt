@@ -11,7 +11,7 @@ use Rattle.keyman_run.specs.Endings.{Ending}
 use Rattle.check_run.specs.declared.printing.TheConstants.{SHOWN}
 use Rattle.check_run.specs.Meanings.{meaning}
 
--- the line of a refusal, in the form that editors read: the name of the source as it was given, the line, the code and its meaning
+-- the line of a refusal, in the form that editors read: the given name of the source, the line, the code and its meaning
 unfoldable pub error_line : List ℕ → Refusal → List ℕ
 error_line file found = concat (
     file ∷ codes ":" ∷ decimal found.line ∷ codes ": error " ∷ code_text found.code ∷ codes ": " ∷ meaning found.code ∷ codes "\n" ∷ [])
