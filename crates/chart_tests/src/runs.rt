@@ -42,7 +42,8 @@ fn has(text: &[u8], part: &[u8]) -> bool {
     (0..text.len()).any(|place| text[place..].starts_with(part))
 }
 
-/// Returns whether a run ends like this. Only a run that ends with status 0 writes a drawing, which has the key A.
+/// Returns whether a run ends like this. A run that ends with status 0 writes a drawing, which has the key A. If the write of the
+/// drawing or the printing fails, the status is 4, and the folder has at least the first half of the drawing, with this key.
 fn ends(alloc: Global, run: &Run, end: &End) -> Result<bool, Fail> {
     let words = words(alloc, run.words)?;
     let mut files = Vec::new(alloc);
@@ -63,7 +64,7 @@ fn ends(alloc: Global, run: &Run, end: &End) -> Result<bool, Fail> {
     Ok(
         status.number() == end.status
             && sink.written().starts_with(end.printed.as_bytes())
-            && has(drawn, KEY_A.as_bytes()) == (end.status == 0 || run.sink_call == 1),
+            && has(drawn, KEY_A.as_bytes()) == (end.status == 0 || end.status == 4),
     )
 }
 
