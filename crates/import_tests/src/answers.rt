@@ -155,3 +155,23 @@ fn sources_are_imported(rt: HostRuntime) -> Result<(), Fail> {
     }
     Ok(())
 }
+
+/// A line whose range becomes 383,488 bytes.
+const LONG_RANGE: &str = "store(a) U+0200..U+D7FF\n";
+
+/// Returns a source with a line this many times.
+fn repeated(alloc: Global, line: &str, count: usize) -> Result<String, AllocError> {
+    let mut source = String::new(alloc);
+    for _ in 0..count {
+        source.push_str(line)?;
+    }
+    Ok(source)
+}
+
+#[test]
+fn a_text_over_the_limit_is_refused(rt: HostRuntime) -> Result<(), Fail> {
+    let long = repeated(rt.alloc(), LONG_RANGE, 11)?;
+    let answered = answer(rt.alloc(), long.as_str())?;
+    assert!(rt; answered.as_slice() == "refused L05 line 1".as_bytes());
+    Ok(())
+}

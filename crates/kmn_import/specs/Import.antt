@@ -60,12 +60,16 @@ abbrev pub if_accepted : Imported → Result Program Refusal → Result Imported
 if_accepted new (Ok program) = Ok new
 if_accepted new (Err refusal) = Err refusal
 
+-- a rewritten text if it is accepted, or its refusal
+abbrev pub rewritten_imported : Imported → Result Imported Refusal
+rewritten_imported new = if_accepted new (checked new.text)
+
 -- a text, given whether it is accepted: then it is kept, else it is rewritten and must be accepted then
 abbrev pub text_imported : List ℕ → Result Program Refusal → Result Imported Refusal
 text_imported text (Ok program) = Ok (record { text = text; changes = [] })
 text_imported text (Err refusal) =
     if nat_lt TEXT_BYTES (length text) || not (is_utf8 text) then Err refusal
-    else (let new = rewritten_source text in if_accepted new (checked new.text))
+    else rewritten_imported (rewritten_source text)
 
 -- the change of the bytes in an imported text
 abbrev pub converted : Result Imported Refusal → Result Imported Refusal

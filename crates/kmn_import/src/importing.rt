@@ -1,10 +1,13 @@
 //! Imports a source: an accepted source is kept, any other one is rewritten line by line and must be accepted then.
 
-ghost use Rattle.std.specs.Prelude.{◌≡◌, ◌≤◌, ◌++◌, [], length, Err, IfOk, OnOk};
+ghost use Rattle.std.specs.Prelude.{◌≡◌, ◌≤◌, ◌<◌, ◌++◌, [], length, Err, IfOk, MatchOption, OnOk};
 ghost use Rattle.kmn_base.specs.Answers.{Answers};
+ghost use Rattle.kmn_base.specs.declared.codes.Code.TheVariants.{L05};
+ghost use Rattle.kmn_base.specs.declared.refusals.CompileError.TheVariants as CompileError;
 ghost use Rattle.kmn_base.specs.declared.limits.TheConstants.{TEXT_BYTES};
-ghost use Rattle.kmn_import.specs.Import.{changes_of, rewritten_source, with_bytes_change, if_accepted, text_imported, refused_imported, imported};
+ghost use Rattle.kmn_import.specs.Import.{changes_of, rewritten_source, rewritten_imported, with_bytes_change, if_accepted, text_imported, refused_imported, imported};
 ghost use Rattle.kmn_import.specs.Utf16.{marked_text};
+ghost use Rattle.kmn_lines.specs.Tokens.{refusal};
 ghost use Rattle.rule_checker.specs.Refused.{checked};
 
 use crate::change::{Change, Imported};
@@ -14,7 +17,7 @@ use import_outline::source_groups;
 use kmn_base::limits::TEXT_BYTES;
 use kmn_base::slices::before;
 use kmn_base::texts::bom_size;
-use kmn_base::{CompileError, Memory, Refusal, Seq, Text};
+use kmn_base::{Code, CompileError, Memory, Refusal, Seq, Text};
 use kmn_compiler::front;
 use kmn_lines::lines;
 use std::alloc::Global;
@@ -89,9 +92,31 @@ fn text_imported(alloc: Global, text: &[u8], refusal: Refusal) -> Result<Importe
         return Err(CompileError::Refused(refusal));
     }
     match str::from_utf8(text) {
-        Ok(source) => if_accepted(alloc, rewritten_source(alloc, source)?),
+        Ok(source) => source_imported(alloc, source),
         Err(_) => Err(CompileError::Refused(refusal)),
     }
+}
+
+/// Rewrites a text that is a source. Errors: as in `import`.
+#[tactic(auto, using(crate::proofs::Texts::long_refused))]
+fn source_imported(alloc: Global, source: &str) -> Result<Imported, CompileError>
+    requires { length source.now ≤ TEXT_BYTES }
+    ensures { Answers (rewritten_imported (rewritten_source source.now)) result }
+{
+    match rewritten_source(alloc, source)? {
+        Some(new) => if_accepted(alloc, new),
+        None => Err(too_long()),
+    }
+}
+
+/// Returns the refusal of a text that is longer than a source may be.
+fn too_long() -> CompileError
+    ensures { result ≡ CompileError.Refused (refusal 1 L05) }
+{
+    CompileError::Refused(Refusal {
+        line: 1,
+        code: Code::L05,
+    })
 }
 
 /// Returns a rewritten text if it is accepted. Errors: as in `import`.
@@ -104,10 +129,11 @@ fn if_accepted(alloc: Global, new: Imported) -> Result<Imported, CompileError>
     }
 }
 
-/// Returns a source with each line rewritten. Errors: `Memory` if an allocation fails.
-fn rewritten_source(alloc: Global, source: &str) -> Result<Imported, Memory>
+/// Returns a source with each line rewritten, or None if its text is longer than a source may be: no line is written past that
+/// length. Errors: `Memory` if an allocation fails.
+fn rewritten_source(alloc: Global, source: &str) -> Result<Option<Imported>, Memory>
     requires { length source.now ≤ TEXT_BYTES }
-    ensures { IfOk result (λ new. new ≡ rewritten_source source.now) }
+    ensures { IfOk result (λ new. MatchOption new (TEXT_BYTES < length (rewritten_source source.now).text) (λ one. one ≡ rewritten_source source.now)) }
 {
     let bytes = source.as_bytes();
     let groups = source_groups(alloc, source)?;
@@ -117,9 +143,12 @@ fn rewritten_source(alloc: Global, source: &str) -> Result<Imported, Memory>
     for logical in lines(source) {
         let InGroup { line, group: next } = rewritten_line(alloc, source, logical, &groups, group)?;
         add_line(&mut text, &mut changes, logical.first_line, line)?;
+        if text.len() > TEXT_BYTES {
+            return Ok(None);
+        }
         group = next;
     }
-    Ok(Imported { text, changes })
+    Ok(Some(Imported { text, changes }))
 }
 
 /// Appends a line and its changes. Errors: `Memory` if an allocation fails.
