@@ -25,12 +25,12 @@ _keyman_codes() {
 # Prints the suffixes of the file that a command expects as its nth argument. For a file that the command writes, `=` precedes them.
 _keyman_suffixes() {
     case "$1 $2" in
-        'compile 1' | 'test 1' | 'trace 1' | 'shadow 1' | 'layout 1' | '--check 1') echo kmn ;;
+        'compile 1' | 'test 1' | 'trace 1' | 'shadow 1' | 'layout 1' | '--check 1' | '--import 1') echo kmn ;;
         'verify 1' | 'decompile 1' | 'play 1' | 'host 1' | '--chart 1' | '--export 1') echo kmx ;;
         'play 2' | 'host 2' | 'trace 2' | 'test 3' | '--chart 3') echo keys ;;
         'compile 2' | 'test 2') echo '=' kmx ;;
         '--chart 2') echo '=' svg ;;
-        'decompile 2') echo kmn ;;
+        'decompile 2' | '--import 2') echo kmn ;;
         '--export 2') echo kmx ;;
         'layout 2') echo keyman-touch-layout json ;;
         '--type 1') echo kmn kmx ;;
@@ -57,7 +57,7 @@ _keyman() {
     COMPREPLY=()
     if [ "$COMP_CWORD" -eq 1 ]; then
         mapfile -t COMPREPLY < <(compgen -W 'compile verify decompile play test trace shadow host layout load
-            --type --check --chart --export --explain --prove --version --help' -- "$begin")
+            --type --check --import --chart --export --explain --prove --version --help' -- "$begin")
         return
     fi
     if [ "$command $COMP_CWORD" = '--explain 2' ]; then
