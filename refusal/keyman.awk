@@ -1,6 +1,6 @@
 # Names what a refused line has of the language of Keyman Developer that this compiler does not read. Each function that returns a
-# meaning returns a text, a tab and a part of the first cell of a row of docs/FROM-KEYMAN.md, which has what to write instead; or a
-# whole explanation, a tab and `=`; or an empty text.
+# meaning returns a text, a tab and a part of the first cell of a row of docs/FROM-KEYMAN.md, which has what to write instead, and after
+# another tab `-` if `--import` keeps this line; or a whole explanation, a tab and `=`; or an empty text.
 
 BEGIN {
     for (i = split("dk deadkey outs", words, " "); i; i--) allow(words[i], "store output")
@@ -34,16 +34,34 @@ function prefix_of(value) {
 
 # Old headers, and forms of `begin` and `group`.
 function statement_meaning(    at) {
-    if (word(1) == "begin" && sign(2, ">")) return "'begin' without 'Unicode'\t`begin > use(main)`"
-    if (word(1) == "begin" && word(2) ~ /^(newcontext|postkeystroke)$/) return quoted(token[1] " " token[2]) "\t`begin NewContext"
-    for (at = 5; at <= tokens && word(1) == "group"; at++) if (word(at) == "readonly") return quoted(token[at]) "\t`group(g) readonly`"
+    if (word(1) == "begin" && sign(2, ">")) return "'begin' without 'Unicode'\t" (has_unicode ? "" : "only ") "`begin > use(main)`"
+    if (word(1) == "begin" && word(2) ~ /^(newcontext|postkeystroke)$/)
+        return quoted(token[1] " " token[2]) "\t`begin NewContext" (tolower(token[6]) in is_readonly ? "" : "\t-")
+    for (at = 5; at <= tokens && word(1) == "group"; at++)
+        if (word(at) == "readonly") return quoted(token[at]) "\t`group(g) readonly`" (tokens == 5 ? "" : "\t-")
     if (word(1) == "caps" || word(1) == "shift" && word(2) == "frees")
         return "The header " quoted(token[1] " " token[2] " " token[3]) "\t`CAPS ALWAYS OFF`"
     if (tokens == 1 || sign(2, "(")) return ""
-    if (word(1) == "name") return "The header " quoted(token[1]) "\t`NAME "
-    if (word(1) ~ /^(bitmap|copyright|hotkey|message|version)$/) return "The header " quoted(token[1]) "\t`BITMAP`"
-    if (word(1) ~ /^(language|layout)$/) return "The header " quoted(token[1]) "\t`LANGUAGE "
-    return ""
+    return header_meaning(tokens == 2 ? "" : "\t-")
+}
+
+# An old header with a value.
+function header_meaning(end,    row) {
+    if (word(1) == "name") row = "`NAME "
+    if (word(1) ~ /^(bitmap|copyright|hotkey|message|version)$/) row = "`BITMAP`"
+    if (word(1) ~ /^(language|layout)$/) row = "`LANGUAGE "
+    if (word(1) == "version" && is_old_version(token[2])) row = "`VERSION 5.0`"
+    return row == "" ? "" : "The header " quoted(token[1]) "\t" row end
+}
+
+# Returns whether a version is older than those that a compiled keyboard can have.
+function is_old_version(value) {
+    return value ~ /^([124][.]0|3[.][012]|5[.]01?)$/
+}
+
+# The end of a whole explanation if `--import` writes what it advises.
+function import_end(closed) {
+    return (closed && !importing ? " keyman --import writes it." : "") "\t="
 }
 
 # The first item that is not allowed where it is written.
@@ -101,8 +119,9 @@ function item_meaning(at, section,    name) {
     return item_named(at) " is not allowed in " (section == "output" ? "an " : "a ") section ".\t="
 }
 
-# A range of characters, of keys, or of cased keys.
+# A range of characters, of keys, or of cased keys. Only a store can have one.
 function range_meaning(at) {
+    if (word(1) != "store") return "A range with '..'\t`store(v) 'a' ..\t-"
     if (!sign(at - 1, "]")) return "A range with '..'\t`store(v) 'a' .."
     return "A range with '..'\t`store(" (tolower(token[3]) == "&casedkeys" ? "&casedkeys" : "v") ") [K_A] .."
 }
@@ -148,7 +167,7 @@ function bracket_meaning(    at, held) {
 # Returns what is wrong with a bracket at `open` whose last modifier is at `last`, and whose next token is at `at`.
 function bracket_fault(open, last, at,    name) {
     name = word(at)
-    if (kind[at] == "q" && characters(token[at]) == 1) return character_fault(token[at])
+    if (kind[at] == "q" && characters(token[at]) == 1) return character_fault(token[at], sign(at + 1, "]"))
     if (at > tokens) return "The bracket is not closed by a ].\t="
     if (sign(at, "]"))
         return (last == open ? "The bracket is empty." : "The bracket has no key after " quoted(token[last]) ".") last_key("SHIFT", "K_A")
@@ -181,15 +200,15 @@ function place_fault(at,    rows, number, names) {
     rows["e"] = "BKQUOTE 1 2 3 4 5 6 7 8 9 0 HYPHEN EQUAL"
     number = substr(token[at], 2) + 1
     split(rows[substr(word(at), 1, 1)], names, " ")
-    if (names[number] ~ /^-?$/) return quoted(token[at]) "\t`[CTRL B08]`"
-    return quoted(token[at]) ", a key by its place, is not supported. Write K_" names[number] ".\t="
+    if (names[number] ~ /^-?$/) return quoted(token[at]) "\t`[CTRL B08]`\t-"
+    return quoted(token[at]) ", a key by its place, is not supported. Write K_" names[number] "." import_end(sign(at + 1, "]"))
 }
 
-# A virtual character.
-function character_fault(value,    at, name) {
+# A virtual character, and whether the bracket closes after it.
+function character_fault(value, closed,    at, name) {
     name = key_of_character(value)
     if (name == "") return "'['" value "']', a virtual character, is not supported, and no key of a US keyboard types this character.\t="
-    return "'['" value "']', a virtual character, is not supported. Write " name ".\t="
+    return "'['" value "']', a virtual character, is not supported. Write " name "." import_end(closed)
 }
 
 # Returns the virtual key that types a character on a US keyboard, without its bracket.
@@ -221,7 +240,7 @@ function number_meaning(    at, depth, digits, name) {
         if (depth && (sign(at - 1, ",") || word(at - 2) == "context") && name !~ /^[0-9]+$/)
             return quoted(token[at]) " is not an offset. Write a decimal number.\t="
         if (!is_number(name) || depth && name !~ /^u/) continue
-        if (name ~ /[.][.]/) return "A range with '..'\t`store(v) U+0061.."
+        if (name ~ /[.][.]/) return "A range with '..'\t`store(v) U+0061.." (word(1) == "store" ? "" : "\t-")
         digits = substr(name, 3)
         if (name ~ /^u/ && length(digits) < 4 && digits ~ /^[0-9a-f]+$/)
             return quoted(token[at]) " has too few digits. Write U+" substr("000", length(digits)) toupper(digits) ".\t="

@@ -1,8 +1,10 @@
 # Explains a refusal in the file that it refers to, with the functions of the other files. The variables are `code`, `line`, `rest` (the
-# rest of the refusal after the code) and `bytes` (the size of the file). The first printed line states what the refusal means there,
-# or is empty if the code says enough. For a feature that is not supported, this line ends with a tab and the name of the feature in
-# docs/CODES.md or docs/FROM-KEYMAN.md. It ends with a tab and `=` if it is a whole explanation. The second line is a hint or empty.
-# The third is the number of the line that has the error, or 0 if no line has it. Then come the beginning of that line and a full stop.
+# rest of the refusal after the code), `bytes` (the size of the file) and `importing` (1 after `--import`). The first printed line states
+# what the refusal means there, or is empty if the code says enough. For a feature that is not supported, this line ends with a tab and
+# the name of the feature in docs/CODES.md or docs/FROM-KEYMAN.md. After another tab comes another name, if the row that states what
+# `--import` writes has one, or `-` if `--import` keeps the line. The line ends with a tab and `=` if it is a whole explanation. The second
+# line is a hint or empty. The third is the number of the line that has the error, or 0 if no line has it. Then come the beginning of
+# that line and a full stop.
 BEGIN {
     split("C16 C17 C18 C19 C20 C21 C22 P07 H2", codes, " ")
     split("items:items:elements:store 20,001:group 1,001:deadkey 5,001:record 100,001:event 100,001:field 65", words, ":")
@@ -14,7 +16,8 @@ BEGIN {
 
 END {
     if (open) finish()
-    if (code ~ /^(L05|P06|T7)$/) print grouped(bytes) " bytes"
+    if (code == "L05" && importing && bytes > 0 && bytes <= 4194304) print "The source has more than 4,194,304 bytes if it is rewritten.\t="
+    else if (code ~ /^(L05|P06|T7)$/) print grouped(bytes) " bytes"
     else if (rest ~ /^(size|rules|stores|elements) /) print grouped(substr(rest, index(rest, " ") + 1)) " " unit_of(rest)
     else print (of_layout ? layout_meaning() : of_source && meaning == "" ? meaning_of() : meaning)
     print hint
@@ -67,6 +70,7 @@ function valid_bytes(s,    found) {
 function take(s) {
     if (row == 1 && s ~ /^(\377\376|\376\377|[^\001]\001[^\001]\001|\001[^\001]\001[^\001])/) {
         utf16 = 1; meaning = "the text is in UTF-16"; hint = "Save it as UTF-8."
+        if (code == "L01" && !importing && s ~ /^(\377\376|\376\377)/) hint = hint " keyman --import writes it."
     }
     if (code ~ /^[LP]01$/ && meaning == "") find_bytes(s)
     if (of_layout && code != "T7" && !utf16) read_layout(s)
@@ -120,7 +124,9 @@ function finish(    at) {
     if (of_layout) { state_keys(); return }
     if (word(1) == "store" && sign(2, "(")) state_store(tolower(token[3]))
     if (word(1) == "group" && sign(2, "(")) state_group(tolower(token[3]))
-    if (word(1) == "begin" && word(2) == "ansi") has_ansi = 1
+    if (word(1) == "begin" && word(2) == "unicode") has_unicode = 1
+    if (word(1) == "begin" && (word(2) == "ansi" || sign(2, ">"))) has_ansi = 1
+    if (word(1) == "group" && word(5) == "readonly") is_readonly[tolower(token[3])] = 1
     if (first_row != line) return
     kept = tokens
     for (at = 1; at <= tokens; at++) { kept_token[at] = token[at]; kept_kind[at] = kind[at]; kept_kinds = kept_kinds kind[at] }
@@ -209,13 +215,20 @@ function store_at(at,    name) {
 function left_out(    at, name, output) {
     name = tolower(token[3])
     if (word(1) == "store" && name ~ /^&/)
-        return (name ~ /^&(version|mnemoniclayout)$/ ? "the text of " : "") quoted(token[3]) "\t`" name "`"
+        return (name ~ /^&(version|mnemoniclayout)$/ ? "the text of " : "") quoted(token[3]) "\t`" name "`\t" imported_store(name)
     for (at = 1; at <= tokens; at++) {
         if (sign(at, ">")) output = 1
         name = thing_at(at, output)
         if (name != "") return (word(at) ~ /^\$|^outs$/ ? quoted(shown(at)) ", which contains a virtual key," : quoted(shown(at))) "\t" name
         if (sign(at + 1, "(")) while (at < tokens && !sign(at, ")")) at++
     }
+}
+
+# Returns the name of a system store in the row of docs/FROM-KEYMAN.md that states what `--import` writes, or `-`.
+function imported_store(name) {
+    if (name == "&version" && !is_old_version(token[5])) return "-"
+    if (name == "&mnemoniclayout" && (token[5] != "1" || "&casedkeys" in stores)) return "-"
+    return name
 }
 
 # Returns the table's name for the feature at a position, or an empty text if it is supported there.
