@@ -1,14 +1,16 @@
--- What a run that prints refusals does.
-use Rattle.std.proofs.Common.{◌≡◌, ℕ, ◌<◌, ◌≤◌, List, [], ◌∷◌, length, get_or, refl, sym, subst, append-nil, arith}
+-- What is printed for refusals, and what a run does that prints it.
+use Rattle.std.proofs.Common.{◌≡◌, ℕ, ◌<◌, ◌≤◌, List, [], ◌∷◌, length, get_or, Ok, Err, refl, subst, arith}
 use Rattle.kmn_base.specs.declared.refusals.Refusal.{Refusal}
 use Rattle.keyman_words.specs.Seen.{FolderView, SinkView}
 use Rattle.keyman_words.specs.Tells.{Tells}
 use Rattle.keyman_words.specs.declared.status.Status.{Status}
 use Rattle.keyman_words.specs.declared.status.Status.TheVariants as status
 use Rattle.keyman_run.specs.Run.{Does}
-use Rattle.keyman_run.specs.Work.Work.{Give}
-use Rattle.keyman_run.proofs.RunLaws.{does_told}
-use Rattle.check_run.specs.Printed.{check_ending, clean_text, refused_text}
+use Rattle.keyman_run.specs.Steps.{Gives, itself}
+use Rattle.keyman_run.specs.declared.preparing.Stop.{Stop}
+use Rattle.check_run.specs.Orders.{check_work, refusals_work}
+use Rattle.check_run.specs.Printed.{PrintsStopped, check_ending, clean_text, refused_text, stopped_ending}
+use Rattle.check_run.proofs.Concluding.{concludes_told, concludes_stopped}
 
 -- the ending of a check is printed
 abbrev pub IsPrinted : {S : Type 0} → List ℕ → List Refusal → SinkView S → S → S → Status → Type 0
@@ -30,18 +32,17 @@ module _ {S : Type 0} (file : List ℕ) (refusals : List Refusal) (sinks : SinkV
       by [] some tells = absurd (omega (arith, some))
       by (x ∷ xs) some tells = tells
 
-does_checked : {F S : Type 0} (file : List ℕ) (refusals : List Refusal) (folders : FolderView F) (folder : F) (sinks : SinkView S) (out out_after : S) (how : Status)
-    → IsPrinted file refusals sinks out out_after how → Does (Give (check_ending file refusals)) folders folder folder sinks out out_after how
-does_checked file [] folders folder sinks out out_after how tells =
-    does_told (Give (check_ending file [])) (check_ending file []) folders folder folder sinks out out_after how refl refl
-    (λ told. (refl, record { asked = sym (append-nil (folders.calls folder)); files = λ name. refl })) tells
-does_checked file (x ∷ xs) folders folder sinks out out_after how tells =
-    does_told (Give (check_ending file (x ∷ xs))) (check_ending file (x ∷ xs)) folders folder folder sinks out out_after how refl refl
-    (λ told. (refl, record { asked = sym (append-nil (folders.calls folder)); files = λ name. refl })) tells
+module _ {F S : Type 0} (file source : List ℕ) (folders : FolderView F) (folder after : F) (sinks : SinkView S) (out out_after : S) (how : Status) (same : file ≡ source) where
+  -- a run that finds refusals and prints them
+  pub checks_printed : (found refusals : List Refusal) → found ≡ refusals → Gives itself (refusals_work source) folders folder after (Ok refusals)
+      → IsPrinted file found sinks out out_after how → Does (check_work source) folders folder after sinks out out_after how
+  checks_printed found refusals is gives tells =
+      concludes_told (check_ending source) (stopped_ending source) (refusals_work source) folders folder after sinks out out_after how (Ok refusals) refl gives.counts gives.told gives.gives
+      (subst (λ (list : List Refusal). IsPrinted source list sinks out out_after how) is (subst (λ (name : List ℕ). IsPrinted name found sinks out out_after how) same tells))
 
--- if the ending is printed, the run does the work of the ending
-pub checks_printed : {F S : Type 0} (file source : List ℕ) (found refusals : List Refusal) (folders : FolderView F) (folder : F) (sinks : SinkView S) (out out_after : S) (how : Status)
-    → file ≡ source → found ≡ refusals → IsPrinted file found sinks out out_after how → Does (Give (check_ending source refusals)) folders folder folder sinks out out_after how
-checks_printed file source found refusals folders folder sinks out out_after how same is tells =
-    does_checked source refusals folders folder sinks out out_after how
-    (subst (λ (list : List Refusal). IsPrinted source list sinks out out_after how) is (subst (λ (name : List ℕ). IsPrinted name found sinks out out_after how) same tells))
+  -- a run that stops and prints its reason
+  pub checks_stopped : (s : Stop) → Gives itself (refusals_work source) folders folder after (Err s) → PrintsStopped file s sinks out out_after how
+      → Does (check_work source) folders folder after sinks out out_after how
+  checks_stopped s gives tells =
+      concludes_stopped (check_ending source) source (refusals_work source) folders folder after sinks out out_after how s gives
+      (subst (λ (name : List ℕ). PrintsStopped name s sinks out out_after how) same tells)

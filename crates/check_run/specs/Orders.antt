@@ -13,8 +13,8 @@ use Rattle.keyman_run.specs.Orders.{file_work}
 use Rattle.keyman_run.specs.Steps.{at_line_one}
 use Rattle.keyman_run.specs.Work.{Reading, Work, given, and_then}
 use Rattle.keyman_run.specs.Work.Reading.{Bytes, Over}
-use Rattle.keyman_run.specs.Work.Work.{Give, Read}
-use Rattle.check_run.specs.Printed.{check_ending}
+use Rattle.keyman_run.specs.Work.Work.{Give, Refuse, Read}
+use Rattle.check_run.specs.Printed.{check_ending, stopped_ending}
 
 -- the bytes of a source, unless it is over the size limit
 abbrev pub bytes_in : Reading → Result (List ℕ) Reason
@@ -46,6 +46,12 @@ bytes_refusals_work source bytes = further_work source bytes (faults bytes)
 abbrev pub refusals_work : (source : List ℕ) → Work (List Refusal)
 refusals_work source = and_then (text_work source) (bytes_refusals_work source)
 
+-- work with an ending: one for its value, and one for its reason if it is refused
+abbrev pub concluded : {A : Type 0} → (A → Ending) → (Reason → Ending) → Work A → Work Ending
+concluded good bad (Give value) = Give (good value)
+concluded good bad (Refuse why) = Give (bad why)
+concluded good bad (Read name limit next) = Read name limit (λ reading. concluded good bad (next reading))
+
 -- `SOURCE`: read the source, find its refusals, print them
 abbrev pub check_work : (source : List ℕ) → Work Ending
-check_work source = and_then (refusals_work source) (λ refusals. Give (check_ending source refusals))
+check_work source = concluded (check_ending source) (stopped_ending source) (refusals_work source)

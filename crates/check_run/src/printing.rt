@@ -2,10 +2,11 @@
 
 ghost use Rattle.std.specs.Prelude.{◌≡◌, ◌++◌, flat_map, IfOk, OnOk};
 ghost use Rattle.check_run.specs.Meanings.{meaning};
-ghost use Rattle.check_run.specs.Printed.{check_ending, clean_text, error_line, error_lines, late, late_line, refused_text, rest_count, rest_line};
+ghost use Rattle.check_run.specs.Printed.{PrintsStopped, check_ending, clean_text, error_line, error_lines, late, late_line, reason_error, refused_text, rest_count, rest_line, stopped_text};
 ghost use Rattle.keyman_words.specs.Tells.{Tells};
 
 use crate::meanings::{program_meaning, statement_meaning, token_meaning};
+use keyman_run::Stop;
 use keyman_words::{Reason, Status, print_line, print_result, reason_line};
 use kmn_base::slices::{before, behind};
 use kmn_base::{Code, Memory, Refusal, Seq, Text};
@@ -35,6 +36,39 @@ pub(crate) fn print_refusals<S: Sink>(
             Status::Refused,
             out,
         ),
+    }
+}
+
+/// Ends a check that stops before the file of the source is checked. A refusal prints its error, and then the line that compilation
+/// prints.
+#[tactic(auto, using(keyman_words::proofs::Printed::tells_made))]
+pub(crate) fn print_stopped<S: Sink>(alloc: Global, file: &[u8], stop: Stop, out: &mut S) -> Status
+    ensures { PrintsStopped file.now stop S.Sink out.old out.new result }
+{
+    match stop {
+        Stop::Refused(why) => print_result(stopped_text(alloc, file, why), Status::Refused, out),
+        Stop::ReadFault => Status::ReadFault,
+        Stop::Memory => Status::Memory,
+    }
+}
+
+/// Returns the text of a reason for which a check stops.
+fn stopped_text(alloc: Global, file: &[u8], why: Reason) -> Result<Text, Memory>
+    ensures { IfOk result (λ text. text ≡ stopped_text file.now why) }
+{
+    let mut text = reason_error(alloc, file, why)?;
+    text.append(reason_line(alloc, why)?)?;
+    Ok(text)
+}
+
+/// Returns the line of a reason in the form that editors read, and no text for a reason for which no check stops.
+fn reason_error(alloc: Global, file: &[u8], why: Reason) -> Result<Text, Memory>
+    ensures { IfOk result (λ line. line ≡ reason_error file.now why) }
+{
+    match why {
+        Reason::Line(refusal) => error_line(alloc, file, refusal),
+        Reason::Size { code, .. } => error_line(alloc, file, Refusal { line: 1, code }),
+        _ => Ok(Seq::new(alloc)),
     }
 }
 

@@ -5,8 +5,7 @@ ghost use Rattle.check_run.specs.Runs.{Runs};
 ghost use Rattle.keyman_run.specs.Run.{Does};
 
 use crate::checking::read_refusals;
-use crate::printing::print_refusals;
-use keyman_run::print_stop;
+use crate::printing::{print_refusals, print_stopped};
 use keyman_words::{FileName, Status};
 use kmn_base::Text;
 use kmn_outside::{Folder, Sink};
@@ -33,6 +32,6 @@ fn check<F: Folder, S: Sink>(alloc: Global, source: &Text, folder: &mut F, out: 
 {
     match read_refusals(alloc, &FileName::of(source), folder) {
         Ok(refusals) => print_refusals(alloc, source.as_slice(), refusals.as_slice(), out),
-        Err(stop) => print_stop(alloc, stop, out),
+        Err(stop) => print_stopped(alloc, source.as_slice(), stop, out),
     }
 }
