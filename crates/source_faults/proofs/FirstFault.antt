@@ -14,14 +14,17 @@ use Rattle.kmn_parser.specs.Source.{parsed, read_text}
 use Rattle.kmn_parser.specs.SourceLaws.{IsInOrder}
 use Rattle.kmn_parser.proofs.SourceLines.{statements_in_order}
 use Rattle.store_table.specs.First.{earlier, first_among, or_refusal}
-use Rattle.store_table.specs.Names.{names_refusal, names_refusals}
-use Rattle.store_table.proofs.FirstAmong.{names_least}
+use Rattle.store_table.specs.Names.{names_refusal}
 use Rattle.item_checker.specs.Items.{items_refusal, items_refusals}
 use Rattle.item_checker.proofs.FirstItems.{items_least}
 use Rattle.rule_checker.specs.Limits.{limits_refusal}
 use Rattle.rule_checker.specs.AllLimits.{limits_refusals}
 use Rattle.rule_checker.specs.Refused.{refused, start_refusal}
 use Rattle.rule_checker.proofs.LimitsLeast.{limits_least}
+use Rattle.source_names.specs.declared.causes.NameFault.{NameFault}
+use Rattle.source_names.specs.Causes.{refusal_of}
+use Rattle.source_names.specs.Telling.{first_refusal, names_lacked, reported_causes}
+use Rattle.source_names.proofs.Reported.{first_reported}
 use Rattle.source_faults.specs.declared.found.Found.{Found}
 use Rattle.source_faults.specs.Reading.{read_all, read_refusals}
 use Rattle.source_faults.specs.Stubs.{with_words, stub_group, stubbed}
@@ -96,16 +99,24 @@ items_first program order =
     ∙ ap (λ whole. first_fault (limits_faults [] true whole)) (none_stubbed program)
     ∙ limits_first program order)
 
+no_words : (program : Program) → with_words program [] ≡ program
+no_words program = refl
+
+-- the refusals for names, by the causes that are reported
+causes_first : (program : Program) → IsInOrder program → (causes : List NameFault) → first_refusal causes ≡ names_refusal program
+    → first_fault (map refusal_of causes ++ items_faults (map refusal_of causes) (is_empty (map refusal_of causes)) (stubbed (map refusal_of causes) (with_words program (names_lacked causes))))
+    ≡ option_or (names_refusal program) (option_or (items_refusal program) (limits_refusal program))
+causes_first program order [] is =
+    ap (λ whole. first_fault (items_faults [] true (stubbed [] whole))) (no_words program)
+    ∙ ap (λ whole. first_fault (items_faults [] true whole)) (none_stubbed program)
+    ∙ items_first program order
+    ∙ ap (λ first. option_or first (option_or (items_refusal program) (limits_refusal program))) is
+causes_first program order (cause ∷ causes) is = ap (λ first. option_or first (option_or (items_refusal program) (limits_refusal program))) is
+
 names_first : (program : Program) → IsInOrder program → first_fault (names_faults [] true program) ≡ option_or (names_refusal program) (option_or (items_refusal program) (limits_refusal program))
 names_first program order =
-    ap (λ names. first_fault (in_lines names ++ items_faults names (is_empty names) (stubbed names program))) (all_kept (names_refusals program))
-    ∙ first_append (in_lines (names_refusals program)) (items_faults (names_refusals program) (is_empty (names_refusals program)) (stubbed (names_refusals program) program))
-    ∙ ap (λ first. option_or first (first_fault (items_faults (names_refusals program) (is_empty (names_refusals program)) (stubbed (names_refusals program) program)))) (first_in_lines (names_refusals program) ∙ sym (names_least program))
-    ∙ or_same (names_refusal program) (first_fault (items_faults (names_refusals program) (is_empty (names_refusals program)) (stubbed (names_refusals program) program))) (option_or (items_refusal program) (limits_refusal program))
-    (λ none.
-    ap (λ names. first_fault (items_faults names (is_empty names) (stubbed names program))) (none_among (names_refusals program) (sym (names_least program) ∙ none))
-    ∙ ap (λ whole. first_fault (items_faults [] true whole)) (none_stubbed program)
-    ∙ items_first program order)
+    ap (λ names. first_fault (names ++ items_faults names (is_empty names) (stubbed names (with_words program (names_lacked (reported_causes program)))))) (all_kept (map refusal_of (reported_causes program)))
+    ∙ causes_first program order (reported_causes program) (first_reported program)
 
 program_first : (program : Program) → IsInOrder program → first_fault (program_faults [] program) ≡ refused program
 unfolding refused

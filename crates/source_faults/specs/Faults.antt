@@ -1,12 +1,13 @@
 -- All refusals of a source.
-use Rattle.std.specs.Prelude.{ℕ, nat_lt, Bool, true, false, not, ◌&&◌, if◌then◌else◌, List, [], ◌∷◌, ◌++◌, length, filter, option_to_list, Option, None, Some, Result, Ok, Err}
+use Rattle.std.specs.Prelude.{ℕ, nat_lt, Bool, true, false, not, ◌&&◌, if◌then◌else◌, List, [], ◌∷◌, ◌++◌, length, filter, map, option_to_list, Option, None, Some, Result, Ok, Err}
 use Rattle.std.specs.Str.{is_utf8}
 use Rattle.kmn_base.specs.declared.codes.Code.TheVariants.{L01, L05}
 use Rattle.kmn_base.specs.declared.limits.TheConstants.{TEXT_BYTES}
 use Rattle.kmn_base.specs.declared.refusals.Refusal.{Refusal}
 use Rattle.kmn_lines.specs.Tokens.{refusal}
 use Rattle.rule_model.specs.declared.program.Program.{Program}
-use Rattle.store_table.specs.Names.{names_refusals}
+use Rattle.source_names.specs.Causes.{refusal_of}
+use Rattle.source_names.specs.Telling.{names_lacked, reported_causes}
 use Rattle.item_checker.specs.Items.{items_refusals}
 use Rattle.rule_checker.specs.AllLimits.{limits_refusals}
 use Rattle.rule_checker.specs.Refused.{start_refusal}
@@ -32,7 +33,8 @@ is_empty [] = true
 is_empty (found ∷ refusals) = false
 
 -- the refusals of a program in which the lines of earlier refusals have stubs: for limits, for items and limits, for names and both.
--- The limits that all statements share are checked if nothing is refused for its text, its start or its names (`shared`).
+-- The limits that all statements share are checked if nothing is refused for its text, its start or its names (`shared`). A name that is
+-- not defined anywhere is reported once, in the order of lines; for items and limits it counts as a store and a group.
 abbrev pub limits_faults : List Refusal → Bool → Program → List Refusal
 limits_faults refused shared program = in_lines (further refused (limits_refusals shared program))
 
@@ -43,8 +45,9 @@ items_faults refused shared program =
 
 abbrev pub names_faults : List Refusal → Bool → Program → List Refusal
 names_faults refused shared program =
-    let names = further refused (names_refusals program) in
-    in_lines names ++ items_faults (refused ++ names) (shared && is_empty names) (stubbed (refused ++ names) program)
+    let causes = reported_causes program in
+    let names = further refused (map refusal_of causes) in
+    names ++ items_faults (refused ++ names) (shared && is_empty names) (stubbed (refused ++ names) (with_words program (names_lacked causes)))
 
 -- the refusals of a program, some of whose lines are refused already: for its start, names, items and limits
 abbrev pub program_faults : List Refusal → Program → List Refusal

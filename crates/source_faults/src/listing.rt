@@ -16,13 +16,14 @@ use kmn_base::limits::TEXT_BYTES;
 use kmn_base::{Code, Memory, Refusal, Seq};
 use rule_checker::{limits_refusals, start_refusal};
 use rule_model::Program;
+use source_names::{names_lacked, refusals_of, reported_causes};
 use std::alloc::Global;
 use std::str;
-use store_table::{add_refusal, names_refusals};
+use store_table::add_refusal;
 
 /// Returns all refusals of a source, L01 to L05, S01 to S12 and C01 to C22 and C25, in the order of passes, and of lines in each pass. A
-/// line has at most one, except that C01 is always at line 1. Refused lines do not cause refusals of other lines. Errors: `Memory` if an
-/// allocation fails.
+/// line has at most one, except that C01 is always at line 1. A name that is not defined anywhere is reported once. Refused lines do not
+/// cause refusals of other lines. Errors: `Memory` if an allocation fails.
 #[tactic(auto, using(crate::proofs::SourceBytes::length_is_refused))]
 pub fn faults(alloc: Global, source: &[u8]) -> Result<Seq<Refusal>, Memory>
     ensures { IfOk result (λ refusals. refusals ≡ faults source.now) }
@@ -95,14 +96,17 @@ fn names_faults(
     alloc: Global,
     mut listed: Listed,
     shared: bool,
-    mut program: Program,
+    program: Program,
 ) -> Result<Seq<Refusal>, Memory>
     ensures { IfOk result (λ refusals. refusals ≡ listed.sorted ++ names_faults listed.found shared program) }
 {
-    let names = names_refusals(alloc, &program)?;
+    let causes = reported_causes(alloc, &program)?;
+    let names = refusals_of(alloc, causes.as_slice())?;
     let names = further(alloc, listed.found.as_slice(), names.as_slice())?;
     let shared = still_shared(shared, names.as_slice());
-    list(alloc, &mut listed, names)?;
+    list_in_order(alloc, &mut listed, names)?;
+    let lacked = names_lacked(alloc, causes.as_slice())?;
+    let mut program = with_words(alloc, program, lacked.as_slice())?;
     stub(alloc, listed.found.as_slice(), &mut program)?;
     items_faults(alloc, listed, shared, program)
 }
@@ -153,6 +157,20 @@ fn is_empty(refusals: &[Refusal]) -> bool
         [] => true,
         _ => false,
     }
+}
+
+/// Appends the refusals of a pass that are in the order of lines.
+fn list_in_order(
+    alloc: Global,
+    listed: &mut Listed,
+    refusals: Seq<Refusal>,
+) -> Result<(), Memory>
+    ensures found { OnOk result (listed.new.found ≡ listed.old.found ++ refusals) }
+    ensures sorted { OnOk result (listed.new.sorted ≡ listed.old.sorted ++ refusals) }
+{
+    let sorted = refusals.copy(alloc)?;
+    listed.found.append(refusals)?;
+    listed.sorted.append(sorted)
 }
 
 /// Appends the refusals of a pass.

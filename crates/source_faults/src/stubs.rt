@@ -8,12 +8,12 @@ ghost use Rattle.source_faults.specs.Stubs.{code_at, new_words, stub_group, stub
 
 use crate::refused_lines::RefusedLines;
 use kmn_base::{Code, Memory, Seq, Text};
-use rule_model::system::DROPPED;
 use rule_model::{GroupDef, Program, RuleDef, SrcItem, StoreDef};
+use source_names::{group_names, store_names};
 use std::alloc::Global;
 use store_table::NameTable;
 
-/// Adds a store and a group for each word of a refused line that a program does not define. Errors: `Memory` if an allocation fails.
+/// Adds a store and a group for each word of a refused line, or for each name that is not defined, where a program does not define it. Errors: `Memory` if an allocation fails.
 pub(crate) fn with_words(alloc: Global, program: Program, words: &[Text]) -> Result<Program, Memory>
     ensures { IfOk result (λ whole. whole ≡ with_words program words.now) }
 {
@@ -59,30 +59,6 @@ fn with_word_groups(
     let mut all = word_groups(alloc, words.as_slice())?;
     all.append(groups)?;
     Ok(all)
-}
-
-/// Returns the names of stores, without those that are read and dropped.
-fn store_names(alloc: Global, stores: &[StoreDef]) -> Result<NameTable, Memory>
-    ensures { IfOk result (λ names. names ≡ store_names stores.now) }
-{
-    let mut names = NameTable::new(alloc);
-    for store in stores {
-        if store.system != DROPPED {
-            names.push(store.name.as_slice())?;
-        }
-    }
-    Ok(names)
-}
-
-/// Returns the names of groups.
-fn group_names(alloc: Global, groups: &[GroupDef]) -> Result<NameTable, Memory>
-    ensures { IfOk result (λ names. names ≡ group_names groups.now) }
-{
-    let mut names = NameTable::new(alloc);
-    for group in groups {
-        names.push(group.name.as_slice())?;
-    }
-    Ok(names)
 }
 
 /// Returns the words that are not among names, each once.

@@ -21,6 +21,10 @@ store(v 'aeiou'¶begin Unicode > use(main)¶group(main) using keys¶+ any(v) > '
 stoer(v) 'aeiou'¶begin Unicode > use(main)¶group(main) using keys¶+ any(v) > index(v, 1)¶+ any(w) > 'y' ⇒ S01 1, C05 5
 == a word in quotes of a refused line is no store stated before
 store(a) 'x' dk(¶store(x) 'y'¶begin Unicode > use(main)¶group(main) using keys¶+ any(x) > outs(a) ⇒ S02 1
+== a name that is nowhere stated is told once
+begin Unicode > use(main)¶group(main) using keys¶+ any(v) > 'a'¶any(v) + 'b' > 'c'¶any(V) + 'd' > outs(v) ⇒ C05 3
+== two such names in a line: the first, and the other where it comes again
+begin Unicode > use(main)¶group(main) using keys¶any(v) any(w) + 'b' > 'c'¶any(v) any(w) + 'd' > 'c' ⇒ C05 3, C05 4
 == a store with such a name is no key store to be told
 store(k) 'a' outs(nowhere) 'b'¶begin Unicode > use(main)¶group(main) using keys¶+ any(k) > 'x' ⇒ C05 1
 == outs of a later store, in each line

@@ -1,0 +1,4 @@
+pub mod Each
+pub mod FirstCauses
+pub mod InLines
+pub mod Reported
