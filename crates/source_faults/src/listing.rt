@@ -160,11 +160,7 @@ fn is_empty(refusals: &[Refusal]) -> bool
 }
 
 /// Appends the refusals of a pass that are in the order of lines.
-fn list_in_order(
-    alloc: Global,
-    listed: &mut Listed,
-    refusals: Seq<Refusal>,
-) -> Result<(), Memory>
+fn list_in_order(alloc: Global, listed: &mut Listed, refusals: Seq<Refusal>) -> Result<(), Memory>
     ensures found { OnOk result (listed.new.found ≡ listed.old.found ++ refusals) }
     ensures sorted { OnOk result (listed.new.sorted ≡ listed.old.sorted ++ refusals) }
 {

@@ -1,6 +1,6 @@
 -- The first cause of each statement is its refusal.
 use Rattle.std.proofs.Common.{◌≡◌, ℕ, Bool, true, false, cond, List, [], ◌∷◌, ◌++◌, map, flat_map, Option, Some, None, refl, sym, ap, ◌∙◌, arith}
-use Rattle.std.specs.Prelude.{nat_lt, not, option_map, if◌then◌else◌}
+use Rattle.std.specs.Prelude.{nat_lt, not, option_map, slice_get, if◌then◌else◌}
 use Rattle.std.specs.Option.{option_or}
 use Rattle.std.proofs.lemmas.Bool.Decides.{nat_tests}
 use Rattle.std.proofs.lemmas.List.{map-append}
@@ -19,9 +19,9 @@ use Rattle.store_table.specs.First.{broken, first_code, at_line, earlier, first_
 use Rattle.store_table.specs.Names.{is_named, store_names, group_names, stated, lacks, store_named, group_named, is_begun, is_store_again, is_group_again, uses_later_store, is_again, store_item_code, rule_item_code, begin_code, store_code, rule_code, begin_refusal, store_refusal, group_refusal, rule_refusal, rules_refusal, names_refusal}
 use Rattle.store_table.proofs.FirstAmong.{first_append}
 use Rattle.source_names.specs.declared.causes.Cause.{Cause}
-use Rattle.source_names.specs.declared.causes.Cause.TheVariants as cause
+use Rattle.source_names.specs.declared.causes.Cause.TheVariants as because
 use Rattle.source_names.specs.declared.causes.NameFault.{NameFault}
-use Rattle.source_names.specs.Causes.{code_of, refusal_of, missing, no_store, no_group, no_start, broken_if, store_item_cause, rule_item_cause, at, items_at, begin_causes, store_causes, group_causes, rule_causes, each_of, begin_faults, store_faults, group_faults, rule_faults, rules_faults, name_causes}
+use Rattle.source_names.specs.Causes.{code_of, refusal_of, store_cause, group_cause, no_store, no_group, broken_if, store_item_cause, rule_item_cause, caused, items_caused, begin_causes, store_causes, group_causes, rule_causes, each_of, begin_faults, store_faults, group_faults, rule_faults, rules_faults, name_causes}
 use Rattle.source_names.specs.Laws.{FirstCausesAreRefusals}
 
 -- the first refusal of causes
@@ -31,7 +31,7 @@ first_in causes = first_among (map refusal_of causes)
 in_both : (xs ys : List NameFault) → first_in (xs ++ ys) ≡ earlier (first_in xs) (first_in ys)
 in_both xs ys = ap first_among (map-append refusal_of xs ys) ∙ first_append (map refusal_of xs) (map refusal_of ys)
 
-at_first : (line : ℕ) (found : Option Cause) → first_in (at line found) ≡ at_line line (option_map code_of found)
+at_first : (line : ℕ) (found : Option Cause) → first_in (caused line found) ≡ at_line line (option_map code_of found)
 at_first line None = refl
 at_first line (Some found) = refl
 
@@ -43,22 +43,22 @@ same_line : (line : ℕ) (a b : Option Code) → earlier (at_line line a) (at_li
 same_line line None b = refl
 same_line line (Some a) None = refl
 same_line line (Some a) (Some b) =
-    ap (λ t. if t then Some (record { line = line; code = b }) else Some (record { line = line; code = a })) (not_less line)
+    ap (λ t. if t then at_line line (Some b) else at_line line (Some a)) (not_less line)
 
 -- the first refusal of a cause and of others at its line
 before_first : (line : ℕ) (found : Option Cause) (rest : List NameFault) (code : Option Code) → first_in rest ≡ at_line line code
-    → first_in (at line found ++ rest) ≡ at_line line (option_or (option_map code_of found) code)
+    → first_in (caused line found ++ rest) ≡ at_line line (option_or (option_map code_of found) code)
 before_first line found rest code is =
-    in_both (at line found) rest
+    in_both (caused line found) rest
     ∙ ap (λ first. earlier first (first_in rest)) (at_first line found)
     ∙ ap (earlier (at_line line (option_map code_of found))) is
     ∙ same_line line (option_map code_of found) code
 
 items_first : (line : ℕ) (cause : SrcItem → Option Cause) (code : SrcItem → Option Code) → ((item : SrcItem) → option_map code_of (cause item) ≡ code item)
-    → (items : List SrcItem) → first_in (items_at line cause items) ≡ at_line line (first_code code items)
+    → (items : List SrcItem) → first_in (items_caused line cause items) ≡ at_line line (first_code code items)
 items_first line cause code is [] = refl
 items_first line cause code is (item ∷ items) =
-    before_first line (cause item) (items_at line cause items) (first_code code items) (items_first line cause code is items)
+    before_first line (cause item) (items_caused line cause items) (first_code code items) (items_first line cause code is items)
     ∙ ap (λ first. at_line line (option_or first (first_code code items))) (is item)
 
 -- the codes of items
@@ -66,25 +66,25 @@ store_item_first : (s : Stated) (before : List (List ℕ)) (item : SrcItem) → 
 store_item_first s before item = by_names (store_named item) (uses_later_store before item)
   where
     by_test : (t : Bool) (name : List ℕ) (later : Bool)
-        → option_map code_of (option_or (option_map (λ (name : List ℕ). cause.NoStore name) (if t then None else Some name)) (broken_if later C07))
+        → option_map code_of (option_or (if t then None else Some (because.NoStore name)) (broken_if later C07))
         ≡ broken ((C05, not t) ∷ (C07, later) ∷ [])
     by_test true name true = refl
     by_test true name false = refl
     by_test false name later = refl
 
     by_names : (names : List (List ℕ)) (later : Bool)
-        → option_map code_of (option_or (option_map (λ (name : List ℕ). cause.NoStore name) (missing s.stores names)) (broken_if later C07))
+        → option_map code_of (option_or (store_cause s.stores (slice_get names 0)) (broken_if later C07))
         ≡ broken ((C05, lacks s.stores names) ∷ (C07, later) ∷ [])
     by_names [] true = refl
     by_names [] false = refl
     by_names (name ∷ names) later = by_test (is_named s.stores name) name later
 
 group_first : (groups names : List (List ℕ))
-    → option_map code_of (option_map (λ (name : List ℕ). cause.NoGroup name) (missing groups names)) ≡ broken ((C06, lacks groups names) ∷ [])
+    → option_map code_of (group_cause groups (slice_get names 0)) ≡ broken ((C06, lacks groups names) ∷ [])
 group_first groups [] = refl
 group_first groups (name ∷ names) = by (is_named groups name)
   where
-    by : (t : Bool) → option_map code_of (option_map (λ (name : List ℕ). cause.NoGroup name) (if t then None else Some name)) ≡ broken ((C06, not t) ∷ [])
+    by : (t : Bool) → option_map code_of (if t then None else Some (because.NoGroup name)) ≡ broken ((C06, not t) ∷ [])
     by true = refl
     by false = refl
 
@@ -92,13 +92,13 @@ rule_item_first : (s : Stated) (item : SrcItem) → option_map code_of (rule_ite
 rule_item_first s item = by_names (store_named item) (no_group s.groups item) (lacks s.groups (group_named item)) (group_first s.groups (group_named item))
   where
     by_test : (t : Bool) (name : List ℕ) (found : Option Cause) (lacking : Bool) → option_map code_of found ≡ broken ((C06, lacking) ∷ [])
-        → option_map code_of (option_or (option_map (λ (name : List ℕ). cause.NoStore name) (if t then None else Some name)) found)
+        → option_map code_of (option_or (if t then None else Some (because.NoStore name)) found)
         ≡ broken ((C05, not t) ∷ (C06, lacking) ∷ [])
     by_test true name found lacking is = is
     by_test false name found lacking is = refl
 
     by_names : (names : List (List ℕ)) (found : Option Cause) (lacking : Bool) → option_map code_of found ≡ broken ((C06, lacking) ∷ [])
-        → option_map code_of (option_or (option_map (λ (name : List ℕ). cause.NoStore name) (missing s.stores names)) found)
+        → option_map code_of (option_or (store_cause s.stores (slice_get names 0)) found)
         ≡ broken ((C05, lacks s.stores names) ∷ (C06, lacking) ∷ [])
     by_names [] found lacking is = is
     by_names (name ∷ names) found lacking is = by_test (is_named s.stores name) name found lacking is
@@ -110,8 +110,8 @@ again_first false code = refl
 
 begin_first : (s : Stated) (before : List BeginDef) (start : BeginDef) → first_in (begin_faults s.groups before start) ≡ begin_refusal s before start
 begin_first s before start =
-    before_first start.line (broken_if (is_begun before start) C02) (at start.line (no_start s.groups start)) (broken ((C06, not (is_named s.groups start.group)) ∷ []))
-    (at_first start.line (no_start s.groups start) ∙ ap (at_line start.line) (group_first s.groups (start.group ∷ [])))
+    before_first start.line (broken_if (is_begun before start) C02) (caused start.line (group_cause s.groups (Some start.group))) (broken ((C06, not (is_named s.groups start.group)) ∷ []))
+    (at_first start.line (group_cause s.groups (Some start.group)) ∙ ap (at_line start.line) (group_first s.groups (start.group ∷ [])))
     ∙ by (is_begun before start)
   where
     by : (again : Bool)
@@ -122,7 +122,7 @@ begin_first s before start =
 
 store_first : (s : Stated) (before : List StoreDef) (store : StoreDef) → first_in (store_faults s.stores before store) ≡ store_refusal s before store
 store_first s before store =
-    before_first store.line (broken_if (is_store_again (store_names before) store) C03) (items_at store.line (store_item_cause s.stores (store_names before)) store.items)
+    before_first store.line (broken_if (is_store_again (store_names before) store) C03) (items_caused store.line (store_item_cause s.stores (store_names before)) store.items)
     (first_code (store_item_code s (store_names before)) store.items)
     (items_first store.line (store_item_cause s.stores (store_names before)) (store_item_code s (store_names before)) (store_item_first s (store_names before)) store.items)
     ∙ ap (λ first. at_line store.line (option_or first (first_code (store_item_code s (store_names before)) store.items))) (again_first (is_store_again (store_names before) store) C03)
@@ -134,7 +134,7 @@ group_statement_first before group =
 
 rule_first : (s : Stated) (before : List RuleDef) (rule : RuleDef) → first_in (rule_faults s.stores s.groups before rule) ≡ rule_refusal s before rule
 rule_first s before rule =
-    before_first rule.line (broken_if (is_again before rule) C15) (items_at rule.line (rule_item_cause s.stores s.groups) (rule_items rule))
+    before_first rule.line (broken_if (is_again before rule) C15) (items_caused rule.line (rule_item_cause s.stores s.groups) (rule_items rule))
     (first_code (rule_item_code s) (rule_items rule))
     (items_first rule.line (rule_item_cause s.stores s.groups) (rule_item_code s) (rule_item_first s) (rule_items rule))
     ∙ ap (λ first. at_line rule.line (option_or first (first_code (rule_item_code s) (rule_items rule)))) (again_first (is_again before rule) C15)

@@ -6,7 +6,7 @@ use Rattle.std.specs.Ordering.{is_lt, nat_cmp}
 use Rattle.std.specs.declared.cmp.Ordering.TheVariants.{Less, Equal, Greater}
 use Rattle.std.proofs.lemmas.Bool.Decides.{nat_tests}
 use Rattle.kmn_base.specs.declared.codes.Code.TheVariants.{C02}
-use Rattle.source_names.specs.declared.causes.Cause.TheVariants as cause
+use Rattle.source_names.specs.declared.causes.Cause.TheVariants as because
 use Rattle.source_names.specs.declared.causes.NameFault.{NameFault}
 use Rattle.source_names.specs.Telling.{inserted, in_lines}
 
@@ -181,7 +181,7 @@ pub sorted_is_in_lines : (faults items sorted : List NameFault) → items ≡ fa
 sorted_is_in_lines faults items sorted same rises stable =
     stable_is_in_lines faults sorted rises
     (λ line.
-    let one : NameFault = record { line = line; cause = cause.Broken C02 } in
+    let one : NameFault = record { line = line; cause = because.Broken C02 } in
     ap (λ test. filter test sorted) (λ j found. sym (tie_at one found) j)
     ∙ stable one
     ∙ ap (λ test. filter test items) (λ j found. tie_at one found j)

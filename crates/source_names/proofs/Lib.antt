@@ -1,4 +1,5 @@
 pub mod Each
+pub mod Told
 pub mod FirstCauses
 pub mod InLines
 pub mod Reported

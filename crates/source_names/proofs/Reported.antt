@@ -5,7 +5,7 @@ use Rattle.kmn_base.specs.declared.refusals.Refusal.{Refusal}
 use Rattle.store_table.specs.First.{earlier, first_among}
 use Rattle.store_table.specs.Names.{is_named}
 use Rattle.source_names.specs.declared.causes.Cause.{Cause}
-use Rattle.source_names.specs.declared.causes.Cause.TheVariants as cause
+use Rattle.source_names.specs.declared.causes.Cause.TheVariants as because
 use Rattle.source_names.specs.declared.causes.NameFault.{NameFault}
 use Rattle.source_names.specs.Causes.{refusal_of, name_causes}
 use Rattle.source_names.specs.Telling.{inserted, in_lines, is_at, is_lacked, is_new, new_after, reported_causes, first_refusal}
@@ -30,10 +30,10 @@ none_named : (name : List ℕ) → is_named [] name ≡ false
 unfolding is_named
 none_named name = refl
 
-none_lacked : (cause : Cause) → is_lacked [] cause ≡ false
-none_lacked (cause.NoStore name) = none_named name
-none_lacked (cause.NoGroup name) = none_named name
-none_lacked (cause.Broken code) = refl
+none_lacked : (why : Cause) → is_lacked [] why ≡ false
+none_lacked (because.NoStore name) = none_named name
+none_lacked (because.NoGroup name) = none_named name
+none_lacked (because.Broken code) = refl
 
 first_new : (faults : List NameFault) → first_refusal (new_after [] faults) ≡ first_refusal faults
 first_new [] = refl

@@ -1,5 +1,5 @@
 -- All causes for which names refuse the statements of a program.
-use Rattle.std.specs.Prelude.{ℕ, Bool, if◌then◌else◌, List, [], ◌∷◌, ◌++◌, flat_map, Option, None, Some, option_map}
+use Rattle.std.specs.Prelude.{ℕ, Bool, if◌then◌else◌, List, [], ◌∷◌, ◌++◌, slice_get, flat_map, Option, None, Some}
 use Rattle.std.specs.Option.{option_or}
 use Rattle.kmn_base.specs.declared.codes.Code.{Code}
 use Rattle.kmn_base.specs.declared.codes.Code.TheVariants.{C02, C03, C04, C05, C06, C07, C15}
@@ -13,38 +13,38 @@ use Rattle.rule_model.specs.declared.program.Program.{Program}
 use Rattle.rule_model.specs.Naming.{rule_items}
 use Rattle.store_table.specs.Names.{is_named, store_names, group_names, store_named, group_named, is_begun, is_store_again, is_group_again, uses_later_store, is_again}
 use Rattle.source_names.specs.declared.causes.Cause.{Cause}
-use Rattle.source_names.specs.declared.causes.Cause.TheVariants as cause
+use Rattle.source_names.specs.declared.causes.Cause.TheVariants as because
 use Rattle.source_names.specs.declared.causes.NameFault.{NameFault}
 
 -- the code of a cause
 abbrev pub code_of : Cause → Code
-code_of (cause.NoStore name) = C05
-code_of (cause.NoGroup name) = C06
-code_of (cause.Broken code) = code
+code_of (because.NoStore name) = C05
+code_of (because.NoGroup name) = C06
+code_of (because.Broken code) = code
 
 -- the refusal of a line for a cause
 abbrev pub refusal_of : NameFault → Refusal
 refusal_of fault = record { line = fault.line; code = code_of fault.cause }
 
--- the name of an item, if it has one that is not among those that are defined
-abbrev pub missing : List (List ℕ) → List (List ℕ) → Option (List ℕ)
-missing defined [] = None
-missing defined (name ∷ names) = if is_named defined name then None else Some name
-
 -- C05: a store that no statement defines
+abbrev pub store_cause : List (List ℕ) → Option (List ℕ) → Option Cause
+store_cause stores None = None
+store_cause stores (Some name) = if is_named stores name then None else Some (because.NoStore name)
+
 abbrev pub no_store : List (List ℕ) → SrcItem → Option Cause
-no_store stores item = option_map (λ (name : List ℕ). cause.NoStore name) (missing stores (store_named item))
+no_store stores item = store_cause stores (slice_get (store_named item) 0)
 
 -- C06: a group that no statement defines
-abbrev pub no_group : List (List ℕ) → SrcItem → Option Cause
-no_group groups item = option_map (λ (name : List ℕ). cause.NoGroup name) (missing groups (group_named item))
+abbrev pub group_cause : List (List ℕ) → Option (List ℕ) → Option Cause
+group_cause groups None = None
+group_cause groups (Some name) = if is_named groups name then None else Some (because.NoGroup name)
 
-abbrev pub no_start : List (List ℕ) → BeginDef → Option Cause
-no_start groups start = option_map (λ (name : List ℕ). cause.NoGroup name) (missing groups (start.group ∷ []))
+abbrev pub no_group : List (List ℕ) → SrcItem → Option Cause
+no_group groups item = group_cause groups (slice_get (group_named item) 0)
 
 -- another rule, if it is broken
 abbrev pub broken_if : Bool → Code → Option Cause
-broken_if broken code = if broken then Some (cause.Broken code) else None
+broken_if broken code = if broken then Some (because.Broken code) else None
 
 -- the cause of an item in a store statement, after stores with these names
 abbrev pub store_item_cause : List (List ℕ) → List (List ℕ) → SrcItem → Option Cause
@@ -55,28 +55,28 @@ abbrev pub rule_item_cause : List (List ℕ) → List (List ℕ) → SrcItem →
 rule_item_cause stores groups item = option_or (no_store stores item) (no_group groups item)
 
 -- a cause at a line, and those of items at a line
-abbrev pub at : ℕ → Option Cause → List NameFault
-at line None = []
-at line (Some cause) = record { line = line; cause = cause } ∷ []
+abbrev pub caused : ℕ → Option Cause → List NameFault
+caused line None = []
+caused line (Some cause) = record { line = line; cause = cause } ∷ []
 
-abbrev pub items_at : ℕ → (SrcItem → Option Cause) → List SrcItem → List NameFault
-items_at line cause items = flat_map (λ (item : SrcItem). at line (cause item)) items
+abbrev pub items_caused : ℕ → (SrcItem → Option Cause) → List SrcItem → List NameFault
+items_caused line cause items = flat_map (λ (item : SrcItem). caused line (cause item)) items
 
 -- the causes of one statement, in the order in which they are checked. A begin may be the second of its kind, and a match or nomatch the
 -- second of its group
 abbrev pub begin_causes : List (List ℕ) → Bool → BeginDef → List NameFault
-begin_causes groups again start = at start.line (broken_if again C02) ++ at start.line (no_start groups start)
+begin_causes groups again start = caused start.line (broken_if again C02) ++ caused start.line (group_cause groups (Some start.group))
 
 abbrev pub store_causes : List (List ℕ) → List (List ℕ) → StoreDef → List NameFault
 store_causes stores before store =
-    at store.line (broken_if (is_store_again before store) C03) ++ items_at store.line (store_item_cause stores before) store.items
+    caused store.line (broken_if (is_store_again before store) C03) ++ items_caused store.line (store_item_cause stores before) store.items
 
 abbrev pub group_causes : List (List ℕ) → GroupDef → List NameFault
-group_causes before group = at group.line (broken_if (is_group_again before group) C04)
+group_causes before group = caused group.line (broken_if (is_group_again before group) C04)
 
 abbrev pub rule_causes : List (List ℕ) → List (List ℕ) → Bool → RuleDef → List NameFault
 rule_causes stores groups again rule =
-    at rule.line (broken_if again C15) ++ items_at rule.line (rule_item_cause stores groups) (rule_items rule)
+    caused rule.line (broken_if again C15) ++ items_caused rule.line (rule_item_cause stores groups) (rule_items rule)
 
 -- the causes of statements of one kind, each of which is checked with the statements of its kind that precede it
 abbrev pub each_of : {X : Type 0} → (List X → X → List NameFault) → List X → List X → List NameFault

@@ -4,7 +4,7 @@ use Rattle.kmn_base.specs.declared.refusals.Refusal.{Refusal}
 use Rattle.rule_model.specs.declared.program.Program.{Program}
 use Rattle.store_table.specs.Names.{is_named}
 use Rattle.source_names.specs.declared.causes.Cause.{Cause}
-use Rattle.source_names.specs.declared.causes.Cause.TheVariants as cause
+use Rattle.source_names.specs.declared.causes.Cause.TheVariants as because
 use Rattle.source_names.specs.declared.causes.NameFault.{NameFault}
 use Rattle.source_names.specs.Causes.{name_causes, refusal_of}
 
@@ -19,11 +19,11 @@ in_lines (found ∷ faults) = inserted found (in_lines faults)
 
 -- the store, or the group, that a cause lacks
 abbrev pub store_lacked : Cause → List (List ℕ)
-store_lacked (cause.NoStore name) = name ∷ []
+store_lacked (because.NoStore name) = name ∷ []
 store_lacked other = []
 
 abbrev pub group_lacked : Cause → List (List ℕ)
-group_lacked (cause.NoGroup name) = name ∷ []
+group_lacked (because.NoGroup name) = name ∷ []
 group_lacked other = []
 
 -- the stores, and the groups, that causes lack
@@ -35,9 +35,9 @@ groups_lacked faults = flat_map (λ (fault : NameFault). group_lacked fault.caus
 
 -- whether the name that a cause lacks is among those that causes before it lack
 abbrev pub is_lacked : List NameFault → Cause → Bool
-is_lacked before (cause.NoStore name) = is_named (stores_lacked before) name
-is_lacked before (cause.NoGroup name) = is_named (groups_lacked before) name
-is_lacked before (cause.Broken code) = false
+is_lacked before (because.NoStore name) = is_named (stores_lacked before) name
+is_lacked before (because.NoGroup name) = is_named (groups_lacked before) name
+is_lacked before (because.Broken code) = false
 
 -- whether a cause is at a line
 abbrev pub is_at : ℕ → Option NameFault → Bool
@@ -59,11 +59,11 @@ unfoldable pub reported_causes : Program → List NameFault
 reported_causes program = new_after [] (in_lines (name_causes program))
 
 -- the names that causes lack
-abbrev pub name_lacked : NameFault → List (List ℕ)
-name_lacked fault = store_lacked fault.cause ++ group_lacked fault.cause
+abbrev pub name_lacked : Cause → List (List ℕ)
+name_lacked cause = store_lacked cause ++ group_lacked cause
 
 abbrev pub names_lacked : List NameFault → List (List ℕ)
-names_lacked faults = flat_map name_lacked faults
+names_lacked faults = flat_map (λ (fault : NameFault). name_lacked fault.cause) faults
 
 -- the refusal of the first cause
 abbrev pub first_refusal : List NameFault → Option Refusal

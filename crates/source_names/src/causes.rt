@@ -1,8 +1,8 @@
 //! Why names refuse a line.
 
-ghost use Rattle.std.specs.Prelude.{◌≡◌, map, IfOk};
+ghost use Rattle.std.specs.Prelude.{◌≡◌, ◌++◌, map, IfOk, OnOk};
 ghost use Rattle.source_names.specs.Causes.{code_of, refusal_of};
-ghost use Rattle.source_names.specs.Telling.{names_lacked};
+ghost use Rattle.source_names.specs.Telling.{name_lacked, names_lacked};
 
 use kmn_base::{Code, Memory, Refusal, Seq, Text};
 use std::alloc::Global;
@@ -53,11 +53,11 @@ impl Cause {
     fn copy(&self, alloc: Global) -> Result<Cause, Memory>
         ensures { IfOk result (λ copy. copy ≡ self.now) }
     {
-        Ok(match self {
-            Cause::NoStore(name) => Cause::NoStore(name.copy(alloc)?),
-            Cause::NoGroup(name) => Cause::NoGroup(name.copy(alloc)?),
-            Cause::Broken(code) => Cause::Broken(*code),
-        })
+        match self {
+            Cause::NoStore(name) => Ok(Cause::NoStore(name.copy(alloc)?)),
+            Cause::NoGroup(name) => Ok(Cause::NoGroup(name.copy(alloc)?)),
+            Cause::Broken(code) => Ok(Cause::Broken(*code)),
+        }
     }
 
     /// Returns the code of the cause.
@@ -89,11 +89,18 @@ pub fn names_lacked(alloc: Global, faults: &[NameFault]) -> Result<Seq<Text>, Me
 {
     let mut names = Seq::new(alloc);
     for fault in faults {
-        match &fault.cause {
-            Cause::NoStore(name) => names.add(name.copy(alloc)?)?,
-            Cause::NoGroup(name) => names.add(name.copy(alloc)?)?,
-            Cause::Broken(_) => {}
-        }
+        add_lacked(alloc, &mut names, &fault.cause)?;
     }
     Ok(names)
+}
+
+/// Appends the name that a cause lacks, if it lacks one.
+fn add_lacked(alloc: Global, names: &mut Seq<Text>, cause: &Cause) -> Result<(), Memory>
+    ensures { OnOk result (names.new ≡ names.old ++ name_lacked cause.now) }
+{
+    match cause {
+        Cause::NoStore(name) => names.add(name.copy(alloc)?),
+        Cause::NoGroup(name) => names.add(name.copy(alloc)?),
+        Cause::Broken(_) => Ok(()),
+    }
 }

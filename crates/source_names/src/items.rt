@@ -1,9 +1,8 @@
 //! The causes of items.
 
-ghost use Rattle.std.specs.Prelude.{◌≡◌, ◌++◌, [], ◌∷◌, option_to_list, IfOk, OnOk, MatchOption};
-ghost use Rattle.rule_model.specs.declared.program.SrcItem.TheVariants as source;
+ghost use Rattle.std.specs.Prelude.{◌≡◌, ◌++◌, Some, option_copied, option_to_list, slice_get, IfOk, OnOk};
 ghost use Rattle.store_table.specs.Names.{store_named, uses_later_store};
-ghost use Rattle.source_names.specs.Causes.{at, broken_if, items_at, no_group, no_start, no_store, rule_item_cause, store_item_cause};
+ghost use Rattle.source_names.specs.Causes.{broken_if, caused, group_cause, items_caused, no_group, no_store, rule_item_cause, store_item_cause};
 
 use crate::causes::{Cause, NameFault};
 use kmn_base::{Code, Memory, Text};
@@ -12,17 +11,16 @@ use std::alloc::Global;
 use store_table::NameTable;
 
 /// Appends a cause at a line, if there is one.
-pub fn add_cause(
-    causes: &mut Vec<NameFault>,
-    line: u32,
-    found: Option<Cause>,
-) -> Result<(), Memory>
-    ensures { OnOk result (causes.new.items ≡ causes.old.items ++ at line found) }
+pub fn add_cause(causes: &mut Vec<NameFault>, line: u32, found: Option<Cause>) -> Result<(), Memory>
+    ensures { OnOk result (causes.new.items ≡ causes.old.items ++ caused line found) }
 {
-    if let Some(cause) = found {
-        causes.push(NameFault { line, cause })?;
+    match found {
+        Some(cause) => {
+            causes.push(NameFault { line, cause })?;
+            Ok(())
+        }
+        None => Ok(()),
     }
-    Ok(())
 }
 
 /// Returns the cause of another rule, if it is broken.
@@ -45,7 +43,7 @@ pub fn add_store_items(
     line: u32,
     items: &[SrcItem],
 ) -> Result<(), Memory>
-    ensures { OnOk result (causes.new.items ≡ causes.old.items ++ items_at line (store_item_cause stores.now before.now) items.now) }
+    ensures { OnOk result (causes.new.items ≡ causes.old.items ++ items_caused line (store_item_cause stores.now before.now) items.now) }
 {
     for item in items {
         let found = store_item_cause(alloc, stores, before, item)?;
@@ -88,7 +86,7 @@ pub fn add_rule_items(
     line: u32,
     items: &[SrcItem],
 ) -> Result<(), Memory>
-    ensures { OnOk result (causes.new.items ≡ causes.old.items ++ items_at line (rule_item_cause stores.now groups.now) items.now) }
+    ensures { OnOk result (causes.new.items ≡ causes.old.items ++ items_caused line (rule_item_cause stores.now groups.now) items.now) }
 {
     for item in items {
         let found = rule_item_cause(alloc, stores, groups, item)?;
@@ -106,7 +104,7 @@ pub fn add_rule_key(
     line: u32,
     key: &Option<SrcItem>,
 ) -> Result<(), Memory>
-    ensures { OnOk result (causes.new.items ≡ causes.old.items ++ items_at line (rule_item_cause stores.now groups.now) (option_to_list key.now)) }
+    ensures { OnOk result (causes.new.items ≡ causes.old.items ++ items_caused line (rule_item_cause stores.now groups.now) (option_to_list key.now)) }
 {
     match key {
         Some(item) => {
@@ -147,7 +145,7 @@ fn no_store(alloc: Global, stores: &NameTable, item: &SrcItem) -> Result<Option<
 
 /// Returns the store that an item names.
 fn store_named(item: &SrcItem) -> Option<&Text>
-    ensures { MatchOption result (store_named item.now ≡ []) (λ name. store_named item.now ≡ name.now ∷ []) }
+    ensures { option_copied result ≡ slice_get (store_named item.now) 0 }
 {
     match item {
         SrcItem::Any(name) => Some(name),
@@ -179,14 +177,14 @@ pub fn no_start(
     groups: &NameTable,
     start: &BeginDef,
 ) -> Result<Option<Cause>, Memory>
-    ensures { IfOk result (λ found. found ≡ no_start groups.now start.now) }
+    ensures { IfOk result (λ found. found ≡ group_cause groups.now (Some start.now.group)) }
 {
     missing_group(alloc, groups, &start.group)
 }
 
 /// Returns the cause of a group name that is not among these.
 fn missing_group(alloc: Global, groups: &NameTable, name: &Text) -> Result<Option<Cause>, Memory>
-    ensures { IfOk result (λ found. found ≡ no_group groups.now (source.Enter name.now)) }
+    ensures { IfOk result (λ found. found ≡ group_cause groups.now (Some name.now)) }
 {
     if groups.has(name.as_slice()) {
         return Ok(None);

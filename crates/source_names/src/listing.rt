@@ -6,9 +6,7 @@ ghost use Rattle.store_table.specs.Names.{is_group_again, is_second, is_store_ag
 ghost use Rattle.source_names.specs.Causes.{begin_causes, begin_faults, causes_with, each_of, group_causes, group_faults, name_causes, rule_causes, rule_faults, rules_faults, store_causes, store_faults};
 
 use crate::causes::NameFault;
-use crate::items::{
-    add_cause, add_rule_items, add_rule_key, add_store_items, broken_if, no_start,
-};
+use crate::items::{add_cause, add_rule_items, add_rule_key, add_store_items, broken_if, no_start};
 use crate::stating::{add_store, group_names, store_names};
 use kmn_base::{Code, Memory};
 use rule_model::{BeginDef, GroupDef, Program, RuleDef, RuleKind, StoreDef};
@@ -38,7 +36,13 @@ fn causes_with(
     add_begins(alloc, &mut causes, groups, program.begins.as_slice())?;
     add_stores(alloc, &mut causes, stores, program.stores.as_slice())?;
     add_groups(alloc, &mut causes, program.groups.as_slice())?;
-    add_all_rules(alloc, &mut causes, stores, groups, program.groups.as_slice())?;
+    add_all_rules(
+        alloc,
+        &mut causes,
+        stores,
+        groups,
+        program.groups.as_slice(),
+    )?;
     Ok(causes)
 }
 
@@ -121,7 +125,14 @@ fn add_store_causes(
 {
     let again = is_store_again(before, store);
     add_cause(causes, store.line, broken_if(again, Code::C03))?;
-    add_store_items(alloc, causes, stores, before, store.line, store.items.as_slice())
+    add_store_items(
+        alloc,
+        causes,
+        stores,
+        before,
+        store.line,
+        store.items.as_slice(),
+    )
 }
 
 /// Returns whether the name of an ordinary store is among those before it.
@@ -133,11 +144,7 @@ fn is_store_again(before: &NameTable, store: &StoreDef) -> bool
 
 /// Appends the causes of group statements.
 #[tactic(auto, using(crate::proofs::Each::each_kept, store_table::proofs::Firsts::groups_step))]
-fn add_groups(
-    alloc: Global,
-    causes: &mut Vec<NameFault>,
-    groups: &[GroupDef],
-) -> Result<(), Memory>
+fn add_groups(alloc: Global, causes: &mut Vec<NameFault>, groups: &[GroupDef]) -> Result<(), Memory>
     ensures { OnOk result (causes.new.items ≡ causes.old.items ++ each_of group_faults [] groups.now) }
 {
     let mut before = NameTable::new(alloc);
@@ -197,7 +204,14 @@ fn add_rules(
     let mut matched = false;
     let mut unmatched = false;
     for rule in rules {
-        add_rule(alloc, causes, stores, groups, is_second(rule, matched, unmatched), rule)?;
+        add_rule(
+            alloc,
+            causes,
+            stores,
+            groups,
+            is_second(rule, matched, unmatched),
+            rule,
+        )?;
         matched = either(matched, is_match(rule));
         unmatched = either(unmatched, is_nomatch(rule));
     }
@@ -248,7 +262,21 @@ fn add_rule(
     ensures { OnOk result (causes.new.items ≡ causes.old.items ++ rule_causes stores.now groups.now again rule.now) }
 {
     add_cause(causes, rule.line, broken_if(again, Code::C15))?;
-    add_rule_items(alloc, causes, stores, groups, rule.line, rule.context.as_slice())?;
+    add_rule_items(
+        alloc,
+        causes,
+        stores,
+        groups,
+        rule.line,
+        rule.context.as_slice(),
+    )?;
     add_rule_key(alloc, causes, stores, groups, rule.line, &rule.key)?;
-    add_rule_items(alloc, causes, stores, groups, rule.line, rule.output.as_slice())
+    add_rule_items(
+        alloc,
+        causes,
+        stores,
+        groups,
+        rule.line,
+        rule.output.as_slice(),
+    )
 }

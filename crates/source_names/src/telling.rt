@@ -23,6 +23,7 @@ pub fn reported_causes(alloc: Global, program: &Program) -> Result<Seq<NameFault
 }
 
 /// Returns the causes that are reported, of causes in the order of their lines.
+#[tactic(auto, using(crate::proofs::Told::new_kept, crate::proofs::Told::new_passed, crate::proofs::Told::stores_push, crate::proofs::Told::groups_push))]
 fn new_faults(alloc: Global, causes: &[NameFault]) -> Result<Seq<NameFault>, Memory>
     ensures { IfOk result (λ faults. faults ≡ new_after [] causes.now) }
 {
