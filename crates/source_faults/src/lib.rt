@@ -1,13 +1,13 @@
 //! Finds all refusals of a source. Compilation reports only the first of them.
 //!
 //! Depends on the crates that read a source (`kmn_lines`, `kmn_tokens`, `kmn_items`, `kmn_parser`) and on those that check its
-//! program (`store_table`, `source_names`, `item_checker`, `rule_checker`). The layer above calls `faults`, which returns exactly the list that
-//! `specs/Faults` defines: the refusals pass by pass, and in each pass line by line. A line that a pass has refused is not refused
-//! again by a later pass, and it does not cause refusals of other lines: `specs/Reading` continues after a refused line,
+//! program (`store_table`, `source_names`, `item_checker`, `rule_checker`). The layer above calls `faults`, which returns exactly the
+//! list that `specs/Faults` defines: the refusals pass by pass, and in each pass line by line. A line that a pass has refused is not
+//! refused again by a later pass, and it does not cause refusals of other lines: `specs/Reading` continues after a refused line,
 //! `specs/Words` takes the words of a line that cannot be read for names that it defines, and `specs/Stubs` replaces a refused
 //! statement by what others need of it. A name that is not defined anywhere is reported once (`source_names`), and later passes see it
-//! as a store and a group. `laws` states that the first of all refusals is the one that compilation reports.
-//! `sort_by_line` returns refusals in the order of their lines.
+//! as a store and a group. `laws` states that the first of all refusals is the one that compilation reports. `sort_by_line` returns
+//! refusals in the order of their lines.
 #![tactic(auto)]
 
 mod found;

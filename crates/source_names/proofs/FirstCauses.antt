@@ -109,6 +109,7 @@ again_first true code = refl
 again_first false code = refl
 
 begin_first : (s : Stated) (before : List BeginDef) (start : BeginDef) → first_in (begin_faults s.groups before start) ≡ begin_refusal s before start
+unfolding begin_causes
 begin_first s before start =
     before_first start.line (broken_if (is_begun before start) C02) (caused start.line (group_cause s.groups (Some start.group))) (broken ((C06, not (is_named s.groups start.group)) ∷ []))
     (at_first start.line (group_cause s.groups (Some start.group)) ∙ ap (at_line start.line) (group_first s.groups (start.group ∷ [])))
@@ -121,6 +122,7 @@ begin_first s before start =
     by false = refl
 
 store_first : (s : Stated) (before : List StoreDef) (store : StoreDef) → first_in (store_faults s.stores before store) ≡ store_refusal s before store
+unfolding store_causes
 store_first s before store =
     before_first store.line (broken_if (is_store_again (store_names before) store) C03) (items_caused store.line (store_item_cause s.stores (store_names before)) store.items)
     (first_code (store_item_code s (store_names before)) store.items)
@@ -128,11 +130,13 @@ store_first s before store =
     ∙ ap (λ first. at_line store.line (option_or first (first_code (store_item_code s (store_names before)) store.items))) (again_first (is_store_again (store_names before) store) C03)
 
 group_statement_first : (before : List GroupDef) (group : GroupDef) → first_in (group_faults before group) ≡ group_refusal before group
+unfolding group_causes
 group_statement_first before group =
     at_first group.line (broken_if (is_group_again (group_names before) group) C04)
     ∙ ap (at_line group.line) (again_first (is_group_again (group_names before) group) C04)
 
 rule_first : (s : Stated) (before : List RuleDef) (rule : RuleDef) → first_in (rule_faults s.stores s.groups before rule) ≡ rule_refusal s before rule
+unfolding rule_causes
 rule_first s before rule =
     before_first rule.line (broken_if (is_again before rule) C15) (items_caused rule.line (rule_item_cause s.stores s.groups) (rule_items rule))
     (first_code (rule_item_code s) (rule_items rule))

@@ -64,17 +64,17 @@ items_caused line cause items = flat_map (λ (item : SrcItem). caused line (caus
 
 -- the causes of one statement, in the order in which they are checked. A begin may be the second of its kind, and a match or nomatch the
 -- second of its group
-abbrev pub begin_causes : List (List ℕ) → Bool → BeginDef → List NameFault
+unfoldable pub begin_causes : List (List ℕ) → Bool → BeginDef → List NameFault
 begin_causes groups again start = caused start.line (broken_if again C02) ++ caused start.line (group_cause groups (Some start.group))
 
-abbrev pub store_causes : List (List ℕ) → List (List ℕ) → StoreDef → List NameFault
+unfoldable pub store_causes : List (List ℕ) → List (List ℕ) → StoreDef → List NameFault
 store_causes stores before store =
     caused store.line (broken_if (is_store_again before store) C03) ++ items_caused store.line (store_item_cause stores before) store.items
 
-abbrev pub group_causes : List (List ℕ) → GroupDef → List NameFault
+unfoldable pub group_causes : List (List ℕ) → GroupDef → List NameFault
 group_causes before group = caused group.line (broken_if (is_group_again before group) C04)
 
-abbrev pub rule_causes : List (List ℕ) → List (List ℕ) → Bool → RuleDef → List NameFault
+unfoldable pub rule_causes : List (List ℕ) → List (List ℕ) → Bool → RuleDef → List NameFault
 rule_causes stores groups again rule =
     caused rule.line (broken_if again C15) ++ items_caused rule.line (rule_item_cause stores groups) (rule_items rule)
 

@@ -81,6 +81,7 @@ fn either(one: bool, other: bool) -> bool
 }
 
 /// Appends the causes of a begin statement, which may be the second of its kind.
+#[tactic(auto, unfolding(crate::specs::Causes::begin_causes))]
 fn add_begin(
     alloc: Global,
     causes: &mut Vec<NameFault>,
@@ -114,6 +115,7 @@ fn add_stores(
 }
 
 /// Appends the causes of a store statement, after stores with the names `before`.
+#[tactic(auto, unfolding(crate::specs::Causes::store_causes))]
 fn add_store_causes(
     alloc: Global,
     causes: &mut Vec<NameFault>,
@@ -156,6 +158,7 @@ fn add_groups(alloc: Global, causes: &mut Vec<NameFault>, groups: &[GroupDef]) -
 }
 
 /// Appends the cause of a group statement, after groups with the names `before`.
+#[tactic(auto, unfolding(crate::specs::Causes::group_causes))]
 fn add_group(
     causes: &mut Vec<NameFault>,
     before: &NameTable,
@@ -250,7 +253,7 @@ fn is_nomatch(rule: &RuleDef) -> bool
 }
 
 /// Appends the causes of a rule, match or nomatch statement, which may be the second of its kind in its group.
-#[tactic(auto, using(crate::proofs::Each::items_append))]
+#[tactic(auto, using(crate::proofs::Each::items_append), unfolding(crate::specs::Causes::rule_causes))]
 fn add_rule(
     alloc: Global,
     causes: &mut Vec<NameFault>,
