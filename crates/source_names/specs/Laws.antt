@@ -1,5 +1,5 @@
 -- The laws of the causes for which names refuse a program.
-use Rattle.std.specs.Prelude.{◌≡◌, Bool, false, List, [], ◌∷◌, ◌++◌, map}
+use Rattle.std.specs.Prelude.{◌≡◌, false, List, [], ◌∷◌, ◌++◌, map}
 use Rattle.rule_model.specs.declared.program.Program.{Program}
 use Rattle.store_table.specs.First.{first_among}
 use Rattle.store_table.specs.Names.{names_refusal}
