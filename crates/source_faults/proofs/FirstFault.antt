@@ -22,7 +22,7 @@ use Rattle.rule_checker.specs.AllLimits.{limits_refusals}
 use Rattle.rule_checker.specs.Refused.{refused, start_refusal}
 use Rattle.rule_checker.proofs.LimitsLeast.{limits_least}
 use Rattle.source_names.specs.declared.causes.NameFault.{NameFault}
-use Rattle.source_names.specs.Causes.{refusal_of}
+use Rattle.source_names.specs.Causes.{cause_refusal}
 use Rattle.source_names.specs.Telling.{first_refusal, names_lacked, reported_causes}
 use Rattle.source_names.proofs.Reported.{first_reported}
 use Rattle.source_faults.specs.declared.found.Found.{Found}
@@ -104,7 +104,7 @@ no_words program = refl
 
 -- the refusals for names, by the causes that are reported
 causes_first : (program : Program) → IsInOrder program → (causes : List NameFault) → first_refusal causes ≡ names_refusal program
-    → first_fault (map refusal_of causes ++ items_faults (map refusal_of causes) (is_empty (map refusal_of causes)) (stubbed (map refusal_of causes) (with_words program (names_lacked causes))))
+    → first_fault (map cause_refusal causes ++ items_faults (map cause_refusal causes) (is_empty (map cause_refusal causes)) (stubbed (map cause_refusal causes) (with_words program (names_lacked causes))))
     ≡ option_or (names_refusal program) (option_or (items_refusal program) (limits_refusal program))
 causes_first program order [] is =
     ap (λ whole. first_fault (items_faults [] true (stubbed [] whole))) (no_words program)
@@ -115,7 +115,7 @@ causes_first program order (cause ∷ causes) is = ap (λ first. option_or first
 
 names_first : (program : Program) → IsInOrder program → first_fault (names_faults [] true program) ≡ option_or (names_refusal program) (option_or (items_refusal program) (limits_refusal program))
 names_first program order =
-    ap (λ names. first_fault (names ++ items_faults names (is_empty names) (stubbed names (with_words program (names_lacked (reported_causes program)))))) (all_kept (map refusal_of (reported_causes program)))
+    ap (λ names. first_fault (names ++ items_faults names (is_empty names) (stubbed names (with_words program (names_lacked (reported_causes program)))))) (all_kept (map cause_refusal (reported_causes program)))
     ∙ causes_first program order (reported_causes program) (first_reported program)
 
 program_first : (program : Program) → IsInOrder program → first_fault (program_faults [] program) ≡ refused program

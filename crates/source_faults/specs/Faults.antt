@@ -6,7 +6,7 @@ use Rattle.kmn_base.specs.declared.limits.TheConstants.{TEXT_BYTES}
 use Rattle.kmn_base.specs.declared.refusals.Refusal.{Refusal}
 use Rattle.kmn_lines.specs.Tokens.{refusal}
 use Rattle.rule_model.specs.declared.program.Program.{Program}
-use Rattle.source_names.specs.Causes.{refusal_of}
+use Rattle.source_names.specs.Causes.{cause_refusal}
 use Rattle.source_names.specs.Telling.{names_lacked, reported_causes}
 use Rattle.item_checker.specs.Items.{items_refusals}
 use Rattle.rule_checker.specs.AllLimits.{limits_refusals}
@@ -46,7 +46,7 @@ items_faults refused shared program =
 abbrev pub names_faults : List Refusal → Bool → Program → List Refusal
 names_faults refused shared program =
     let causes = reported_causes program in
-    let names = further refused (map refusal_of causes) in
+    let names = further refused (map cause_refusal causes) in
     names ++ items_faults (refused ++ names) (shared && is_empty names) (stubbed (refused ++ names) (with_words program (names_lacked causes)))
 
 -- the refusals of a program, some of whose lines are refused already: for its start, names, items and limits

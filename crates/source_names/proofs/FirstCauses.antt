@@ -21,15 +21,15 @@ use Rattle.store_table.proofs.FirstAmong.{first_append}
 use Rattle.source_names.specs.declared.causes.Cause.{Cause}
 use Rattle.source_names.specs.declared.causes.Cause.TheVariants as because
 use Rattle.source_names.specs.declared.causes.NameFault.{NameFault}
-use Rattle.source_names.specs.Causes.{code_of, refusal_of, store_cause, group_cause, no_store, no_group, broken_if, store_item_cause, rule_item_cause, caused, items_caused, begin_causes, store_causes, group_causes, rule_causes, each_of, begin_faults, store_faults, group_faults, rule_faults, rules_faults, name_causes}
+use Rattle.source_names.specs.Causes.{code_of, cause_refusal, store_cause, group_cause, no_store, no_group, broken_if, store_item_cause, rule_item_cause, caused, items_caused, begin_causes, store_causes, group_causes, rule_causes, each_of, begin_faults, store_faults, group_faults, rule_faults, rules_faults, name_causes}
 use Rattle.source_names.specs.Laws.{FirstCausesAreRefusals}
 
 -- the first refusal of causes
 abbrev first_in : List NameFault → Option Refusal
-first_in causes = first_among (map refusal_of causes)
+first_in causes = first_among (map cause_refusal causes)
 
 in_both : (xs ys : List NameFault) → first_in (xs ++ ys) ≡ earlier (first_in xs) (first_in ys)
-in_both xs ys = ap first_among (map-append refusal_of xs ys) ∙ first_append (map refusal_of xs) (map refusal_of ys)
+in_both xs ys = ap first_among (map-append cause_refusal xs ys) ∙ first_append (map cause_refusal xs) (map cause_refusal ys)
 
 at_first : (line : ℕ) (found : Option Cause) → first_in (caused line found) ≡ at_line line (option_map code_of found)
 at_first line None = refl

@@ -7,23 +7,23 @@ use Rattle.store_table.specs.Names.{is_named}
 use Rattle.source_names.specs.declared.causes.Cause.{Cause}
 use Rattle.source_names.specs.declared.causes.Cause.TheVariants as because
 use Rattle.source_names.specs.declared.causes.NameFault.{NameFault}
-use Rattle.source_names.specs.Causes.{refusal_of, name_causes}
+use Rattle.source_names.specs.Causes.{cause_refusal, name_causes}
 use Rattle.source_names.specs.Telling.{inserted, in_lines, is_at, is_lacked, is_new, new_after, reported_causes, first_refusal}
 use Rattle.source_names.specs.Laws.{FirstIsReported, ToldOnce, AllNew}
 use Rattle.source_names.proofs.FirstCauses.{first_causes}
 
 -- the first in the order of lines is the first among refusals
-first_inserted : (found : NameFault) (faults : List NameFault) → first_refusal (inserted found faults) ≡ earlier (Some (refusal_of found)) (first_refusal faults)
+first_inserted : (found : NameFault) (faults : List NameFault) → first_refusal (inserted found faults) ≡ earlier (Some (cause_refusal found)) (first_refusal faults)
 first_inserted found [] = refl
 first_inserted found (next ∷ faults) = by (nat_lt next.line found.line)
   where
-    by : (t : Bool) → first_refusal (if t then next ∷ inserted found faults else found ∷ next ∷ faults) ≡ (if t then Some (refusal_of next) else Some (refusal_of found))
+    by : (t : Bool) → first_refusal (if t then next ∷ inserted found faults else found ∷ next ∷ faults) ≡ (if t then Some (cause_refusal next) else Some (cause_refusal found))
     by true = refl
     by false = refl
 
-first_in_lines : (faults : List NameFault) → first_refusal (in_lines faults) ≡ first_among (map refusal_of faults)
+first_in_lines : (faults : List NameFault) → first_refusal (in_lines faults) ≡ first_among (map cause_refusal faults)
 first_in_lines [] = refl
-first_in_lines (found ∷ faults) = first_inserted found (in_lines faults) ∙ ap (earlier (Some (refusal_of found))) (first_in_lines faults)
+first_in_lines (found ∷ faults) = first_inserted found (in_lines faults) ∙ ap (earlier (Some (cause_refusal found))) (first_in_lines faults)
 
 -- the first cause is always reported
 none_named : (name : List ℕ) → is_named [] name ≡ false

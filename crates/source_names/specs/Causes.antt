@@ -23,8 +23,8 @@ code_of (because.NoGroup name) = C06
 code_of (because.Broken code) = code
 
 -- the refusal of a line for a cause
-abbrev pub refusal_of : NameFault → Refusal
-refusal_of fault = record { line = fault.line; code = code_of fault.cause }
+abbrev pub cause_refusal : NameFault → Refusal
+cause_refusal fault = record { line = fault.line; code = code_of fault.cause }
 
 -- C05: a store that no statement defines
 abbrev pub store_cause : List (List ℕ) → Option (List ℕ) → Option Cause

@@ -4,12 +4,12 @@ use Rattle.rule_model.specs.declared.program.Program.{Program}
 use Rattle.store_table.specs.First.{first_among}
 use Rattle.store_table.specs.Names.{names_refusal}
 use Rattle.source_names.specs.declared.causes.NameFault.{NameFault}
-use Rattle.source_names.specs.Causes.{name_causes, refusal_of}
+use Rattle.source_names.specs.Causes.{name_causes, cause_refusal}
 use Rattle.source_names.specs.Telling.{is_lacked, reported_causes, first_refusal}
 
 -- the first of all causes is the first refusal for names: by line, and at a line in the order in which they are checked
 abbrev pub FirstCausesAreRefusals : Type 0
-FirstCausesAreRefusals = (program : Program) → first_among (map refusal_of (name_causes program)) ≡ names_refusal program
+FirstCausesAreRefusals = (program : Program) → first_among (map cause_refusal (name_causes program)) ≡ names_refusal program
 
 -- the first of the reported causes is the first refusal for names; there are none if there is no refusal
 abbrev pub FirstIsReported : Type 0

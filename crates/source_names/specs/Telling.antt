@@ -6,7 +6,7 @@ use Rattle.store_table.specs.Names.{is_named}
 use Rattle.source_names.specs.declared.causes.Cause.{Cause}
 use Rattle.source_names.specs.declared.causes.Cause.TheVariants as because
 use Rattle.source_names.specs.declared.causes.NameFault.{NameFault}
-use Rattle.source_names.specs.Causes.{name_causes, refusal_of}
+use Rattle.source_names.specs.Causes.{name_causes, cause_refusal}
 
 -- causes in the order of their lines; those at one line stay in their order
 abbrev pub inserted : NameFault → List NameFault → List NameFault
@@ -68,4 +68,4 @@ names_lacked faults = flat_map (λ (fault : NameFault). name_lacked fault.cause)
 -- the refusal of the first cause
 abbrev pub first_refusal : List NameFault → Option Refusal
 first_refusal [] = None
-first_refusal (fault ∷ faults) = Some (refusal_of fault)
+first_refusal (fault ∷ faults) = Some (cause_refusal fault)

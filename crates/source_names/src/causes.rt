@@ -1,7 +1,7 @@
 //! Why names refuse a line.
 
 ghost use Rattle.std.specs.Prelude.{◌≡◌, ◌++◌, map, IfOk, OnOk};
-ghost use Rattle.source_names.specs.Causes.{code_of, refusal_of};
+ghost use Rattle.source_names.specs.Causes.{code_of, cause_refusal};
 ghost use Rattle.source_names.specs.Telling.{name_lacked, names_lacked};
 
 use kmn_base::{Code, Memory, Refusal, Seq, Text};
@@ -39,7 +39,7 @@ impl NameFault {
 
     /// Returns the refusal of the line.
     fn refusal(&self) -> Refusal
-        ensures { result ≡ refusal_of self.now }
+        ensures { result ≡ cause_refusal self.now }
     {
         Refusal {
             line: self.line,
@@ -74,7 +74,7 @@ impl Cause {
 
 /// Returns the refusals of lines for causes. Errors: `Memory` if an allocation fails.
 pub fn refusals_of(alloc: Global, faults: &[NameFault]) -> Result<Seq<Refusal>, Memory>
-    ensures { IfOk result (λ refusals. refusals ≡ map refusal_of faults.now) }
+    ensures { IfOk result (λ refusals. refusals ≡ map cause_refusal faults.now) }
 {
     let mut refusals = Seq::new(alloc);
     for fault in faults {
