@@ -1,0 +1,17 @@
+pub mod Counts
+pub mod ReadOnce
+pub mod NamesOnce
+pub mod RefusedOnce
+pub mod NameLists
+pub mod CodesAt
+pub mod CausesLeft
+pub mod NamesLeft
+pub mod Reported
+pub mod OwnCodes
+pub mod ReadNames
+pub mod AllNamed
+pub mod ItemCodes
+pub mod FittingElements
+pub mod FittingCodes
+pub mod ItemsLeft
+pub mod NamesKept
