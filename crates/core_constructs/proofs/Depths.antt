@@ -1,15 +1,27 @@
--- What is found by a depth of groups, at depth 0 and at one more.
-use Rattle.std.proofs.Common.{◌≡◌, ℕ, ◌+◌, ◌≤◌, List, [], ◌∷◌, ◌++◌, length, map, take, drop, refl, sym, ap, ◌∙◌, add-one, arith}
-use Rattle.std.proofs.lemmas.List.{take_all, take-append-le}
-use Rattle.std.specs.List.{fold}
+-- What is found by a depth of groups: at depth 0, at one more, and at all depths from one on that adds nothing.
+use Rattle.std.proofs.Common.{◌≡◌, ℕ, zero, suc, ◌+◌, ◌-◌, ◌≤◌, List, [], ◌∷◌, length, map, refl, sym, ap, ◌∙◌, add-one, arith}
 use Rattle.std.specs.Prelude.{replicate}
 use Rattle.kmn_base.specs.Rising.{rising}
 use Rattle.rule_model.specs.declared.tables.Group.{Group}
 use Rattle.core_constructs.specs.Reached.{reached_within, with_entered}
 use Rattle.core_constructs.specs.Changes.{changes_within, group_changes}
-use Rattle.core_constructs.specs.Spent.{spent_within, after_groups, after_number}
+use Rattle.core_constructs.specs.Spent.{spent_within, after_groups}
 use Rattle.core_constructs.specs.Queued.{effects_within, chain_effects}
 use Rattle.core_constructs.specs.declared.facts.Facts.{Facts}
+
+-- what one more depth leaves as it is stands at each greater depth
+settled : {A : Type 0} (at : ℕ → A) (step : A → A) → ((n : ℕ) → at (n + 1) ≡ step (at n)) → (n : ℕ) → at n ≡ step (at n) → (more : ℕ) → at (n + more) ≡ at n
+settled at step steps n same zero = let here : n + 0 ≡ n = omega arith in ap at here
+settled at step steps n same (suc more) =
+    let next : n + suc more ≡ n + more + 1 = omega arith in
+    ap at next ∙ steps (n + more) ∙ ap step (settled at step steps n same more) ∙ sym same
+
+-- so a walk by depth that finds the same at one more depth has found what stands at the last one
+pub settled_at : {A : Type 0} (at : ℕ → A) (step : A → A) → ((n : ℕ) → at (n + 1) ≡ step (at n)) → (n last : ℕ) (found next : A) → n ≤ last
+    → found ≡ at n → next ≡ step found → found ≡ next → found ≡ at last
+settled_at at step steps n last found next within so_far is same =
+    let rest : n + (last - n) ≡ last = omega (arith, within) in
+    so_far ∙ sym (settled at step steps n (sym so_far ∙ same ∙ is ∙ ap step so_far) (last - n)) ∙ ap at rest
 
 pub reached_none : (groups : List Group) (start : ℕ) → reached_within 0 groups start ≡ rising (start ∷ [])
 unfolding reached_within
@@ -35,17 +47,6 @@ pub spent_more : (n : ℕ) (facts : Facts) (groups : List Group) → spent_withi
 unfolding spent_within
 spent_more n facts groups = ap (λ depth. spent_within depth facts groups) (add-one n)
 
--- one more depth, written back over the units of the depth before
-pub spent_step : (n size : ℕ) (facts : Facts) (groups : List Group) (spent new before : List ℕ) → size ≡ length spent → length new ≡ length spent
-    → spent ≡ spent_within n facts groups → before ≡ spent → new ≡ fold (after_number facts groups before) spent facts.reached
-    → take size (new ++ drop (length new) spent) ≡ spent_within (n + 1) facts groups
-spent_step n size facts groups spent new before is kept so_far copied raised =
-    let within : size ≤ length new = omega arith in
-    let whole : length new ≤ size = omega arith in
-    take-append-le size new (drop (length new) spent) within ∙ take_all size new whole ∙ raised
-    ∙ ap (λ from. fold (after_number facts groups from) spent facts.reached) copied
-    ∙ ap (λ from. after_groups facts groups from) so_far ∙ sym (spent_more n facts groups)
-
 pub effects_none : (groups : List Group) → effects_within 0 groups ≡ []
 unfolding effects_within
 effects_none groups = refl
@@ -53,3 +54,21 @@ effects_none groups = refl
 pub effects_more : (n : ℕ) (groups : List Group) → effects_within (n + 1) groups ≡ map (chain_effects (effects_within n groups)) groups
 unfolding effects_within
 effects_more n groups = ap (λ depth. effects_within depth groups) (add-one n)
+
+-- ---- a depth that adds nothing is the last one
+
+pub reached_settled : (n last : ℕ) (groups : List Group) (start : ℕ) (found next : List ℕ) → n ≤ last → found ≡ reached_within n groups start → next ≡ with_entered groups found → found ≡ next
+    → found ≡ reached_within last groups start
+reached_settled n last groups start = settled_at (λ depth. reached_within depth groups start) (with_entered groups) (λ m. reached_more m groups start) n last
+
+pub changes_settled : (n last : ℕ) (groups : List Group) (found next : List (List ℕ)) → n ≤ last → found ≡ changes_within n groups → next ≡ map (group_changes found) groups → found ≡ next
+    → found ≡ changes_within last groups
+changes_settled n last groups = settled_at (λ depth. changes_within depth groups) (λ used. map (group_changes used) groups) (λ m. changes_more m groups) n last
+
+pub spent_settled : (n last : ℕ) (facts : Facts) (groups : List Group) (found next : List ℕ) → n ≤ last → found ≡ spent_within n facts groups → next ≡ after_groups facts groups found → found ≡ next
+    → found ≡ spent_within last facts groups
+spent_settled n last facts groups = settled_at (λ depth. spent_within depth facts groups) (after_groups facts groups) (λ m. spent_more m facts groups) n last
+
+pub effects_settled : (n last : ℕ) (groups : List Group) (found next : List ℕ) → n ≤ last → found ≡ effects_within n groups → next ≡ map (chain_effects found) groups → found ≡ next
+    → found ≡ effects_within last groups
+effects_settled n last groups = settled_at (λ depth. effects_within depth groups) (λ used. map (chain_effects used) groups) (λ m. effects_more m groups) n last

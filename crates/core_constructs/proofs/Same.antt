@@ -1,5 +1,5 @@
 -- Outputs of different lengths are not the same.
-use Rattle.std.proofs.Common.{◌≡◌, ◌≢◌, ℕ, suc, Bool, true, false, ◌&&◌, List, [], ◌∷◌, length, refl, ap, ◌∙◌}
+use Rattle.std.proofs.Common.{◌≡◌, ◌≢◌, suc, Bool, true, false, ◌&&◌, List, [], ◌∷◌, length, refl, ap, ◌∙◌}
 use Rattle.rule_model.specs.declared.tables.Out.{Out}
 use Rattle.core_constructs.specs.Empty.{same_item, same_outputs}
 

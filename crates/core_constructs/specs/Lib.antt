@@ -2,6 +2,7 @@ pub mod Outputs
 pub mod Contexts
 pub mod Keys
 pub mod Marks
+pub mod Collected
 pub mod Reached
 pub mod Empty
 pub mod Facts

@@ -1,5 +1,5 @@
 -- The effects that an event can queue in Keyman's own engine, counted up to 1,025. Its queue has 1,024 places, and what comes after is lost.
-use Rattle.std.specs.Prelude.{ℕ, zero, suc, ◌+◌, Bool, nat_lt, min, max, List, [], ◌∷◌, flat_map, length, map, replicate, slice_get, sum_by, unwrap_or}
+use Rattle.std.specs.Prelude.{ℕ, zero, suc, ◌+◌, Bool, nat_lt, min, max, List, [], length, map, slice_get, sum_by, unwrap_or}
 use Rattle.std.specs.List.{fold}
 use Rattle.kmn_base.specs.declared.limits.TheConstants.{EVENT_ENTRIES}
 use Rattle.rule_model.specs.declared.tables.Out.{Out}
@@ -9,7 +9,6 @@ use Rattle.rule_model.specs.declared.tables.Group.{Group}
 use Rattle.rule_model.specs.declared.tables.Tables.{Tables}
 use Rattle.core_constructs.specs.Outputs.{live}
 use Rattle.core_constructs.specs.Marks.{group_items}
-use Rattle.core_constructs.specs.Reached.{entered}
 
 -- the sum of two counts, up to 1,025
 abbrev pub counted : ℕ → ℕ → ℕ

@@ -1,6 +1,6 @@
 -- The units that the window of Keyman's own engine can have lost when an event enters a group. The window does not grow back to the left
 -- in an event, so what a record deletes is missing, except for what outputs put since.
-use Rattle.std.specs.Prelude.{ℕ, zero, suc, ◌-◌, Bool, true, false, drop, if◌then◌else◌, max, List, [], ◌∷◌, flat_map, length, map, Option, Some, None, replicate, slice_get, slice_set, sum_by, unwrap_or}
+use Rattle.std.specs.Prelude.{ℕ, zero, suc, ◌-◌, Bool, true, false, drop, if◌then◌else◌, max, List, [], ◌∷◌, flat_map, length, Option, Some, None, replicate, slice_get, slice_set, sum_by, unwrap_or}
 use Rattle.std.specs.List.{fold}
 use Rattle.std.specs.Option.{option_map_or}
 use Rattle.kmn_base.specs.declared.limits.TheConstants.{EVENT_ENTRIES}

@@ -1,6 +1,7 @@
 //! The options that an event may set or reset once it enters a group.
 
 ghost use Rattle.std.specs.Prelude.{◌≡◌, ◌++◌, flat_map, map, IfOk, OnOk};
+ghost use Rattle.std.specs.Bool.{Decides};
 ghost use Rattle.std.specs.List.{fold, list_any};
 ghost use Rattle.std.specs.Ordering.{nat_cmp};
 ghost use Rattle.std.specs.BTreeSet.{insert_key};
@@ -8,22 +9,54 @@ ghost use Rattle.core_constructs.specs.Marks.{rule_items};
 ghost use Rattle.core_constructs.specs.Changes.{item_changes, group_changes, may_change, changes_option, is_saved_early, saves_early, saves_before};
 
 use crate::outputs::live;
+use crate::sets::same_numbers;
 use kmn_base::limits::EVENT_ENTRIES;
 use kmn_base::slices::behind;
 use kmn_base::{LineSet, Memory, Seq};
 use rule_model::{Group, Out, Rule, Tables};
 use std::alloc::Global;
 
-/// Returns the options that each group may change.
+/// Returns the options that each group may change. It stops at the first depth that adds none.
 #[tactic(auto, using(crate::proofs::Depths::changes_none, crate::proofs::Depths::changes_more))]
 pub(crate) fn may_change(alloc: Global, tables: &Tables) -> Result<Seq<LineSet>, Memory>
     ensures { IfOk result (λ changes. changes ≡ may_change tables.now) }
 {
+    let groups = tables.groups.as_slice();
     let mut changes = Seq::new(alloc);
     for _entry in 0..EVENT_ENTRIES {
-        changes = next_changes(alloc, changes.as_slice(), tables.groups.as_slice())?;
+        let next = next_changes(alloc, changes.as_slice(), groups)?;
+        let same = same_changes(alloc, changes.as_slice(), next.as_slice())?;
+        if same {
+            return Ok(changes);
+        }
+        changes = next;
     }
     Ok(changes)
+}
+
+/// Returns whether two lists of sets are the same.
+fn same_changes(alloc: Global, a: &[LineSet], b: &[LineSet]) -> Result<bool, Memory>
+    ensures { IfOk result (λ same. Decides same (a.now ≡ b.now)) }
+{
+    if a.len() != b.len() {
+        return Ok(false);
+    }
+    for i in 0..a.len() {
+        let same = same_set(alloc, &a[i], &b[i])?;
+        if !same {
+            return Ok(false);
+        }
+    }
+    Ok(true)
+}
+
+/// Returns whether two sets are the same.
+fn same_set(alloc: Global, a: &LineSet, b: &LineSet) -> Result<bool, Memory>
+    ensures { IfOk result (λ same. Decides same (a.now ≡ b.now)) }
+{
+    let numbers = a.listed(alloc)?;
+    let others = b.listed(alloc)?;
+    Ok(same_numbers(numbers.as_slice(), others.as_slice()))
 }
 
 /// Returns the options that each group may change, given those that the groups it uses may change.

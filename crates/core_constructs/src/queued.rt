@@ -1,7 +1,9 @@
 //! The effects that an event can queue in Keyman's own engine.
 
 ghost use Rattle.std.specs.Prelude.{◌≡◌, flat_map, map, max, slice_get, unwrap_or, IfOk};
+ghost use Rattle.std.specs.Bool.{Decides};
 ghost use Rattle.std.specs.List.{fold};
+ghost use Rattle.kmn_base.specs.declared.limits.TheConstants.{EVENT_ENTRIES};
 ghost use Rattle.core_constructs.specs.Marks.{rule_items, group_items};
 ghost use Rattle.core_constructs.specs.Queued.{counted, item_effects, with_effects, rule_effects, group_effects, entered_effects, chain_effects, effects_within, overflows};
 
@@ -17,15 +19,34 @@ const MOST_EFFECTS: usize = 1_025;
 const DELETED_ITEMS: usize = 22;
 
 /// Returns whether an event can queue more than 1,024 effects in a chain of groups.
-#[tactic(auto, using(crate::proofs::Depths::effects_none, crate::proofs::Depths::effects_more))]
 pub(crate) fn overflows(alloc: Global, tables: &Tables) -> Result<bool, Memory>
     ensures { IfOk result (λ is. is ≡ overflows tables.now) }
 {
+    let effects = effects_of(alloc, tables.groups.as_slice())?;
+    Ok(MOST_EFFECTS - 1 < effects_at(effects.as_slice(), tables.start_unicode))
+}
+
+/// Returns the most effects of a chain of groups from each group on. It stops at the first depth that changes none.
+#[tactic(auto, using(crate::proofs::Depths::effects_none, crate::proofs::Depths::effects_more))]
+fn effects_of(alloc: Global, groups: &[Group]) -> Result<Seq<usize>, Memory>
+    ensures { IfOk result (λ effects. effects ≡ effects_within EVENT_ENTRIES groups.now) }
+{
     let mut effects = Seq::new(alloc);
     for _entry in 0..EVENT_ENTRIES {
-        effects = next_effects(alloc, effects.as_slice(), tables.groups.as_slice())?;
+        let next = next_effects(alloc, effects.as_slice(), groups)?;
+        if same_counts(effects.as_slice(), next.as_slice()) {
+            return Ok(effects);
+        }
+        effects = next;
     }
-    Ok(MOST_EFFECTS - 1 < effects_at(effects.as_slice(), tables.start_unicode))
+    Ok(effects)
+}
+
+/// Returns whether two lists of counts are the same.
+fn same_counts(a: &[usize], b: &[usize]) -> bool
+    ensures { Decides result (a.now ≡ b.now) }
+{
+    a == b
 }
 
 /// Returns the effects of the chains of groups from each group on, given those from the groups that it uses on.

@@ -5,34 +5,33 @@ ghost use Rattle.std.specs.List.{fold};
 ghost use Rattle.std.specs.Ordering.{nat_cmp};
 ghost use Rattle.std.specs.BTreeSet.{insert_key};
 ghost use Rattle.core_constructs.specs.Outputs.{live};
-ghost use Rattle.core_constructs.specs.Reached.{entered, rule_entered, group_entered, entered_from, with_entered, reached_groups};
+ghost use Rattle.core_constructs.specs.Reached.{entered, rule_entered, group_entered, entered_from, reached_groups};
 
 use crate::outputs::{ends, live};
-use crate::sets::add_some;
+use crate::sets::{add_some, same_numbers};
 use kmn_base::limits::EVENT_ENTRIES;
 use kmn_base::{LineSet, Memory, Seq};
 use rule_model::{Group, Out, Rule, Tables};
 use std::alloc::Global;
 
-/// Returns the groups that an event can enter, in rising order.
+/// Returns the groups that an event can enter, in rising order. It stops at the first depth that adds no group.
 #[tactic(auto, using(crate::proofs::Depths::reached_none, crate::proofs::Depths::reached_more))]
 pub(crate) fn reached_groups(alloc: Global, tables: &Tables) -> Result<Seq<u32>, Memory>
     ensures { IfOk result (λ reached. reached ≡ reached_groups tables.now) }
 {
+    let groups = tables.groups.as_slice();
     let mut reached = LineSet::new(alloc);
     reached.add(tables.start_unicode)?;
+    let mut numbers = reached.listed(alloc)?;
     for _entry in 0..EVENT_ENTRIES {
-        add_entered(alloc, &mut reached, tables.groups.as_slice())?;
+        add_entered_from(&mut reached, groups, numbers.as_slice())?;
+        let next = reached.listed(alloc)?;
+        if same_numbers(numbers.as_slice(), next.as_slice()) {
+            return Ok(numbers);
+        }
+        numbers = next;
     }
-    reached.listed(alloc)
-}
-
-/// Adds the groups that a `use` of one of these groups enters.
-fn add_entered(alloc: Global, reached: &mut LineSet, groups: &[Group]) -> Result<(), Memory>
-    ensures { OnOk result (reached.new ≡ with_entered groups.now reached.old) }
-{
-    let numbers = reached.listed(alloc)?;
-    add_entered_from(reached, groups, numbers.as_slice())
+    Ok(numbers)
 }
 
 /// Adds the groups that a `use` of the groups of these numbers enters.

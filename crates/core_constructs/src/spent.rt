@@ -8,6 +8,7 @@ ghost use Rattle.core_constructs.specs.Spent.{least_width, put_units, spent_afte
 
 use crate::facts::Facts;
 use crate::outputs::{ends, is_use, live};
+use crate::sets::same_numbers;
 use crate::widths::{MARK_UNITS, char_units, with_context};
 use kmn_base::limits::EVENT_ENTRIES;
 use kmn_base::slices::behind;
@@ -15,17 +16,34 @@ use kmn_base::{Memory, Seq};
 use rule_model::{Group, Out, Pat, Rule};
 use std::alloc::Global;
 
-/// Returns the units that can be spent when an event enters each group.
-#[tactic(auto, using(crate::proofs::Depths::spent_none, crate::proofs::Depths::spent_step))]
+/// Returns the units that can be spent when an event enters each group. It stops at the first depth that raises none.
+#[tactic(auto, using(crate::proofs::Depths::spent_none, crate::proofs::Depths::spent_more))]
 pub(crate) fn spent_in(alloc: Global, facts: &Facts, groups: &[Group]) -> Result<Seq<u32>, Memory>
     ensures { IfOk result (λ spent. spent ≡ spent_in facts.now groups.now) }
 {
-    let mut spent = vec![in alloc; 0; groups.len()]?;
+    let mut spent = Seq::from_vec(vec![in alloc; 0; groups.len()]?);
     for _entry in 0..EVENT_ENTRIES {
-        let before = Vec::from_slice(alloc, spent.as_slice())?;
-        raise_groups(facts, groups, before.as_slice(), spent.as_mut_slice());
+        let next = next_spent(alloc, facts, groups, spent.as_slice())?;
+        if same_numbers(spent.as_slice(), next.as_slice()) {
+            return Ok(spent);
+        }
+        spent = next;
     }
-    Ok(Seq::from_vec(spent))
+    Ok(spent)
+}
+
+/// Returns the units of each group, given those at a depth less.
+fn next_spent(
+    alloc: Global,
+    facts: &Facts,
+    groups: &[Group],
+    before: &[u32],
+) -> Result<Seq<u32>, Memory>
+    ensures { IfOk result (λ next. next ≡ after_groups facts.now groups.now before.now) }
+{
+    let mut next = Seq::from_slice(alloc, before)?;
+    raise_groups(facts, groups, before, next.as_mut_slice());
+    Ok(next)
 }
 
 /// Raises the units of each group that a group which an event can enter uses.

@@ -3,4 +3,7 @@ use Rattle.core_constructs.specs.Reached.{reached_within}
 use Rattle.core_constructs.proofs.reached.reached_groups.Given as goal
 
 abbrev pub invariant-loop-entry : goal.invariant-loop-entry
-invariant-loop-entry l = l.reached ≡ reached_within l._entry l.tables.groups l.tables.start_unicode
+invariant-loop-entry l = record {
+  reached : l.reached ≡ l.numbers;
+  numbers : l.numbers ≡ reached_within l._entry l.tables.groups l.tables.start_unicode;
+}
