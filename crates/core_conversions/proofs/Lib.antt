@@ -1,5 +1,6 @@
 pub mod AllConverted
 pub mod EmptyAsNomatch
 pub mod NulFirst
+pub mod NulMoved
 pub mod PlainSides
 pub mod SameTraces

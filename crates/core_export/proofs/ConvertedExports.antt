@@ -1,5 +1,5 @@
 -- The export of the converted file, and what each exported file has.
-use Rattle.std.proofs.Common.{◌≡◌, ◌≢◌, ℕ, zero, suc, ◌+◌, Bool, true, false, List, length, Option, Some, None, Result, Ok, Err, nat_eq, refl, sym, ap, subst, ◌∙◌, inl, inr, if◌then◌else◌}
+use Rattle.std.proofs.Common.{◌≡◌, ◌≢◌, ℕ, zero, suc, ◌+◌, Bool, true, false, List, length, Option, Some, None, Result, Ok, Err, nat_eq, refl, sym, ap, subst, ◌∙◌, if◌then◌else◌}
 use Rattle.std.specs.Prelude.{unwrap_or}
 use Rattle.std.proofs.lemmas.Bool.{false≢true}
 use Rattle.std.proofs.lemmas.Option.{none-some}
@@ -11,15 +11,21 @@ use Rattle.kmx_format.specs.declared.places.TheConstants.{GROUPS_AT}
 use Rattle.kmx_format.specs.TablesOf.{word_at, tables_of}
 use Rattle.kmx_view.specs.View.{group_count}
 use Rattle.kmx_verifier.specs.declared.faults.Fault.{Fault}
-use Rattle.kmx_verifier.specs.FaultOf.{fault_of}
-use Rattle.core_conversions.specs.Conversions.{plain_flags, plain_sides}
+use Rattle.kmx_verifier.specs.FaultOf.{fault_of, IsValid}
+use Rattle.core_conversions.specs.Conversions.{plain_flags}
+use Rattle.core_conversions.specs.Laws.{KeepsTraces}
+use Rattle.core_conversions.proofs.NulFirst.{nul_first_keeps_traces}
 use Rattle.core_conversions.proofs.PlainSides.{plain_sides_keep_traces}
-use Rattle.core_export.specs.Converted.{plain_record, plain_records, plain_group, plain_groups, converted_bytes}
+use Rattle.core_export.specs.Conversions.{converted_bytes, converted_tables}
+use Rattle.core_export.specs.Converted.{plain_record, plain_records, plain_group, plain_groups, plain_bytes}
+use Rattle.core_export.specs.declared.conversions.Conversion.{Conversion}
+use Rattle.core_export.specs.declared.conversions.Conversion.TheVariants as conversion
 use Rattle.core_export.specs.declared.errors.ExportError.{ExportError}
 use Rattle.core_export.specs.declared.errors.ExportError.TheVariants as error
-use Rattle.core_export.specs.Export.{exported, SaysTheSame, ExportsUnconverted, IsConvertedExport, HasNoExport, FindsConverted, Exports}
+use Rattle.core_export.specs.Export.{exported, SaysTheSame, ExportsUnconverted, IsConvertedExport, HasNoExport, FindsConverted, HasExport, IsAfter, Converted, Unconverted, Unchanged, Exports}
 use Rattle.core_export.specs.ExportLaws.{ExportsAreSafe, ExportsPlayAlike, ExportsKeepSize}
 use Rattle.core_export.proofs.Named.{exporting_keeps_meaning}
+use Rattle.core_export.proofs.NulWords.{nul_first_size}
 use Rattle.core_export.proofs.Replaced.{length-with_word}
 
 same_number : (a b : ℕ) → Some a ≡ Some b → a ≡ b
@@ -39,49 +45,88 @@ not_both bytes out error.Memory other h why = other refl
 
 -- ---- why a converted file has no export
 
-pub none_valid : (bytes converted : List ℕ) (fault : Fault) → fault_of converted ≡ Some fault → HasNoExport bytes converted
-none_valid bytes converted fault faulty = record { none = λ out h. none-some fault (sym h.valid ∙ faulty) }
+pub none_valid : (how : Conversion) (bytes converted : List ℕ) (fault : Fault) → fault_of converted ≡ Some fault → HasNoExport how bytes converted
+none_valid how bytes converted fault faulty = record { none = λ out h. none-some fault (sym h.valid ∙ faulty) }
 
-pub none_same : (bytes converted opened : List ℕ) → opened ≡ converted → (tables_of opened ≡ plain_sides (tables_of bytes) → ⊥) → HasNoExport bytes converted
-none_same bytes converted opened is other = record { none = λ out h. other (ap tables_of is ∙ h.tables) }
+pub none_same : (how : Conversion) (bytes converted opened : List ℕ) → opened ≡ converted → (tables_of opened ≡ converted_tables how (tables_of bytes) → ⊥) → HasNoExport how bytes converted
+none_same how bytes converted opened is other = record { none = λ out h. other (ap tables_of is ∙ h.tables) }
 
-pub none_exported : (bytes converted opened : List ℕ) (why : ExportError) → opened ≡ converted → why ≢ error.Memory → ExportsUnconverted opened (Err why) → HasNoExport bytes converted
-none_exported bytes converted opened why is other refused =
+pub none_exported : (how : Conversion) (bytes converted opened : List ℕ) (why : ExportError) → opened ≡ converted → why ≢ error.Memory → ExportsUnconverted opened (Err why) → HasNoExport how bytes converted
+none_exported how bytes converted opened why is other refused =
     record { none = λ out h. not_both converted out why other h.exported (subst (λ (xs : List ℕ). ExportsUnconverted xs (Err why)) is refused) }
 
 -- a converted file that has an export
-pub found : (bytes converted opened out : List ℕ) → fault_of converted ≡ None → opened ≡ converted → tables_of opened ≡ plain_sides (tables_of bytes) → ExportsUnconverted opened (Ok out) → IsConvertedExport bytes converted out
-found bytes converted opened out valid is tables exports =
+pub found : (how : Conversion) (bytes converted opened out : List ℕ) → fault_of converted ≡ None → opened ≡ converted → tables_of opened ≡ converted_tables how (tables_of bytes) → ExportsUnconverted opened (Ok out)
+    → IsConvertedExport how bytes converted out
+found how bytes converted opened out valid is tables exports =
     record {
       valid = valid;
       tables = ap tables_of (sym is) ∙ tables;
       exported = subst (λ (xs : List ℕ). ExportsUnconverted xs (Ok out)) is exports;
     }
 
--- what is found for bytes is found for equal bytes
-pub found_same : (bytes converted other : List ℕ) (found : Option (List ℕ)) → converted ≡ other → FindsConverted bytes converted found → FindsConverted bytes other found
-found_same bytes converted other found is = subst (λ (xs : List ℕ). FindsConverted bytes xs found) is
+-- what is found for a file is found for the bytes that it was opened from
+pub found_opened : (how : Conversion) (bytes opened converted : List ℕ) (found : Option (List ℕ)) → opened ≡ bytes → FindsConverted how opened converted found → FindsConverted how bytes converted found
+found_opened how bytes opened converted found is = subst (λ (xs : List ℕ). FindsConverted how xs converted found) is
 
--- the result of the exporter, by what it found
-pub exports_found : (bytes own out : List ℕ) → ExportsUnconverted bytes (Ok own) → IsConvertedExport bytes (converted_bytes bytes) out → Exports bytes (Ok out)
-exports_found bytes own out h converted = ((own, h), inl converted)
+-- a valid file has no fault
+pub none_invalid : (how : Conversion) (bytes converted : List ℕ) (fault : Fault) → IsValid bytes → fault_of bytes ≡ Some fault → HasNoExport how bytes converted
+none_invalid how bytes converted fault valid faulty = absurd (none-some fault (sym valid ∙ faulty))
 
-pub exports_own : (bytes own : List ℕ) → ExportsUnconverted bytes (Ok own) → HasNoExport bytes (converted_bytes bytes) → Exports bytes (Ok own)
-exports_own bytes own h none = ((own, h), inr (none, h))
+-- ---- one conversion
+
+pub own_export : (bytes opened out : List ℕ) → opened ≡ bytes → IsValid bytes → ExportsUnconverted bytes (Ok out) → HasExport opened out
+own_export bytes opened out is valid exports =
+    subst (λ (xs : List ℕ). HasExport xs out) (sym is) (record { valid = valid; exported = exports })
+
+pub after_converted : (how : Conversion) (bytes after out : List ℕ) → after ≡ converted_bytes how bytes → IsConvertedExport how bytes after out → IsAfter how bytes after
+after_converted how bytes after out is converted = Converted out converted is
+
+pub exports_converted : (how : Conversion) (bytes after out : List ℕ) → IsConvertedExport how bytes after out → HasExport after out
+exports_converted how bytes after out converted = record { valid = converted.valid; exported = converted.exported }
+
+pub after_unconverted : (how : Conversion) (bytes converted : List ℕ) → converted ≡ converted_bytes how bytes → HasNoExport how bytes converted → IsAfter how bytes bytes
+after_unconverted how bytes converted is none = Unconverted (subst (HasNoExport how bytes) is none) refl
+
+pub after_unchanged : (how : Conversion) (bytes converted : List ℕ) → converted ≡ converted_bytes how bytes → converted ≡ bytes → IsAfter how bytes bytes
+after_unchanged how bytes converted is same = Unchanged (sym is ∙ same) refl
+
+-- ---- the result of the exporter
+
+pub exports_after : (bytes own own_out first second out : List ℕ) → own ≡ bytes → HasExport own own_out → IsAfter conversion.NulFirst own first → IsAfter conversion.PlainSides first second
+    → HasExport second out → Exports bytes (Ok out)
+exports_after bytes own own_out first second out is exports nul sides last =
+    ((own_out, subst (λ (xs : List ℕ). ExportsUnconverted xs (Ok own_out)) is exports.exported),
+    record {
+      first = first;
+      second = second;
+      nul = subst (λ (xs : List ℕ). IsAfter conversion.NulFirst xs first) is nul;
+      sides = sides;
+      exported = last.exported;
+    })
 
 -- ---- laws
 
 pub exports_are_safe : ExportsAreSafe
-exports_are_safe bytes out exports = elim (exports.1) [ inl converted ↦ converted.exported.2 | inr own ↦ own.1.2 ]
+exports_are_safe bytes out exports = exports.1.exported.2
+
+conversion_keeps_traces : (how : Conversion) → KeepsTraces (converted_tables how)
+conversion_keeps_traces conversion.NulFirst = nul_first_keeps_traces
+conversion_keeps_traces conversion.PlainSides = plain_sides_keep_traces
+
+-- a file and the file after a conversion take the same steps
+after_alike : (how : Conversion) (bytes after : List ℕ) (events : List Event) → IsAfter how bytes after → trace (tab (tables_of after)) events ≡ trace (tab (tables_of bytes)) events
+after_alike how bytes after events (Converted out converted is) =
+    ap (λ (tables : Tables). trace (tab tables) events) converted.tables ∙ conversion_keeps_traces how (tables_of bytes) events
+after_alike how bytes after events (Unconverted none is) = ap (λ (xs : List ℕ). trace (tab (tables_of xs)) events) is
+after_alike how bytes after events (Unchanged same is) = ap (λ (xs : List ℕ). trace (tab (tables_of xs)) events) is
 
 pub exports_play_alike : ExportsPlayAlike
-exports_play_alike bytes out exports events = elim (exports.1) [
-  | inl converted ↦
-      exporting_keeps_meaning (converted_bytes bytes) out converted.exported.1.4.same events
-      ∙ ap (λ (tables : Tables). trace (tab tables) events) converted.tables
-      ∙ plain_sides_keep_traces (tables_of bytes) events
-  | inr own ↦ exporting_keeps_meaning bytes out own.1.1.4.same events
-]
+exports_play_alike bytes out exports events =
+    let done = exports.1 in
+    exporting_keeps_meaning done.second out done.exported.1.4.same events
+    ∙ after_alike conversion.PlainSides done.first done.second events done.sides
+    ∙ after_alike conversion.NulFirst bytes done.first events done.nul
 
 -- ---- the number of bytes
 
@@ -102,12 +147,20 @@ module _ (bytes : List ℕ) where
   groups_size place zero out = refl
   groups_size place (suc count) out = groups_size (place + 24) count (plain_group bytes place out) ∙ group_size place out
 
-converted_size : (bytes : List ℕ) → length (converted_bytes bytes) ≡ length bytes
-unfolding converted_bytes
-converted_size bytes = groups_size bytes (word_at bytes GROUPS_AT) (group_count bytes) bytes
+plain_size : (bytes : List ℕ) → length (plain_bytes bytes) ≡ length bytes
+unfolding plain_bytes
+plain_size bytes = groups_size bytes (word_at bytes GROUPS_AT) (group_count bytes) bytes
+
+converted_size : (how : Conversion) (bytes : List ℕ) → length (converted_bytes how bytes) ≡ length bytes
+converted_size conversion.NulFirst bytes = nul_first_size bytes
+converted_size conversion.PlainSides bytes = plain_size bytes
+
+after_size : (how : Conversion) (bytes after : List ℕ) → IsAfter how bytes after → length after ≡ length bytes
+after_size how bytes after (Converted out converted is) = ap length is ∙ converted_size how bytes
+after_size how bytes after (Unconverted none is) = ap length is
+after_size how bytes after (Unchanged same is) = ap length is
 
 pub exports_keep_size : ExportsKeepSize
-exports_keep_size bytes out exports = elim (exports.1) [
-  | inl converted ↦ converted.exported.1.3.size ∙ converted_size bytes
-  | inr own ↦ own.1.1.3.size
-]
+exports_keep_size bytes out exports =
+    let done = exports.1 in
+    done.exported.1.3.size ∙ after_size conversion.PlainSides done.first done.second done.sides ∙ after_size conversion.NulFirst bytes done.first done.nul

@@ -28,5 +28,5 @@ plain_groups bytes place zero out = out
 plain_groups bytes place (suc count) out = plain_groups bytes (place + GROUP_BYTES) count (plain_group bytes place out)
 
 -- the file with plain flags
-unfoldable pub converted_bytes : List ℕ → List ℕ
-converted_bytes bytes = plain_groups bytes (word_at bytes GROUPS_AT) (group_count bytes) bytes
+unfoldable pub plain_bytes : List ℕ → List ℕ
+plain_bytes bytes = plain_groups bytes (word_at bytes GROUPS_AT) (group_count bytes) bytes

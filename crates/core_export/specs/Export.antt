@@ -1,5 +1,5 @@
 -- The file that Keyman's own engine plays, and its properties.
-use Rattle.std.specs.Prelude.{◌≡◌, ℕ, zero, suc, ◌+◌, ◌*◌, ◌<◌, ◌≤◌, ◌⊎◌, min, true, false, nat_eq, if◌then◌else◌, List, length, slice_get, Option, Some, None, Result, Ok, Err}
+use Rattle.std.specs.Prelude.{◌≡◌, ℕ, zero, suc, ◌+◌, ◌*◌, ◌<◌, ◌≤◌, min, true, false, nat_eq, if◌then◌else◌, List, length, slice_get, Option, Some, None, Result, Ok, Err}
 use Rattle.std.specs.Option.{option_or}
 use Rattle.rule_model.specs.declared.tables.Tables.{Tables}
 use Rattle.kmx_format.specs.declared.places.TheConstants.{CHECKSUM_AT, GROUPS_AT, RULE_CONTEXT_AT, RULE_OUTPUT_AT, STORES_AT, VERSION_AT}
@@ -7,12 +7,13 @@ use Rattle.kmx_format.specs.declared.sizes.TheConstants.{STORE_BYTES, GROUP_BYTE
 use Rattle.kmx_format.specs.TablesOf.{word_at, string_at, tables_of}
 use Rattle.kmx_view.specs.View.{store_count, group_count}
 use Rattle.kmx_verifier.specs.FaultOf.{IsValid}
-use Rattle.core_conversions.specs.Conversions.{plain_sides}
-use Rattle.core_export.specs.Converted.{converted_bytes}
+use Rattle.core_export.specs.Conversions.{converted_bytes, converted_tables}
 use Rattle.core_export.specs.Saves.{saving_line}
 use Rattle.core_export.specs.Checksum.{checksum}
 use Rattle.core_export.specs.Readable.{are_contents_pointed, are_groups_pointed, has_misread, has_nameless, is_overfull, misread_line, AreSafe, IsReadable}
 use Rattle.core_export.specs.Words.{with_word}
+use Rattle.core_export.specs.declared.conversions.Conversion.{Conversion}
+use Rattle.core_export.specs.declared.conversions.Conversion.TheVariants as conversion
 use Rattle.core_export.specs.declared.errors.ExportError.{ExportError}
 use Rattle.core_export.specs.declared.errors.ExportError.TheVariants.{SavesTwice, Nameless, Unreadable, Overfull, NoZeroUnit, Overlapping, Memory}
 
@@ -201,26 +202,43 @@ ExportsUnconverted bytes (Ok out) = IsSafe bytes × Replaces bytes (Ok out) × I
 ExportsUnconverted bytes (Err error) = IsExportError bytes error
 
 -- `out` is the export of a converted file, which is valid and has the converted tables
-pub record IsConvertedExport (bytes converted out : List ℕ) : Type 0 where
+pub record IsConvertedExport (how : Conversion) (bytes converted out : List ℕ) : Type 0 where
   pub valid : IsValid converted
-  pub tables : tables_of converted ≡ plain_sides (tables_of bytes)
+  pub tables : tables_of converted ≡ converted_tables how (tables_of bytes)
   pub exported : ExportsUnconverted converted (Ok out)
 
 -- a converted file has no export
-pub record HasNoExport (bytes converted : List ℕ) : Type 0 where
-  pub none : (out : List ℕ) → IsConvertedExport bytes converted out → ⊥
+pub record HasNoExport (how : Conversion) (bytes converted : List ℕ) : Type 0 where
+  pub none : (out : List ℕ) → IsConvertedExport how bytes converted out → ⊥
 
 -- the export of a converted file, or None if there is none
-abbrev pub FindsConverted : List ℕ → List ℕ → Option (List ℕ) → Type 0
-FindsConverted bytes converted (Some out) = IsConvertedExport bytes converted out
-FindsConverted bytes converted None = HasNoExport bytes converted
+abbrev pub FindsConverted : Conversion → List ℕ → List ℕ → Option (List ℕ) → Type 0
+FindsConverted how bytes converted (Some out) = IsConvertedExport how bytes converted out
+FindsConverted how bytes converted None = HasNoExport how bytes converted
 
--- the result of the exporter: the export of the converted file, or that of the file itself if there is no such export. If the file
--- itself isn't exported, this is the error
+-- the file after a conversion: the converted file if it has an export, otherwise the file itself. If the conversion changes no byte,
+-- both are the same
+pub data IsAfter (how : Conversion) (bytes after : List ℕ) : Type 0 where
+  Converted : (out : List ℕ) → IsConvertedExport how bytes after out → after ≡ converted_bytes how bytes → IsAfter how bytes after
+  Unconverted : HasNoExport how bytes (converted_bytes how bytes) → after ≡ bytes → IsAfter how bytes after
+  Unchanged : converted_bytes how bytes ≡ bytes → after ≡ bytes → IsAfter how bytes after
+
+-- a file and its export
+pub record HasExport (bytes out : List ℕ) : Type 0 where
+  pub valid : IsValid bytes
+  pub exported : ExportsUnconverted bytes (Ok out)
+
+-- the export of a file after both conversions, the first of them that of `nul`
+pub record IsConverted (bytes out : List ℕ) : Type 0 where
+  pub first : List ℕ
+  pub second : List ℕ
+  pub nul : IsAfter conversion.NulFirst bytes first
+  pub sides : IsAfter conversion.PlainSides first second
+  pub exported : ExportsUnconverted second (Ok out)
+
+-- the result of the exporter: the export of the file after both conversions. If the file itself isn't exported, this is the error
 abbrev pub Exports : List ℕ → Result (List ℕ) ExportError → Type 0
-Exports bytes (Ok out) =
-    ((own : List ℕ) × ExportsUnconverted bytes (Ok own))
-    × (IsConvertedExport bytes (converted_bytes bytes) out ⊎ (HasNoExport bytes (converted_bytes bytes) × ExportsUnconverted bytes (Ok out)))
+Exports bytes (Ok out) = ((own : List ℕ) × ExportsUnconverted bytes (Ok own)) × IsConverted bytes out
 Exports bytes (Err error) = IsExportError bytes error
 
 -- what an error of a check reports: `Overlapping` if the property does not hold; `Memory` has no condition

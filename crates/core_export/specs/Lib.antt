@@ -7,3 +7,5 @@ pub mod Readable
 pub mod Saves
 pub mod Told
 pub mod Converted
+pub mod Conversions
+pub mod NulWords

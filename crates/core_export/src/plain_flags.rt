@@ -1,7 +1,7 @@
 //! Clears the side flags of keys that CTRL or ALT makes needless.
 
 ghost use Rattle.std.specs.Prelude.{◌≡◌, ◌<◌, ◌^◌, IfOk};
-ghost use Rattle.core_export.specs.Converted.{plain_record, plain_records, plain_group, plain_groups, converted_bytes};
+ghost use Rattle.core_export.specs.Converted.{plain_record, plain_records, plain_group, plain_groups, plain_bytes};
 
 use crate::words::put_word;
 use core_conversions::plain_flags;
@@ -15,9 +15,9 @@ use kmx_view::word_at;
 use std::alloc::Global;
 
 /// Returns a copy of the bytes of a file in which no key has CTRL with a side of control, or ALT with a side of alt.
-#[tactic(auto, unfolding(crate::specs::Converted::converted_bytes))]
-pub(crate) fn converted_bytes(alloc: Global, bytes: &[u8]) -> Result<Seq<u8>, Memory>
-    ensures { IfOk result (λ out. out ≡ converted_bytes bytes.now) }
+#[tactic(auto, unfolding(crate::specs::Converted::plain_bytes))]
+pub(crate) fn plain_bytes(alloc: Global, bytes: &[u8]) -> Result<Seq<u8>, Memory>
+    ensures { IfOk result (λ out. out ≡ plain_bytes bytes.now) }
 {
     let mut out = Seq::from_slice(alloc, bytes)?;
     plain_groups(
