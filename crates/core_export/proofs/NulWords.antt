@@ -97,16 +97,18 @@ after_all count i place size bytes answer past so_far =
 
 -- ---- the number of bytes
 
+walked_size : (nul condition : Bool) (count place size : ℕ) (bytes : List ℕ) → is_nul_at bytes (place + size) ≡ nul
+    → ((from width : ℕ) (xs : List ℕ) → length (nuls_first count from width xs) ≡ length xs) → length (walked nul condition count place size bytes) ≡ length bytes
+walked_size true condition count place size bytes is sizes =
+    sizes (place + 4) size (word_first place size bytes) ∙ length-word_first place size bytes (is_within bytes (place + size) is)
+walked_size false true count place size bytes is sizes = sizes place (size + 10) bytes
+walked_size false false count place size bytes is sizes = refl
+
 walk_size : (count place size : ℕ) (bytes : List ℕ) → length (nuls_first count place size bytes) ≡ length bytes
 unfolding nuls_first
 walk_size zero place size bytes = refl
-walk_size (suc count) place size bytes = by_item (is_nul_at bytes (place + size)) (is_condition_at bytes (place + size)) refl
-  where
-    by_item : (nul condition : Bool) → is_nul_at bytes (place + size) ≡ nul → length (walked nul condition count place size bytes) ≡ length bytes
-    by_item true condition is =
-        walk_size count (place + 4) size (word_first place size bytes) ∙ length-word_first place size bytes (is_within bytes (place + size) is)
-    by_item false true is = walk_size count place (size + 10) bytes
-    by_item false false is = refl
+walk_size (suc count) place size bytes =
+    walked_size (is_nul_at bytes (place + size)) (is_condition_at bytes (place + size)) count place size bytes refl (λ from width xs. walk_size count from width xs)
 
 context_size : (offset : ℕ) (bytes : List ℕ) → length (nul_first_context offset bytes) ≡ length bytes
 unfolding nul_first_context

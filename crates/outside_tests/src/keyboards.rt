@@ -18,7 +18,7 @@ H¶+ 'a' > use(g)¶match > use(g) 'b'¶group(g) ⇒ differs 3 match,differs grou
 H¶+ 'a' > use(g) 'b'¶group(g) ⇒ differs 3 use
 H¶+ 'a' > use(g) nul¶match > 'b'¶group(g) ⇒ differs 3 match
 H¶+ 'a' > use(g) 'c'¶match > 'b'¶group(g) ⇒ differs 3 use.match
-store(o) '1'¶H¶if(o = '1') nul + 'a' > 'b' ⇒ differs 4 nul
+store(o) '1'¶H¶if(o = '1') nul + 'a' > 'b' ⇒ 
 store(o) '1'¶H¶nul if(o = '1') + 'a' > 'b' ⇒ 
 store(v) 'ab'¶H¶nul any(v) + 'a' > index(v,2)¶any(v) + 'b' > index(v,1) ⇒ differs 4 offset
 H¶nul 'b' + 'a' > context(2) ⇒ differs 3 offset
