@@ -115,7 +115,8 @@ fn is_condition_at(bytes: &[u8], place: usize) -> bool
     requires { place < 2 ^ 62 }
     ensures { result ≡ is_condition_at bytes.now place }
 {
-    matches!(word_at(bytes, place), TEST | SYSTEM_TEST)
+    let word = word_at(bytes, place);
+    word == TEST || word == SYSTEM_TEST
 }
 
 /// Moves the word after `size` bytes from a position on before these bytes.
