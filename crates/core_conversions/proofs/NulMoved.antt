@@ -52,7 +52,7 @@ Stays xs = (context_with_nul_first xs ≡ xs) × (prefix_len is_nul xs ≡ 0)
 past : (n : ℕ) (x : Pat) (xs : List Pat) → Stays (drop n xs) → Stays (drop (1 + n) (x ∷ xs))
 past n x xs stays = subst (λ (k : ℕ). Stays (drop k (x ∷ xs))) (sym (one_more n)) stays
 
-pub stays_from : (xs : List Pat) → Stays (drop (position_or_len is_matched xs) xs)
+stays_from : (xs : List Pat) → Stays (drop (position_or_len is_matched xs) xs)
 stays_from [] = (refl, refl)
 stays_from (pattern.Nul ∷ xs) = past (position_or_len is_matched xs) pattern.Nul xs (stays_from xs)
 stays_from (pattern.Equal store value ∷ xs) = past (position_or_len is_matched xs) (pattern.Equal store value) xs (stays_from xs)
@@ -139,7 +139,7 @@ module _ (xs : List Pat) (i : ℕ) (item : Pat) (within : i < length xs) (is : i
       ap context_with_nul_first (split ∙ ap (λ (x : Pat). x ∷ drop (i + 1) xs) (nul_is item told))
       ∙ ap (λ (x : Pat). x ∷ context_with_nul_first (drop (i + 1) xs)) (sym (nul_is item told))
 
-  pub condition_moves : (ys zs : List Pat) (count : ℕ) → is_condition item ≡ true → ys ≡ take (i + 1) xs ++ context_with_nul_first (drop (i + 1) xs)
+  condition_moves : (ys zs : List Pat) (count : ℕ) → is_condition item ≡ true → ys ≡ take (i + 1) xs ++ context_with_nul_first (drop (i + 1) xs)
       → count ≡ nuls (context_with_nul_first (drop (i + 1) xs)) → zs ≡ swap ys i (i + count) → zs ≡ take i xs ++ context_with_nul_first (drop i xs)
   condition_moves ys zs count told so_far is_count moved =
       let rest : List Pat = context_with_nul_first (drop (i + 1) xs) in
@@ -147,15 +147,15 @@ module _ (xs : List Pat) (i : ℕ) (item : Pat) (within : i < length xs) (is : i
       ∙ swapped (take i xs) item rest i (length-take-le i xs (omega (arith, within)))
       ∙ ap (λ (all : List Pat). take i xs ++ all) (sym (condition_converts told))
 
-  pub condition_counts : (count : ℕ) → is_condition item ≡ true → count ≡ nuls (context_with_nul_first (drop (i + 1) xs)) → count ≡ nuls (context_with_nul_first (drop i xs))
+  condition_counts : (count : ℕ) → is_condition item ≡ true → count ≡ nuls (context_with_nul_first (drop (i + 1) xs)) → count ≡ nuls (context_with_nul_first (drop i xs))
   condition_counts count told is_count =
       is_count ∙ sym (ap nuls (condition_converts told) ∙ nuls_kept item (context_with_nul_first (drop (i + 1) xs)) (no_nul item told))
 
-  pub nul_stays : (ys : List Pat) → is_nul item ≡ true → ys ≡ take (i + 1) xs ++ context_with_nul_first (drop (i + 1) xs) → ys ≡ take i xs ++ context_with_nul_first (drop i xs)
+  nul_stays : (ys : List Pat) → is_nul item ≡ true → ys ≡ take (i + 1) xs ++ context_with_nul_first (drop (i + 1) xs) → ys ≡ take i xs ++ context_with_nul_first (drop i xs)
   nul_stays ys told so_far =
       joined ys (context_with_nul_first (drop (i + 1) xs)) so_far ∙ ap (λ (all : List Pat). take i xs ++ all) (sym (nul_converts told))
 
-  pub nul_counts : (count : ℕ) → is_nul item ≡ true → count ≡ nuls (context_with_nul_first (drop (i + 1) xs)) → count + 1 ≡ nuls (context_with_nul_first (drop i xs))
+  nul_counts : (count : ℕ) → is_nul item ≡ true → count ≡ nuls (context_with_nul_first (drop (i + 1) xs)) → count + 1 ≡ nuls (context_with_nul_first (drop i xs))
   nul_counts count told is_count =
       let more : nuls (item ∷ context_with_nul_first (drop (i + 1) xs)) ≡ 1 + nuls (context_with_nul_first (drop (i + 1) xs)) =
       ap (λ b. if b then 1 + nuls (context_with_nul_first (drop (i + 1) xs)) else 0) told in
@@ -164,7 +164,7 @@ module _ (xs : List Pat) (i : ℕ) (item : Pat) (within : i < length xs) (is : i
 -- ---- the item that is read
 
 -- an item of the current context before a place is that of the original one
-pub read_there : (xs ys rest : List Pat) (i : ℕ) (item : Pat) → i < length xs → ys ≡ take (i + 1) xs ++ rest → item ≡ slice_index_or ys i item → item ≡ slice_index_or xs i item
+read_there : (xs ys rest : List Pat) (i : ℕ) (item : Pat) → i < length xs → ys ≡ take (i + 1) xs ++ rest → item ≡ slice_index_or ys i item → item ≡ slice_index_or xs i item
 read_there xs ys rest i item within so_far is =
     let size : length (take i xs) ≡ i = length-take-le i xs (omega (arith, within)) in
     let split : ys ≡ take i xs ++ slice_index_or xs i item ∷ rest =
@@ -175,7 +175,7 @@ read_there xs ys rest i item within so_far is =
     ∙ ap (λ (n : ℕ). slice_index_or (slice_index_or xs i item ∷ rest) n item) start
 
 -- an item before the first matched one that is not `nul` is a condition
-pub is_condition_there : (xs : List Pat) (i : ℕ) (item : Pat) → i < position_or_len is_matched xs → item ≡ slice_index_or xs i item → is_nul item ≡ false → is_condition item ≡ true
+is_condition_there : (xs : List Pat) (i : ℕ) (item : Pat) → i < position_or_len is_matched xs → item ≡ slice_index_or xs i item → is_nul item ≡ false → is_condition item ≡ true
 is_condition_there xs i item before is other =
     condition_is item (ap is_matched is ∙ unmatched_before xs i item before) other
 
@@ -186,3 +186,47 @@ begins xs =
 
 pub begins_without : (xs : List Pat) → 0 ≡ prefix_len is_nul (context_with_nul_first (drop (position_or_len is_matched xs) xs))
 begins_without xs = sym (ap nuls (stays_from xs).0 ∙ (stays_from xs).1)
+
+-- ---- one step of the conversion
+
+-- the context with its items from a place on converted, and the number of `nul` there
+abbrev pub IsSoFar : List Pat → List Pat → ℕ → ℕ → Type 0
+IsSoFar xs ys i count =
+    (length ys ≡ length xs) × (i + count ≤ length xs) × (i ≤ position_or_len is_matched xs)
+    × (ys ≡ take i xs ++ context_with_nul_first (drop i xs)) × (count ≡ prefix_len is_nul (context_with_nul_first (drop i xs)))
+
+-- the item before the converted ones is that of the original context
+item_before : (xs ys : List Pat) (j count : ℕ) (item : Pat) → IsSoFar xs ys (j + 1) count → item ≡ slice_index_or ys j item → item ≡ slice_index_or xs j item
+item_before xs ys j count item so_far is =
+    read_there xs ys (context_with_nul_first (drop (j + 1) xs)) j item (omega (arith, so_far.1)) so_far.3 is
+
+past_condition : (xs ys zs : List Pat) (j count : ℕ) (item : Pat) → IsSoFar xs ys (j + 1) count → item ≡ slice_index_or ys j item → is_nul item ≡ false
+    → zs ≡ swap ys j (j + count) → length zs ≡ length ys → IsSoFar xs zs j count
+past_condition xs ys zs j count item so_far is other moved size =
+    let within : j < length xs = omega (arith, so_far.1) in
+    let there : item ≡ slice_index_or xs j item = item_before xs ys j count item so_far is in
+    let told : is_condition item ≡ true = is_condition_there xs j item (omega (arith, so_far.2)) there other in (
+      size ∙ so_far.0,
+      omega (arith, so_far.1),
+      omega (arith, so_far.2),
+      condition_moves xs j item within there ys zs count told so_far.3 so_far.4 moved,
+      condition_counts xs j item within there count told so_far.4,
+    )
+
+past_nul : (xs ys : List Pat) (j count : ℕ) (item : Pat) → IsSoFar xs ys (j + 1) count → item ≡ slice_index_or ys j item → is_nul item ≡ true → IsSoFar xs ys j (count + 1)
+past_nul xs ys j count item so_far is told =
+    let within : j < length xs = omega (arith, so_far.1) in
+    let there : item ≡ slice_index_or xs j item = item_before xs ys j count item so_far is in
+    (so_far.0, omega (arith, so_far.1), omega (arith, so_far.2), nul_stays xs j item within there ys told so_far.3, nul_counts xs j item within there count told so_far.4)
+
+-- the same with the place counted down
+pub down_condition : (xs ys zs : List Pat) (i count : ℕ) (item : Pat) → 0 < i → IsSoFar xs ys i count → item ≡ slice_index_or ys (i - 1) item → is_nul item ≡ false
+    → zs ≡ swap ys (i - 1) (i - 1 + count) → length zs ≡ length ys → IsSoFar xs zs (i - 1) count
+down_condition xs ys zs i count item some so_far is other moved size =
+    let up : i ≡ i - 1 + 1 = omega (arith, some) in
+    past_condition xs ys zs (i - 1) count item (subst (λ (k : ℕ). IsSoFar xs ys k count) up so_far) is other moved size
+
+pub down_nul : (xs ys : List Pat) (i count : ℕ) (item : Pat) → 0 < i → IsSoFar xs ys i count → item ≡ slice_index_or ys (i - 1) item → is_nul item ≡ true → IsSoFar xs ys (i - 1) (count + 1)
+down_nul xs ys i count item some so_far is told =
+    let up : i ≡ i - 1 + 1 = omega (arith, some) in
+    past_nul xs ys (i - 1) count item (subst (λ (k : ℕ). IsSoFar xs ys k count) up so_far) is told

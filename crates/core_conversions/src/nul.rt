@@ -48,6 +48,7 @@ fn convert_rule(rule: &mut Rule)
 
 /// Moves each `nul` before the first matched item of a context before the conditions. From the last of these items to the first, a
 /// condition and the last `nul` after it exchange places.
+#[tactic(auto, using(crate::proofs::NulMoved::down_nul))]
 fn convert_context(context: &mut [Pat])
     ensures { context.new ≡ context_with_nul_first context.old }
 {

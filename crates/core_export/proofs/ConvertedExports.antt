@@ -75,35 +75,50 @@ none_invalid how bytes converted fault valid faulty = absurd (none-some fault (s
 
 -- ---- one conversion
 
-pub own_export : (bytes opened out : List ℕ) → opened ≡ bytes → IsValid bytes → ExportsUnconverted bytes (Ok out) → HasExport opened out
-own_export bytes opened out is valid exports =
-    subst (λ (xs : List ℕ). HasExport xs out) (sym is) (record { valid = valid; exported = exports })
+-- the export of a file that was copied
+pub own_export : (bytes slice copy out : List ℕ) → copy ≡ slice → slice ≡ bytes → IsValid bytes → ExportsUnconverted bytes (Ok out) → HasExport copy out
+own_export bytes slice copy out copied is valid exports =
+    subst (λ (xs : List ℕ). HasExport xs out) (sym (copied ∙ is)) (record { valid = valid; exported = exports })
 
-pub after_converted : (how : Conversion) (bytes after out : List ℕ) → after ≡ converted_bytes how bytes → IsConvertedExport how bytes after out → IsAfter how bytes after
-after_converted how bytes after out is converted = Converted out converted is
+-- the converted file, whose bytes were read from a slice
+pub after_converted : (how : Conversion) (bytes after slice out : List ℕ) → after ≡ converted_bytes how bytes → slice ≡ after → IsConvertedExport how bytes slice out → IsAfter how bytes after
+after_converted how bytes after slice out is read converted =
+    Converted out (subst (λ (xs : List ℕ). IsConvertedExport how bytes xs out) read converted) is
 
-pub exports_converted : (how : Conversion) (bytes after out : List ℕ) → IsConvertedExport how bytes after out → HasExport after out
-exports_converted how bytes after out converted = record { valid = converted.valid; exported = converted.exported }
+pub exports_converted : (how : Conversion) (bytes after slice out : List ℕ) → slice ≡ after → IsConvertedExport how bytes slice out → HasExport after out
+exports_converted how bytes after slice out read converted =
+    subst (λ (xs : List ℕ). HasExport xs out) read (record { valid = converted.valid; exported = converted.exported })
 
-pub after_unconverted : (how : Conversion) (bytes converted : List ℕ) → converted ≡ converted_bytes how bytes → HasNoExport how bytes converted → IsAfter how bytes bytes
-after_unconverted how bytes converted is none = Unconverted (subst (HasNoExport how bytes) is none) refl
+pub after_unconverted : (how : Conversion) (bytes after slice : List ℕ) → after ≡ converted_bytes how bytes → slice ≡ after → HasNoExport how bytes slice → IsAfter how bytes bytes
+after_unconverted how bytes after slice is read none = Unconverted (subst (HasNoExport how bytes) (read ∙ is) none) refl
 
-pub after_unchanged : (how : Conversion) (bytes converted : List ℕ) → converted ≡ converted_bytes how bytes → converted ≡ bytes → IsAfter how bytes bytes
-after_unchanged how bytes converted is same = Unchanged (sym is ∙ same) refl
+pub after_unchanged : (how : Conversion) (bytes after slice : List ℕ) → after ≡ converted_bytes how bytes → slice ≡ after → slice ≡ bytes → IsAfter how bytes bytes
+after_unchanged how bytes after slice is read same = Unchanged (sym (read ∙ is) ∙ same) refl
+
+-- the file after a conversion, where the file was read from a slice
+pub valid_slice : (bytes slice out : List ℕ) → slice ≡ bytes → HasExport bytes out → IsValid slice
+valid_slice bytes slice out read exports = subst IsValid (sym read) exports.valid
+
+pub after_slice : (how : Conversion) (bytes slice after : List ℕ) → slice ≡ bytes → IsAfter how slice after → IsAfter how bytes after
+after_slice how bytes slice after read is = subst (λ (xs : List ℕ). IsAfter how xs after) read is
+
+pub same_slice : (how : Conversion) (bytes slice : List ℕ) → slice ≡ bytes → IsAfter how slice slice → IsAfter how bytes bytes
+same_slice how bytes slice read is = subst (λ (xs : List ℕ). IsAfter how xs xs) read is
 
 -- ---- the result of the exporter
 
 pub exports_after : (bytes own own_out first second out : List ℕ) → own ≡ bytes → HasExport own own_out → IsAfter conversion.NulFirst own first → IsAfter conversion.PlainSides first second
     → HasExport second out → Exports bytes (Ok out)
-exports_after bytes own own_out first second out is exports nul sides last =
-    ((own_out, subst (λ (xs : List ℕ). ExportsUnconverted xs (Ok own_out)) is exports.exported),
-    record {
-      first = first;
-      second = second;
-      nul = subst (λ (xs : List ℕ). IsAfter conversion.NulFirst xs first) is nul;
-      sides = sides;
-      exported = last.exported;
-    })
+exports_after bytes own own_out first second out is exports nul sides last = (
+  (own_out, subst (λ (xs : List ℕ). ExportsUnconverted xs (Ok own_out)) is exports.exported),
+  record {
+    first = first;
+    second = second;
+    nul = subst (λ (xs : List ℕ). IsAfter conversion.NulFirst xs first) is nul;
+    sides = sides;
+    exported = last.exported;
+  },
+)
 
 -- ---- laws
 

@@ -1,5 +1,5 @@
 -- Moves of words in a context: the number of bytes stays, and each step is one of the definition.
-use Rattle.std.proofs.Common.{◌≡◌, ℕ, zero, suc, ◌+◌, ◌-◌, ◌<◌, ◌≤◌, Bool, true, false, leb, List, ◌++◌, length, take, drop, refl, sym, ap, ap₂, ◌∙◌, append_assoc, length-append, length-drop, arith, nat_eq, if◌then◌else◌}
+use Rattle.std.proofs.Common.{◌≡◌, ℕ, zero, suc, ◌+◌, ◌-◌, ◌*◌, ◌<◌, ◌≤◌, Bool, true, false, leb, List, ◌++◌, length, take, drop, refl, sym, ap, ap₂, ◌∙◌, append_assoc, length-append, length-drop, arith, nat_eq, if◌then◌else◌}
 use Rattle.std.specs.Prelude.{nat_le}
 use Rattle.std.specs.Int.{w32, from_le_bytes}
 use Rattle.std.proofs.lemmas.Bool.{false≢true}
@@ -32,9 +32,16 @@ length-word_first place size bytes within =
     let conditions : length (take size (drop place bytes)) ≡ size = length-take-le size (drop place bytes) (omega (arith, within, length-drop place bytes)) in
     let tail : length (drop (place + size + 4) bytes) ≡ length bytes - (place + size + 4) = length-drop (place + size + 4) bytes in
     length-append (take place bytes) (take 4 (drop (place + size) bytes) ++ (take size (drop place bytes) ++ drop (place + size + 4) bytes))
-    ∙ omega (arith, within, front, word, conditions, tail,
-    length-append (take 4 (drop (place + size) bytes)) (take size (drop place bytes) ++ drop (place + size + 4) bytes),
-    length-append (take size (drop place bytes)) (drop (place + size + 4) bytes))
+    ∙ omega (
+      arith,
+      within,
+      front,
+      word,
+      conditions,
+      tail,
+      length-append (take 4 (drop (place + size) bytes)) (take size (drop place bytes) ++ drop (place + size + 4) bytes),
+      length-append (take size (drop place bytes)) (drop (place + size + 4) bytes),
+    )
 
 -- bytes in which the last word of a part is rotated to its front
 pub rotated : (place size : ℕ) (bytes part after : List ℕ) → place + size + 4 ≤ length bytes → part ≡ take (size + 4) (drop place bytes)
@@ -72,19 +79,19 @@ step_of count i place size bytes below =
     let next : count - i ≡ suc (count - (i + 1)) = omega arith in
     ap (λ (n : ℕ). nuls_first n place size bytes) next ∙ steps (count - (i + 1)) place size bytes
 
-pub after_nul : (count i place size : ℕ) (bytes next answer : List ℕ) → i < count → is_nul_at bytes (place + size) ≡ true → next ≡ word_first place size bytes
+after_nul : (count i place size : ℕ) (bytes next answer : List ℕ) → i < count → is_nul_at bytes (place + size) ≡ true → next ≡ word_first place size bytes
     → nuls_first (count - i) place size bytes ≡ answer → nuls_first (count - (i + 1)) (place + 4) size next ≡ answer
 after_nul count i place size bytes next answer below nul moved so_far =
     ap (λ (xs : List ℕ). nuls_first (count - (i + 1)) (place + 4) size xs) moved
     ∙ sym (step_of count i place size bytes below ∙ ap (λ (b : Bool). walked b (is_condition_at bytes (place + size)) (count - (i + 1)) place size bytes) nul)
     ∙ so_far
 
-pub after_condition : (count i place size : ℕ) (bytes answer : List ℕ) → i < count → is_nul_at bytes (place + size) ≡ false → is_condition_at bytes (place + size) ≡ true
+after_condition : (count i place size : ℕ) (bytes answer : List ℕ) → i < count → is_nul_at bytes (place + size) ≡ false → is_condition_at bytes (place + size) ≡ true
     → nuls_first (count - i) place size bytes ≡ answer → nuls_first (count - (i + 1)) place (size + 10) bytes ≡ answer
 after_condition count i place size bytes answer below nul condition so_far =
     sym (step_of count i place size bytes below ∙ ap₂ (λ (a b : Bool). walked a b (count - (i + 1)) place size bytes) nul condition) ∙ so_far
 
-pub after_other : (count i place size : ℕ) (bytes answer : List ℕ) → i < count → is_nul_at bytes (place + size) ≡ false → is_condition_at bytes (place + size) ≡ false
+after_other : (count i place size : ℕ) (bytes answer : List ℕ) → i < count → is_nul_at bytes (place + size) ≡ false → is_condition_at bytes (place + size) ≡ false
     → nuls_first (count - i) place size bytes ≡ answer → bytes ≡ answer
 after_other count i place size bytes answer below nul condition so_far =
     sym (step_of count i place size bytes below ∙ ap₂ (λ (a b : Bool). walked a b (count - (i + 1)) place size bytes) nul condition) ∙ so_far
@@ -94,6 +101,25 @@ unfolding nuls_first
 after_all count i place size bytes answer past so_far =
     let none : count - i ≡ 0 = omega arith in
     sym (ap (λ (n : ℕ). nuls_first n place size bytes) none) ∙ so_far
+
+-- where a walk from a position is at an item: what is left of it gives the answer, and its positions are near
+abbrev pub IsWalked : (start count : ℕ) (answer : List ℕ) (i place size : ℕ) (bytes : List ℕ) → Type 0
+IsWalked start count answer i place size bytes = (nuls_first (count - i) place size bytes ≡ answer) × (place ≤ start + 4 * i) × (size ≤ 10 * i)
+
+pub past_nul : (start count : ℕ) (answer : List ℕ) (i place size : ℕ) (bytes next : List ℕ) (found : Bool) → i < count → IsWalked start count answer i place size bytes
+    → found ≡ is_nul_at bytes (place + size) → found ≡ true → next ≡ word_first place size bytes → IsWalked start count answer (i + 1) (place + 4) size next
+past_nul start count answer i place size bytes next found below so_far is told moved =
+    (after_nul count i place size bytes next answer below (sym is ∙ told) moved so_far.0, omega (arith, so_far.1), omega (arith, so_far.2))
+
+pub past_condition : (start count : ℕ) (answer : List ℕ) (i place size : ℕ) (bytes : List ℕ) (found second : Bool) → i < count → IsWalked start count answer i place size bytes
+    → found ≡ is_nul_at bytes (place + size) → found ≡ false → second ≡ is_condition_at bytes (place + size) → second ≡ true → IsWalked start count answer (i + 1) place (size + 10) bytes
+past_condition start count answer i place size bytes found second below so_far is other condition told =
+    (after_condition count i place size bytes answer below (sym is ∙ other) (sym condition ∙ told) so_far.0, omega (arith, so_far.1), omega (arith, so_far.2))
+
+pub ends_there : (start count : ℕ) (answer : List ℕ) (i place size : ℕ) (bytes : List ℕ) (found second : Bool) → i < count → IsWalked start count answer i place size bytes
+    → found ≡ is_nul_at bytes (place + size) → found ≡ false → second ≡ is_condition_at bytes (place + size) → second ≡ false → bytes ≡ answer
+ends_there start count answer i place size bytes found second below so_far is other condition neither =
+    after_other count i place size bytes answer below (sym is ∙ other) (sym condition ∙ neither) so_far.0
 
 -- ---- the number of bytes
 

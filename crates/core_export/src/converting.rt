@@ -1,6 +1,6 @@
 //! The export of a file. The file is converted first, as far as the converted file says the same and is exported.
 
-ghost use Rattle.std.specs.Prelude.{◌≡◌, IfOk, MatchResult};
+ghost use Rattle.std.specs.Prelude.{◌≡◌, IfOk, MatchOption, MatchResult};
 ghost use Rattle.std.specs.Bool.{Decides};
 ghost use Rattle.kmx_format.specs.TablesOf.{tables_of};
 ghost use Rattle.kmx_verifier.specs.FaultOf.{IsValid};
@@ -52,26 +52,32 @@ fn with_export(alloc: Global, file: &Verified<'_>) -> Result<Exported, ExportErr
 }
 
 /// Returns the file after a conversion, and its export.
-#[tactic(auto, using(crate::proofs::ConvertedExports::after_converted, crate::proofs::ConvertedExports::exports_converted, crate::proofs::ConvertedExports::after_unconverted, crate::proofs::ConvertedExports::after_unchanged))]
-fn after_conversion(
-    alloc: Global,
-    how: Conversion,
-    given: Exported,
-) -> Result<Exported, Memory>
+#[tactic(auto, using(crate::proofs::ConvertedExports::valid_slice, crate::proofs::ConvertedExports::after_slice, crate::proofs::ConvertedExports::same_slice))]
+fn after_conversion(alloc: Global, how: Conversion, given: Exported) -> Result<Exported, Memory>
     requires { HasExport given.bytes given.out }
     ensures exported { IfOk result (λ after. HasExport after.bytes after.out) }
     ensures after { IfOk result (λ after. IsAfter how given.bytes after.bytes) }
 {
-    let converted = converted_bytes(alloc, how, given.bytes.as_slice())?;
-    if same_bytes(converted.as_slice(), given.bytes.as_slice()) {
-        return Ok(given);
-    }
-    match converted_export(alloc, how, given.bytes.as_slice(), converted.as_slice())? {
-        Some(out) => Ok(Exported {
-            bytes: converted,
-            out,
-        }),
+    match converted(alloc, how, given.bytes.as_slice())? {
+        Some(after) => Ok(after),
         None => Ok(given),
+    }
+}
+
+/// Returns the converted file of a valid one, and its export. Returns `None` if the conversion changes no byte, or the converted file
+/// does not say the same or isn't exported.
+#[tactic(auto, using(crate::proofs::ConvertedExports::after_converted, crate::proofs::ConvertedExports::exports_converted, crate::proofs::ConvertedExports::after_unconverted, crate::proofs::ConvertedExports::after_unchanged))]
+fn converted(alloc: Global, how: Conversion, bytes: &[u8]) -> Result<Option<Exported>, Memory>
+    requires { IsValid bytes.now }
+    ensures { IfOk result (λ found. MatchOption found (IsAfter how bytes.now bytes.now) (λ after. HasExport after.bytes after.out × IsAfter how bytes.now after.bytes)) }
+{
+    let after = converted_bytes(alloc, how, bytes)?;
+    if same_bytes(after.as_slice(), bytes) {
+        return Ok(None);
+    }
+    match converted_export(alloc, how, bytes, after.as_slice())? {
+        Some(out) => Ok(Some(Exported { bytes: after, out })),
+        None => Ok(None),
     }
 }
 

@@ -81,6 +81,7 @@ fn convert_context(offset: u32, out: &mut [u8])
 }
 
 /// Moves each `nul` of the first `count` items of the context at a position before the conditions.
+#[tactic(auto, using(crate::proofs::NulWords::past_nul, crate::proofs::NulWords::past_condition, crate::proofs::NulWords::ends_there, crate::proofs::NulWords::after_all))]
 fn move_nuls(start: usize, count: usize, out: &mut [u8])
     requires near { start < 2 ^ 32 }
     requires few { count ≤ CONTEXT_ITEMS }
@@ -120,6 +121,7 @@ fn is_condition_at(bytes: &[u8], place: usize) -> bool
 }
 
 /// Moves the word after `size` bytes from a position on before these bytes.
+#[tactic(auto, using(crate::proofs::NulWords::rotated))]
 fn move_word(place: usize, size: usize, out: &mut [u8])
     requires { place + size + 4 ≤ length out.old }
     ensures { out.new ≡ word_first place size out.old }
