@@ -89,7 +89,7 @@ first_exchanged item (pattern.Nul ∷ xs) =
     ∙ ap₂ (λ (x : Pat) (ys : List Pat). x ∷ ys) (last_nul xs item) (last_set item xs)
 first_exchanged item (x ∷ xs) = refl
 
--- the same behind other items
+-- the same after other items
 swapped : (before : List Pat) (item : Pat) (xs : List Pat) (i : ℕ) → length before ≡ i → swap (before ++ item ∷ xs) i (i + nuls xs) ≡ before ++ after_nuls item xs
 swapped before item xs i size =
     let all : List Pat = before ++ item ∷ xs in

@@ -102,7 +102,7 @@ after_all count i place size bytes answer past so_far =
     let none : count - i ≡ 0 = omega arith in
     sym (ap (λ (n : ℕ). nuls_first n place size bytes) none) ∙ so_far
 
--- where a walk from a position is at an item: what is left of it gives the answer, and its positions are near
+-- a walk from a position that is at an item: the rest of it has the result of the whole walk, and its positions are near
 abbrev pub IsWalked : (start count : ℕ) (answer : List ℕ) (i place size : ℕ) (bytes : List ℕ) → Type 0
 IsWalked start count answer i place size bytes = (nuls_first (count - i) place size bytes ≡ answer) × (place ≤ start + 4 * i) × (size ≤ 10 * i)
 
