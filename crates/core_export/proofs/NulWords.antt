@@ -1,6 +1,5 @@
 -- Moves of words in a context: the number of bytes stays, and each step is one of the definition.
 use Rattle.std.proofs.Common.{◌≡◌, ℕ, zero, suc, ◌+◌, ◌-◌, ◌*◌, ◌<◌, ◌≤◌, Bool, true, false, leb, List, ◌++◌, length, take, drop, refl, sym, ap, ap₂, ◌∙◌, append_assoc, length-append, length-drop, arith, nat_eq, if◌then◌else◌}
-use Rattle.std.specs.Prelude.{nat_le}
 use Rattle.std.specs.Int.{w32, from_le_bytes}
 use Rattle.std.proofs.lemmas.Bool.{false≢true}
 use Rattle.std.proofs.lemmas.List.{drop-drop, drop-take, take-take, length-take-le}
@@ -105,6 +104,12 @@ after_all count i place size bytes answer past so_far =
 -- a walk from a position that is at an item: the rest of it has the result of the whole walk, and its positions are near
 abbrev pub IsWalked : (start count : ℕ) (answer : List ℕ) (i place size : ℕ) (bytes : List ℕ) → Type 0
 IsWalked start count answer i place size bytes = (nuls_first (count - i) place size bytes ≡ answer) × (place ≤ start + 4 * i) × (size ≤ 10 * i)
+
+-- the same at equal positions, in equal bytes
+pub walked_there : (start count : ℕ) (answer : List ℕ) (i place size from width : ℕ) (bytes out : List ℕ) → from ≡ place → width ≡ size → out ≡ bytes
+    → IsWalked start count answer i place size bytes → IsWalked start count answer i from width out
+walked_there start count answer i place size from width bytes out same_place same_size same h =
+    ((λ j. nuls_first (count - i) (same_place j) (same_size j) (same j)) ∙ h.0, omega (arith, same_place, h.1), omega (arith, same_size, h.2))
 
 pub past_nul : (start count : ℕ) (answer : List ℕ) (i place size : ℕ) (bytes next : List ℕ) (found : Bool) → i < count → IsWalked start count answer i place size bytes
     → found ≡ is_nul_at bytes (place + size) → found ≡ true → next ≡ word_first place size bytes → IsWalked start count answer (i + 1) (place + 4) size next

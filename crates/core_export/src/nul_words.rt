@@ -81,7 +81,6 @@ fn convert_context(offset: u32, out: &mut [u8])
 }
 
 /// Moves each `nul` of the first `count` items of the context at a position before the conditions.
-#[tactic(auto, using(crate::proofs::NulWords::past_nul, crate::proofs::NulWords::past_condition, crate::proofs::NulWords::ends_there, crate::proofs::NulWords::after_all))]
 fn move_nuls(start: usize, count: usize, out: &mut [u8])
     requires near { start < 2 ^ 32 }
     requires few { count ≤ CONTEXT_ITEMS }
