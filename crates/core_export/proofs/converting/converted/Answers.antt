@@ -9,6 +9,7 @@ returns-in-Some c =
     let after : List ℕ = c.in_ok-after.after in
     let slice : List ℕ = c.as_slice-2.result.now in
     let found : IsConvertedExport c.args.how bytes slice c.in-Some.out =
-    subst (λ (found : Option (List ℕ)). FindsConverted c.args.how bytes slice found) c.in-Some.is c.in_ok-out.ensures in
-    (exports_converted c.args.how bytes after slice c.in-Some.out c.as_slice-2.ensures found,
-    after_converted c.args.how bytes after slice c.in-Some.out c.in_ok-after.ensures c.as_slice-2.ensures found)
+    subst (λ (found : Option (List ℕ)). FindsConverted c.args.how bytes slice found) c.in-Some.is c.in_ok-out.ensures in (
+      exports_converted c.args.how bytes after slice c.in-Some.out c.as_slice-2.ensures found,
+      after_converted c.args.how bytes after slice c.in-Some.out c.in_ok-after.ensures c.as_slice-2.ensures found,
+    )
