@@ -10,8 +10,16 @@ use kmn_base::slices::behind;
 pub fn layer_mods(id: &[u8]) -> u16
     ensures { result ≡ layer_mods id.now }
 {
-    let control = sides(has_word(b"leftctrl", id), has_word(b"rightctrl", id), has_word(b"ctrl", id));
-    let alt = sides(has_word(b"leftalt", id), has_word(b"rightalt", id), has_word(b"alt", id));
+    let control = sides(
+        has_word(b"leftctrl", id),
+        has_word(b"rightctrl", id),
+        has_word(b"ctrl", id),
+    );
+    let alt = sides(
+        has_word(b"leftalt", id),
+        has_word(b"rightalt", id),
+        has_word(b"alt", id),
+    );
     let shift = if has_word(b"shift", id) { 16 } else { 0 };
     let caps = if has_word(b"caps", id) { 256 } else { 0 };
     control + 4 * alt + shift + caps

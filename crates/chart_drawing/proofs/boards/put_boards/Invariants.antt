@@ -1,7 +1,7 @@
 use Rattle.std.proofs.Common.{◌≡◌, ℕ, ◌+◌, ◌*◌, ◌++◌, drop}
 use Rattle.std.specs.String.{string_bytes}
-use Rattle.chart_drawing.specs.Picture.{boards}
-use Rattle.chart_drawing.proofs.pictures.put_boards.Given as goal
+use Rattle.chart_drawing.specs.Boards.{boards}
+use Rattle.chart_drawing.proofs.boards.put_boards.Given as goal
 
 abbrev pub invariant-loop-layer : goal.invariant-loop-layer
 invariant-loop-layer l = record {

@@ -1,7 +1,7 @@
 use Rattle.std.proofs.Common.{◌≡◌, ◌++◌, drop, flat_map, map}
 use Rattle.std.specs.String.{string_bytes}
-use Rattle.chart_drawing.specs.Picture.{flag_word}
-use Rattle.chart_drawing.proofs.pictures.put_flags.Given as goal
+use Rattle.chart_drawing.specs.Boards.{flag_word}
+use Rattle.chart_drawing.proofs.boards.put_flags.Given as goal
 
 abbrev pub invariant-loop-row : goal.invariant-loop-row
 invariant-loop-row l =
