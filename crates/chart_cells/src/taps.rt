@@ -1,7 +1,6 @@
 //! What tapping the keys of a touch layout does.
 
 ghost use Rattle.std.specs.Prelude.{◌≡◌, ◌≤◌, length, map, IfOk};
-ghost use Rattle.kmn_base.specs.declared.items.Item.TheVariants as item;
 ghost use Rattle.kmn_base.specs.declared.limits.TheConstants.{TEXT_CHARS_AT_KEY};
 ghost use Rattle.virtual_keys.specs.Dictionary.{name_chars};
 ghost use Rattle.rule_model.specs.Event.{whole_text};
@@ -9,9 +8,9 @@ ghost use Rattle.chart_cells.specs.Taps.{layer_taps, showing, tap_cell, typed, u
 
 use crate::cells::cell_now;
 use chart_board::cells::is_empty;
-use chart_board::{Cell, Layer, press_in};
+use chart_board::{Cell, Layer, char_items, press_in};
 use kmn_base::texts::decoded;
-use kmn_base::{Event, Item, Memory, Seq};
+use kmn_base::{Event, Memory, Seq};
 use play_session::Session;
 use std::alloc::Global;
 use touch_board::{TouchKey, TouchLayer, layer_mods};
@@ -121,15 +120,4 @@ fn typed(alloc: Global, id: &[u8]) -> Result<Cell, Memory>
             beeps: 0,
         }),
     }
-}
-
-/// Returns characters as items.
-fn char_items(alloc: Global, chars: &[char]) -> Result<Seq<Item>, Memory>
-    ensures { IfOk result (λ items. items ≡ map item.Char chars.now) }
-{
-    let mut items = Seq::new(alloc);
-    for c in chars {
-        items.add(Item::Char(*c))?;
-    }
-    Ok(items)
 }
