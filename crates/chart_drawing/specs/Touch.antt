@@ -58,7 +58,7 @@ abbrev pub widest : ℕ → List TouchLayer → ℕ
 widest width [] = width
 widest width (layer ∷ layers) = widest (max width layer.width) layers
 
--- what the legend says of the keys of layers
+-- the legend of the keys of layers
 unfoldable pub touch_legend_text : List ℕ
 touch_legend_text = TOUCH_LEGEND.now
 

@@ -14,7 +14,7 @@ use kmn_base::texts::decoded;
 use std::alloc::{AllocError, Global};
 use touch_board::{TouchKey, TouchLayer};
 
-/// What the legend says of the keys of layers.
+/// The legend of the keys of layers.
 const TOUCH_LEGEND: &str =
     "below a key of the touch layout: &#62; the layer that it shows &#183; the keys of its long press &#183; n: to nw: those of its flick &#183; tap: those of further taps";
 
@@ -163,7 +163,7 @@ fn put_touch_legend(text: &mut String, place: usize, layers: &[TouchLayer]) -> R
     Ok(())
 }
 
-/// Returns what the legend says of the keys of layers.
+/// Returns the legend of the keys of layers.
 #[tactic(auto, unfolding(crate::specs::Touch::touch_legend_text))]
 fn touch_legend_text() -> &'static str
     ensures { result.now ≡ touch_legend_text }

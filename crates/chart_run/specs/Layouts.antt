@@ -24,7 +24,7 @@ abbrev pub unless_broken : List TouchLayer → Option LayoutFault → Result (Li
 unless_broken layers None = Ok layers
 unless_broken layers (Some broken) = Err (reason.Layout broken)
 
--- the layers of a touch layout as they lie, if it keeps all rules for the keyboard of tables, else the first rule that it breaks
+-- the layers of a touch layout, if it keeps all rules for the keyboard of tables, else the first rule that it breaks
 abbrev pub layers_of : Tables → Reading → Result (List TouchLayer) Reason
 layers_of tables (Bytes layout) = unless_broken (touch_layers (tab tables).dictionary layout) (layout_fault layout tables)
 layers_of tables (Over size) = Err (reason.Layout (fault T7 whole_layout))

@@ -54,7 +54,7 @@ pub(crate) fn read_layers<F: Folder>(
     }
 }
 
-/// Reads a touch layout by name, checks it against the keyboard of the tables, and returns its layers as they lie.
+/// Reads a touch layout by name, checks it against the keyboard of the tables, and returns its layers.
 fn read_layout<F: Folder>(
     alloc: Global,
     names: &KeyDictionary,

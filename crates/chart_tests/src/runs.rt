@@ -9,7 +9,7 @@ use std::alloc::Global;
 use std::test::Fail;
 
 /// A run with command-line arguments over a folder that contains a file `in`, a script `keys`, a touch layout `x.json`, and a file `bad.json`
-/// that is no layout. The folder call and the sink call
+/// that is not JSON. The folder call and the sink call
 /// with these numbers fail. If a number is 0, no call fails.
 #[derive(Drop)]
 struct Run<'a> {

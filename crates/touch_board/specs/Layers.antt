@@ -1,4 +1,4 @@
--- The layers of a touch layout as they lie: their keys with places and sizes.
+-- The layers of a touch layout in a drawing: their keys with places and sizes.
 use Rattle.std.specs.Prelude.{ℕ, ◌+◌, ◌-◌, min, max, if◌then◌else◌, List, [], ◌∷◌, ◌++◌, codes, Option, Some, None, unwrap_or, option_and_then}
 use Rattle.std.specs.Option.{option_or}
 use Rattle.std.specs.Str.{is_utf8}
@@ -26,7 +26,7 @@ width_of d = size_in 100 (codes "width") d
 abbrev pub pad_of : Data → ℕ
 pad_of d = size_in 15 (codes "pad") d
 
--- the left side of a key behind a place, and the place behind the key; a place farther than `FARTHEST` counts as this one
+-- the left side of a key that follows a place, and the place after the key; a place farther away than `FARTHEST` counts as this one
 abbrev pub left_of : ℕ → Data → ℕ
 left_of place d = min place FARTHEST + pad_of d
 
@@ -41,16 +41,16 @@ board_key names top left d =
 abbrev pub touch_key : List (List ℕ) → ℕ → ℕ → Data → TouchKey
 touch_key names top left d = record { id = id_of d; key = board_key names top left d; more = more_of d }
 
--- the key that is drawn of an object, if any: a spacer only takes room
+-- the key that is drawn of an object, if any: a spacer is only a space
 abbrev pub drawn_key : List (List ℕ) → ℕ → ℕ → Data → List TouchKey
 drawn_key names top left d = if is_spacer d then [] else touch_key names top left d ∷ []
 
--- the keys of a row at a height from a place on, one behind the other
+-- the keys of a row at a height from a place on, one after the other
 abbrev pub row_keys : List (List ℕ) → ℕ → ℕ → Items → List TouchKey
 row_keys names top place no_items = []
 row_keys names top place (item d ds) = drawn_key names top (left_of place d) d ++ row_keys names top (right_of place d) ds
 
--- the place behind the keys of a row from a place on
+-- the place after the keys of a row from a place on
 abbrev pub row_end : ℕ → Items → ℕ
 row_end place no_items = place
 row_end place (item d ds) = row_end (right_of place d) ds
@@ -64,7 +64,7 @@ abbrev pub end_at : Option Items → ℕ
 end_at None = 0
 end_at (Some ds) = row_end 0 ds
 
--- the height below a row; a height below `FARTHEST` counts as this one
+-- the height below a row; a height farther down than `FARTHEST` counts as this one
 abbrev pub below : ℕ → ℕ
 below top = min top FARTHEST + ROW
 

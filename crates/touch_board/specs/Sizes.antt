@@ -36,6 +36,6 @@ drawn units = min (units * 3 / 5) WIDEST
 abbrev pub size_in : ℕ → List ℕ → Data → ℕ
 size_in default name d = drawn (unless_zero default (whole_at (get name d)))
 
--- whether a key only takes room: its `sp` is 10
+-- whether a key is only a space: its `sp` is 10
 abbrev pub is_spacer : Data → Bool
 is_spacer d = nat_eq (whole_at (get (codes "sp") d)) 10

@@ -66,7 +66,7 @@ fn put_next_layer(text: &mut Text, name: &str) -> Result<(), Memory>
     text.extend_from_slice(b" ")
 }
 
-/// Appends the key caps of an optional list of keys, each behind a sign.
+/// Appends the key caps of an optional list of keys, each after a sign.
 fn put_caps_at(text: &mut Text, sign: &str, keys: Option<&Vec<Value>>) -> Result<(), Memory>
     ensures { IfOk result (λ _. text.new ≡ text.old ++ caps_at sign.now (option_map (λ v. items_view v.now.items) keys.entry)) }
 {
@@ -76,7 +76,7 @@ fn put_caps_at(text: &mut Text, sign: &str, keys: Option<&Vec<Value>>) -> Result
     }
 }
 
-/// Appends the key caps of a list of keys, each behind a sign.
+/// Appends the key caps of a list of keys, each after a sign.
 fn put_caps(text: &mut Text, sign: &str, keys: &Vec<Value>) -> Result<(), Memory>
     ensures { IfOk result (λ _. text.new ≡ text.old ++ caps_behind sign.now (items_view keys.now.items)) }
 {
@@ -86,7 +86,7 @@ fn put_caps(text: &mut Text, sign: &str, keys: &Vec<Value>) -> Result<(), Memory
     Ok(())
 }
 
-/// Appends the key cap of a key behind a sign.
+/// Appends the key cap of a key after a sign.
 #[tactic(auto, unfolding(crate::specs::Caps::cap_behind))]
 fn put_cap(text: &mut Text, sign: &str, key: &Value) -> Result<(), Memory>
     ensures { IfOk result (λ _. text.new ≡ text.old ++ cap_behind sign.now (view key.now)) }

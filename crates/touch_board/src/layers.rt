@@ -12,7 +12,7 @@ use serde_json::Value;
 use std::alloc::Global;
 use virtual_keys::{KeyDictionary, key_named};
 
-/// The place behind which all places count as this one.
+/// A place that is farther away counts as this one.
 const FARTHEST: u32 = 60_000;
 
 /// The height of a row, with the space below its keys.
@@ -144,7 +144,7 @@ fn rows_width(rows: &Vec<Value>) -> u32
     width
 }
 
-/// Returns the place behind the keys of an optional list.
+/// Returns the place after the keys of an optional list.
 fn end_at(keys: Option<&Vec<Value>>) -> u32
     ensures { result ≡ end_at (option_map (λ v. items_view v.now.items) keys.entry) }
 {
@@ -154,7 +154,7 @@ fn end_at(keys: Option<&Vec<Value>>) -> u32
     }
 }
 
-/// Returns the place behind the keys of a row.
+/// Returns the place after the keys of a row.
 fn row_end(keys: &Vec<Value>) -> u32
     ensures { result ≡ row_end 0 (items_view keys.now.items) }
 {
@@ -269,7 +269,7 @@ fn code_of(names: &KeyDictionary, id: &[u8]) -> u16
     }
 }
 
-/// Returns the left side of a key behind a place.
+/// Returns the left side of a key that follows a place.
 fn left_of(place: u32, key: &Value) -> u32
     ensures is { result ≡ left_of place (view key.now) }
     ensures most { result ≤ 60_600 }
@@ -277,7 +277,7 @@ fn left_of(place: u32, key: &Value) -> u32
     place.min(FARTHEST) + pad_of(key)
 }
 
-/// Returns the place behind a key that is behind a place.
+/// Returns the place after a key that follows a place.
 fn right_of(place: u32, key: &Value) -> u32
     ensures { result ≡ right_of place (view key.now) }
 {

@@ -1,4 +1,4 @@
-//! Reads a touch layout as it lies: the layers of each platform, with the places, sizes and texts of their keys.
+//! Reads a touch layout for a drawing: the layers of each platform, with the places, sizes and texts of their keys.
 //!
 //! Use: `touch_layers` returns the layers that the bytes of a layout have (`specs/Layers`), in the order of their places. It accepts any
 //! bytes, and `touch_layout` checks them. Sizes are in units of a drawing, in which a key of 100 units of the layout is 60 wide

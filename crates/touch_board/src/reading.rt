@@ -12,7 +12,7 @@ use std::alloc::Global;
 use std::str;
 use virtual_keys::KeyDictionary;
 
-/// Returns the layers of the bytes of a layout as they lie, for a keyboard with these custom keys. Whatever is absent or has another shape
+/// Returns the layers of the bytes of a layout, for a keyboard with these custom keys. Whatever is absent or has another shape
 /// is left out, so bytes that aren't JSON have no layers. Errors: `Memory` if an allocation fails.
 #[tactic(auto, unfolding(crate::specs::Layers::touch_layers))]
 pub fn touch_layers(

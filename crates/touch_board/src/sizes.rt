@@ -29,7 +29,7 @@ pub(crate) fn pad_of(key: &Value) -> u32
     size_in(15, key, "pad")
 }
 
-/// Returns whether a key only takes room: its `sp` is 10.
+/// Returns whether a key is only a space: its `sp` is 10.
 pub(crate) fn is_spacer(key: &Value) -> bool
     ensures { result ≡ is_spacer (view key.now) }
 {
