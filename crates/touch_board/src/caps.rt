@@ -112,17 +112,17 @@ fn put_flicks(text: &mut Text, flick: &Value, directions: &[&str]) -> Result<(),
     ensures { IfOk result (λ _. text.new ≡ text.old ++ flick_caps (view flick.now) (map (λ direction. direction.now) directions.now)) }
 {
     for direction in directions {
-        put_flick(text, direction, flick.get(direction))?;
+        put_flick(text, flick, direction)?;
     }
     Ok(())
 }
 
 /// Appends a direction and the key cap of its key, if there is one.
 #[tactic(auto, unfolding(crate::specs::Caps::flick_cap))]
-fn put_flick(text: &mut Text, direction: &str, key: Option<&Value>) -> Result<(), Memory>
-    ensures { IfOk result (λ _. text.new ≡ text.old ++ flick_cap direction.now (option_map (λ v. view v.now) key.entry)) }
+fn put_flick(text: &mut Text, flick: &Value, direction: &str) -> Result<(), Memory>
+    ensures { IfOk result (λ _. text.new ≡ text.old ++ flick_cap direction.now (get direction.now (view flick.now))) }
 {
-    match key {
+    match flick.get(direction) {
         None => Ok(()),
         Some(key) => {
             text.extend_from_slice(direction.as_bytes())?;
