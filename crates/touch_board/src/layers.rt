@@ -112,25 +112,14 @@ fn layer_with(
     ensures { IfOk result (λ made. made ≡ layer_with names.now platform.now id.now (items_view rows.now.items)) }
 {
     let mut keys = Seq::new(alloc);
-    add_rows(alloc, names, rows, &mut keys)?;
+    let height = add_rows(alloc, names, rows, &mut keys)?;
     Ok(TouchLayer {
         platform: Seq::from_slice(alloc, platform.as_bytes())?,
         id: Seq::from_slice(alloc, id.as_bytes())?,
         keys,
-        height: rows_height(rows),
+        height,
         width: rows_width(rows),
     })
-}
-
-/// Returns the height of rows.
-fn rows_height(rows: &Vec<Value>) -> u32
-    ensures { result ≡ rows_height 0 (items_view rows.now.items) }
-{
-    let mut top = 0;
-    for _row in rows {
-        top = below(top);
-    }
-    top
 }
 
 /// Returns the width of the widest of these rows.
@@ -165,21 +154,22 @@ fn row_end(keys: &Vec<Value>) -> u32
     place
 }
 
-/// Appends the keys of rows.
+/// Appends the keys of rows, and returns the height of the rows.
 fn add_rows(
     alloc: Global,
     names: &KeyDictionary,
     rows: &Vec<Value>,
     keys: &mut Seq<TouchKey>,
-) -> Result<(), Memory>
-    ensures { IfOk result (λ _. keys.new ≡ keys.old ++ rows_keys names.now 0 (items_view rows.now.items)) }
+) -> Result<u32, Memory>
+    ensures keys { IfOk result (λ _. keys.new ≡ keys.old ++ rows_keys names.now 0 (items_view rows.now.items)) }
+    ensures height { IfOk result (λ height. height ≡ rows_height 0 (items_view rows.now.items)) }
 {
     let mut top = 0;
     for row in rows {
         add_keys_at(alloc, names, top, list_in(row, "key"), keys)?;
         top = below(top);
     }
-    Ok(())
+    Ok(top)
 }
 
 /// Appends the keys of an optional list, at a height.
