@@ -20,9 +20,17 @@ pub fn layer_mods(id: &[u8]) -> u16
         has_word(b"rightalt", id),
         has_word(b"alt", id),
     );
-    let shift = if has_word(b"shift", id) { 16 } else { 0 };
-    let caps = if has_word(b"caps", id) { 256 } else { 0 };
+    let shift = flag_if(has_word(b"shift", id), 16);
+    let caps = flag_if(has_word(b"caps", id), 256);
     control + 4 * alt + shift + caps
+}
+
+/// Returns a flag if its word was found, else 0.
+fn flag_if(found: bool, flag: u16) -> u16
+    ensures is { result ≡ (if found then flag else 0) }
+    ensures most { result ≤ flag }
+{
+    if found { flag } else { 0 }
 }
 
 /// Returns the sides of a key that a text names, 1 for the left one and 2 for the right one.
