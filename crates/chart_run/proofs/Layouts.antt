@@ -14,12 +14,12 @@ use Rattle.keyman_run.specs.Work.Reading.{Bytes}
 use Rattle.chart_run.specs.Layouts.{layers_of, unless_broken}
 
 -- if a layout keeps all rules, its result is its layers
-pub layers_stated : (first second layout : List ℕ) (names : List (List ℕ)) (tables : Tables) (layers : List TouchLayer) → first ≡ layout → second ≡ layout
-    → names ≡ (tab tables).dictionary → layout_fault first tables ≡ None → layers ≡ touch_layers names second
+pub layers_stated : (slice layout : List ℕ) (names : List (List ℕ)) (tables : Tables) (layers : List TouchLayer) → slice ≡ layout
+    → names ≡ (tab tables).dictionary → layout_fault slice tables ≡ None → layers ≡ touch_layers names slice
     → States itself (layers_of tables (Bytes layout)) (Ok layers)
-layers_stated first second layout names tables layers same also known sound made =
+layers_stated slice layout names tables layers same known sound made =
     let none : layout_fault layout tables ≡ None = subst (λ (bytes : List ℕ). layout_fault bytes tables ≡ None) same sound in
-    let is : layers ≡ touch_layers (tab tables).dictionary layout = made ∙ (λ i. touch_layers (known i) (also i)) in
+    let is : layers ≡ touch_layers (tab tables).dictionary layout = made ∙ (λ i. touch_layers (known i) (same i)) in
     ap (unless_broken (touch_layers (tab tables).dictionary layout)) none
     ∙ ap (λ (found : List TouchLayer). let read : Result (List TouchLayer) Reason = Ok found in read) (sym is)
 

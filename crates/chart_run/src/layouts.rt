@@ -69,6 +69,7 @@ fn read_layout<F: Folder>(
         error,
         LONG_LAYOUT,
     ))?;
-    check_layout(alloc, layout.as_slice(), tables)?;
-    Ok(touch_layers(alloc, names, layout.as_slice())?)
+    let bytes = layout.as_slice();
+    check_layout(alloc, bytes, tables)?;
+    Ok(touch_layers(alloc, names, bytes)?)
 }

@@ -23,7 +23,7 @@ returns-in_err-check_layout g c =
     let is : c.read.result ≡ Ok c.in_ok-layout.layout = search rules in
     gives_handed itself (layout_work c.args.tables.now c.args.name.now) g.F.Folder _ _ (layout_stop c.in_err-check_layout.field-0.0) c.from_residual-in_err-check_layout.result c.from_residual-in_err-check_layout.ensures.1
     (gives_whole itself c.args.name.now TEXT_BYTES _ _ g.F.Folder c.args.folder.now _ c.read.result c.in_ok-layout.layout _ is (given_concludes (layers_of c.args.tables.now)) c.read.ensures.counts c.read.ensures.told c.read.ensures.reads
-    (broken_stated c.as_slice.result.now c.in_ok-layout.layout c.args.tables.now c.in_err-check_layout.field-0.0 c.as_slice.ensures c.in_err-check_layout.ensures.refused))
+    (broken_stated c.as_slice-bytes.result.now c.in_ok-layout.layout c.args.tables.now c.in_err-check_layout.field-0.0 c.as_slice-bytes.ensures c.in_err-check_layout.ensures.refused))
 
 pub returns-in_err-touch_layers : goal.returns-in_err-touch_layers
 returns-in_err-touch_layers g c =
@@ -35,5 +35,5 @@ pub returns : goal.returns
 returns g c =
     let is : c.read.result ≡ Ok c.in_ok-layout.layout = search rules in
     gives_whole itself c.args.name.now TEXT_BYTES _ _ g.F.Folder c.args.folder.now _ c.read.result c.in_ok-layout.layout _ is (given_concludes (layers_of c.args.tables.now)) c.read.ensures.counts c.read.ensures.told c.read.ensures.reads
-    (layers_stated c.as_slice.result.now c.as_slice-touch_layers.result.now c.in_ok-layout.layout c.args.names.now c.args.tables.now c.in_ok-touch_layers.field-0 c.as_slice.ensures c.as_slice-touch_layers.ensures c.requires
+    (layers_stated c.as_slice-bytes.result.now c.in_ok-layout.layout c.args.names.now c.args.tables.now c.in_ok-touch_layers.field-0 c.as_slice-bytes.ensures c.requires
     c.in_ok-check_layout.ensures.count.0 c.in_ok-touch_layers.ensures)
