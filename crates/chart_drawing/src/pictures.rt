@@ -102,12 +102,7 @@ fn put_chart_boards(
 
 /// Appends what is before the boards.
 #[tactic(auto, unfolding(crate::specs::Picture::head))]
-fn put_head(
-    text: &mut String,
-    width: u64,
-    height: usize,
-    title: &[char],
-) -> Result<(), AllocError>
+fn put_head(text: &mut String, width: u64, height: usize, title: &[char]) -> Result<(), AllocError>
     ensures { IfOk result (λ _. string_bytes text.new ≡ string_bytes text.old ++ head width height title.now) }
 {
     put_svg_head(text, width, height)?;

@@ -26,23 +26,8 @@ pub fn chart_run<F: Folder, S: Sink>(
     ensures { Runs words.now F.Folder folder.old folder.new S.Sink out.old out.new result }
 {
     match words {
-        [file, picture] => draw(
-            alloc,
-            file,
-            &FileName::of(picture),
-            None,
-            None,
-            folder,
-            out,
-        ),
-        [file, picture, last] => draw_last(
-            alloc,
-            file,
-            &FileName::of(picture),
-            last,
-            folder,
-            out,
-        ),
+        [file, picture] => draw(alloc, file, &FileName::of(picture), None, None, folder, out),
+        [file, picture, last] => draw_last(alloc, file, &FileName::of(picture), last, folder, out),
         [file, picture, keys, layout] => draw(
             alloc,
             file,

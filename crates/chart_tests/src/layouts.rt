@@ -9,15 +9,15 @@ use touch_board::{TouchLayer, layer_mods, touch_layers};
 use virtual_keys::KeyDictionary;
 
 /// A layout of a phone with one layer: a key with a long press, a flick, a multitap and another layer, a spacer, and a wide key.
-const LAYOUT: &str =
-    "{\"phone\": {\"layer\": [{\"id\": \"shift\", \"row\": [{\"key\": [
+const LAYOUT: &str = "{\"phone\": {\"layer\": [{\"id\": \"shift\", \"row\": [{\"key\": [
     {\"id\": \"K_A\", \"text\": \"<\", \"nextlayer\": \"default\", \"sk\": [{\"text\": \"b\"}, {\"id\": \"U_0063\"}],
         \"flick\": {\"e\": {\"text\": \"d\"}}, \"multitap\": [{\"text\": \"f\"}]},
     {\"id\": \"T_gap\", \"sp\": \"10\", \"width\": 50},
     {\"id\": \"T_hat\", \"width\": \"200\", \"pad\": 30}]}, {\"key\": [{\"id\": \"K_B\"}]}]}]}}";
 
 /// The board of this layer, in which the first key types an e.
-const BOARD: &str = "<g transform='translate(8,72)'><text class='state' x='0' y='-8'>phone shift</text>
+const BOARD: &str =
+    "<g transform='translate(8,72)'><text class='state' x='0' y='-8'>phone shift</text>
 <g class='ruled' transform='translate(9,0)'><title>&#60;: e U+0065</title><rect width='60' height='60' rx='6'/><text class='cap' x='6' y='13'>&#60;</text><text class='text' x='30' y='42' font-size='24'>e</text></g>
 <text class='cap' x='9' y='70'><title>&#62;default b U_0063 e:d tap:f </title>&#62;default b &#8230;</text>
 </g>
@@ -56,7 +56,14 @@ fn lies(rt: HostRuntime) -> Result<(), Fail> {
     for number in 0..3 {
         let key = &keys[number].key;
         let place = places[number];
-        assert!(rt; key.code == place.0 && key.left == place.1 && key.top == place.2 && key.width == place.3, "{}", number);
+        assert!(rt;
+            key.code == place.0
+                && key.left == place.1
+                && key.top == place.2
+                && key.width == place.3,
+            "{}",
+            number
+        );
     }
     assert!(rt; keys[1].key.cap.as_slice() == b"T_hat".as_slice() && keys[1].more.is_empty());
     Ok(())

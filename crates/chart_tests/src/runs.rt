@@ -95,7 +95,14 @@ fn runs(rt: HostRuntime) -> Result<(), Fail> {
         ("in out", &file, "", (0, 0), 0, "drawn bytes="),
         ("in out keys", &file, "[K_B]\n", (0, 0), 0, "drawn bytes="),
         ("in out x.json", &file, "", (0, 0), 0, "drawn bytes="),
-        ("in out keys x.json", &file, "[K_B]\n", (0, 0), 0, "drawn bytes="),
+        (
+            "in out keys x.json",
+            &file,
+            "[K_B]\n",
+            (0, 0),
+            0,
+            "drawn bytes=",
+        ),
         (
             "in out bad.json",
             &file,
