@@ -47,7 +47,7 @@ fn sides(left: bool, right: bool, either: bool) -> u16
 }
 
 /// Returns whether a text has a word somewhere.
-#[tactic(auto, using(crate::proofs::WordsFound::word_behind))]
+#[tactic(auto, using(crate::proofs::WordsFound::word_behind, crate::proofs::WordsFound::word_found))]
 fn has_word(word: &[u8], text: &[u8]) -> bool
     ensures { result ≡ has_word word.now text.now }
 {
