@@ -1,13 +1,10 @@
 -- A session after its touch keyboard shows a layer: the state is set, and the text is unchanged.
-use Rattle.std.proofs.Common.{◌≡◌, ℕ, List, Option, Some, None, map, position, refl, ap, ◌∙◌}
-use Rattle.std.specs.Prelude.{codes}
-use Rattle.kmn_base.specs.declared.events.Event.{Event}
+use Rattle.std.proofs.Common.{◌≡◌, ℕ, List, Option, Some, None, map, position, refl}
 use Rattle.kmn_base.specs.declared.events.Event.TheVariants as event
 use Rattle.kmn_base.specs.declared.items.Element.{Element}
 use Rattle.kmn_base.specs.declared.items.Element.TheVariants as element
-use Rattle.rule_model.specs.Event.{State, happening, has_name, only_state, set_option, setting_event, whole_text}
+use Rattle.rule_model.specs.Event.{State, happening, has_name, set_option, setting_event, whole_text}
 use Rattle.play_session.specs.Session.{SessionState, after_step}
-use Rattle.chart_cells.specs.Taps.{showing}
 
 -- an option that is set does not change the text
 same_text : (option : Option ℕ) (value : List Element) (state : State) → whole_text (set_option option value state) ≡ whole_text state

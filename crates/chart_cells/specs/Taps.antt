@@ -1,5 +1,5 @@
 -- What tapping the keys of a touch layout does.
-use Rattle.std.specs.Prelude.{ℕ, nat_eq, Bool, true, false, if◌then◌else◌, List, [], map, codes, Option, Some, None}
+use Rattle.std.specs.Prelude.{ℕ, nat_eq, true, false, if◌then◌else◌, List, [], map, codes, Option, Some, None}
 use Rattle.kmn_base.specs.declared.items.Item.TheVariants as item
 use Rattle.kmn_base.specs.Texts.{decoded}
 use Rattle.virtual_keys.specs.Dictionary.{name_chars}

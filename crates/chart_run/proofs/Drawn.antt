@@ -18,7 +18,7 @@ use Rattle.keyman_words.specs.Seen.{FolderView}
 use Rattle.keyman_words.specs.declared.reason.Reason.{Reason}
 use Rattle.keyman_run.specs.Inputs.{tables_of_file, unless_faulty}
 use Rattle.keyman_run.specs.Steps.{Gives, States, itself, verify_stop}
-use Rattle.keyman_run.specs.Work.{Work, given}
+use Rattle.keyman_run.specs.Work.{given}
 use Rattle.keyman_run.specs.declared.preparing.Stop.{Stop}
 use Rattle.keyman_run.specs.declared.preparing.Stop.TheVariants as stop
 use Rattle.keyman_run.proofs.RunLaws.{gives_as, gives_behind, gives_stopped}

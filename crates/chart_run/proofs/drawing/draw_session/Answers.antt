@@ -1,4 +1,4 @@
-use Rattle.std.proofs.Common.{List, ℕ, Option, ap, sym, subst}
+use Rattle.std.proofs.Common.{List, ℕ, Option, ap, subst}
 use Rattle.std.specs.Prelude.{option_map}
 use Rattle.rule_model.specs.Tab.{tab}
 use Rattle.rule_model.specs.declared.script.Entry.{Entry}
