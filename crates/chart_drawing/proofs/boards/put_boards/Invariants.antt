@@ -1,4 +1,4 @@
-use Rattle.std.proofs.Common.{◌≡◌, ℕ, ◌+◌, ◌*◌, ◌++◌, drop}
+use Rattle.std.proofs.Common.{◌≡◌, ◌+◌, ◌*◌, ◌++◌, drop}
 use Rattle.std.specs.String.{string_bytes}
 use Rattle.chart_drawing.specs.Boards.{boards}
 use Rattle.chart_drawing.proofs.boards.put_boards.Given as goal
