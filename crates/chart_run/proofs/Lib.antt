@@ -1,3 +1,3 @@
 pub mod Drawn
-pub mod Layouts
+pub mod LayoutsRead
 pub mod Plays

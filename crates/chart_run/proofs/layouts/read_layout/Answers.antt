@@ -9,7 +9,7 @@ use Rattle.keyman_run.proofs.InputLaws.{IsStopped, gives_stop, gives_whole, give
 use Rattle.keyman_run.proofs.RunLaws.{gives_handed}
 use Rattle.chart_run.specs.Layouts.{layers_of}
 use Rattle.chart_run.specs.Orders.{layout_work}
-use Rattle.chart_run.proofs.Layouts.{layers_stated, broken_stated}
+use Rattle.chart_run.proofs.LayoutsRead.{layers_stated, broken_stated}
 use Rattle.chart_run.proofs.layouts.read_layout.Goals as goal
 
 pub returns-in_err-layout : goal.returns-in_err-layout
