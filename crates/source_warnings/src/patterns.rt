@@ -1,6 +1,10 @@
 //! W14: `any` and `index` with a store that has no character and no deadkey.
 
 ghost use Rattle.std.specs.Prelude.{◌≡◌, ◌++◌, flat_map, IfOk, OnOk};
+ghost use Rattle.std.specs.List.{list_any};
+ghost use Rattle.source_uses.specs.Uses.{rule_uses};
+ghost use Rattle.source_uses.specs.declared.used.Part.TheVariants as part;
+ghost use Rattle.source_uses.specs.declared.used.Role.TheVariants as role;
 ghost use Rattle.source_warnings.specs.Patterns.{bare_name, bare_names, empty_pattern, empty_patterns, is_bare, is_text};
 
 use kmn_base::Memory;
@@ -21,12 +25,24 @@ pub(crate) fn add_empty_patterns(
 ) -> Result<(), Memory>
     ensures { OnOk result (found.new.items ≡ found.old.items ++ empty_patterns contents.now options.now program.now) }
 {
-    let stores = program.stores.as_slice();
-    let bare = bare_names(alloc, contents, options, false, stores)?;
     let matched = rule_uses(alloc, Role::Matched, Part::Context, program)?;
+    let bare = bare_names(alloc, contents, options, false, program.stores.as_slice())?;
     add_among(alloc, found, &bare, matched.as_slice())?;
-    let bare = bare_names(alloc, contents, options, true, stores)?;
+    add_keyed_patterns(alloc, found, contents, options, program)
+}
+
+/// Appends the warnings at each `index` of an output.
+fn add_keyed_patterns(
+    alloc: Global,
+    found: &mut Vec<Warning>,
+    contents: &Contents,
+    options: &NameTable,
+    program: &Program,
+) -> Result<(), Memory>
+    ensures { OnOk result (found.new.items ≡ found.old.items ++ flat_map (empty_pattern (bare_names contents.now options.now true program.now.stores)) (rule_uses role.Index part.Output program.now)) }
+{
     let put = rule_uses(alloc, Role::Index, Part::Output, program)?;
+    let bare = bare_names(alloc, contents, options, true, program.stores.as_slice())?;
     add_among(alloc, found, &bare, put.as_slice())
 }
 
@@ -71,8 +87,15 @@ fn is_bare(filled: bool, elements: &[StoreElement]) -> bool
 {
     match elements {
         [] => !filled,
-        _ => !elements.iter().any(|element| is_text(element)),
+        [first, rest @ ..] => !(is_text(first) || has_text(rest)),
     }
+}
+
+/// Returns whether an element is a character or a deadkey.
+fn has_text(elements: &[StoreElement]) -> bool
+    ensures { result ≡ list_any is_text elements.now }
+{
+    elements.iter().any(|element| is_text(element))
 }
 
 /// Returns whether an element is a character or a deadkey.

@@ -56,9 +56,22 @@ fn add_group_same(
     ensures { OnOk result (found.new.items ≡ found.old.items ++ same_in_group pressed.now.keys contents.now group.now) }
 {
     let rules = group.rules.as_slice();
-    if !group.using_keys || !are_plain_rules(rules) {
-        return Ok(());
+    if group.using_keys && are_plain_rules(rules) {
+        add_keyed_same(alloc, found, pressed, contents, rules)?;
     }
+    Ok(())
+}
+
+/// Appends the notes of a group with keys that has rules only.
+fn add_keyed_same(
+    alloc: Global,
+    found: &mut Vec<Warning>,
+    pressed: &IndexSet<char>,
+    contents: &Contents,
+    rules: &[RuleDef],
+) -> Result<(), Memory>
+    ensures { OnOk result (found.new.items ≡ found.old.items ++ flat_map (rule_same pressed.now.keys (repeated_after [] [] (group_characters contents.now rules.now))) rules.now) }
+{
     let characters = group_characters(alloc, contents, rules)?;
     let again = repeated(alloc, characters.as_slice())?;
     add_rules_same(found, pressed, &again, rules)
