@@ -39,7 +39,8 @@ fn all_warnings(alloc: Global, program: &Program, aside: &[Text]) -> Result<Vec<
     let contents = Contents::of(alloc, program)?;
     let options = option_names(alloc, program)?;
     let pairs = index_pairs(alloc, &options, program)?;
-    warnings_with(alloc, &contents, &options, pairs.as_slice(), program, aside)
+    let found = warnings_with(alloc, &contents, &options, pairs.as_slice(), program, aside)?;
+    Ok(found)
 }
 
 /// Returns all warnings of a program with these elements of stores, options and pairs of `index` and `any`.
