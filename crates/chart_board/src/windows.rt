@@ -63,8 +63,8 @@ fn is_char(item: Item) -> bool
     matches!(item, Item::Char(_))
 }
 
-/// Returns characters as items.
-fn char_items(alloc: Global, chars: &[char]) -> Result<Seq<Item>, Memory>
+/// Returns characters as items. Errors: `Memory` if an allocation fails.
+pub fn char_items(alloc: Global, chars: &[char]) -> Result<Seq<Item>, Memory>
     ensures { IfOk result (λ items. items ≡ map item.Char chars.now) }
 {
     let mut items = Seq::new(alloc);

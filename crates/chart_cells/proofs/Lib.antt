@@ -1,1 +1,2 @@
 pub mod Presses
+pub mod Showing

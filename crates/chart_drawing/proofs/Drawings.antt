@@ -3,7 +3,7 @@ use Rattle.std.proofs.Common.{◌≡◌, ℕ, zero, suc, ◌≤◌, min, List, [
 use Rattle.std.proofs.lemmas.List.{drop_all}
 use Rattle.chart_board.specs.declared.board.Key.{Key}
 use Rattle.chart_board.specs.declared.cells.Cell.{Cell}
-use Rattle.chart_drawing.specs.Picture.{key_drawings}
+use Rattle.chart_drawing.specs.Boards.{key_drawings}
 
 -- without cells there is no drawing
 no_cells : (mods : ℕ) (keys : List Key) → key_drawings mods keys [] ≡ []

@@ -1,3 +1,5 @@
+pub mod Boards
 pub mod Escaped
 pub mod Glyphs
 pub mod Picture
+pub mod Touch

@@ -3,7 +3,7 @@
 ghost use Rattle.std.specs.Prelude.{◌≡◌, ◌++◌, ◌<◌, ◌/◌, flat_map, IfOk};
 ghost use Rattle.std.specs.String.{string_bytes};
 ghost use Rattle.kmn_base.specs.Texts.{decoded};
-ghost use Rattle.chart_drawing.specs.Picture.{class, key_title, frame_head, key_frame, key_head, key_with_cap, key_drawing, key_drawings};
+ghost use Rattle.chart_drawing.specs.Boards.{class, key_title, frame_head, key_frame, key_head, key_with_cap, key_drawing, key_drawings};
 ghost use Rattle.chart_board.specs.States.{press_in};
 
 use crate::escaped::{put_all_escaped, put_cut};
@@ -31,8 +31,8 @@ pub(crate) fn put_keys(
 }
 
 /// Appends a key in a state, with what its press does.
-#[tactic(auto, unfolding(crate::specs::Picture::key_drawing))]
-fn put_key(
+#[tactic(auto, unfolding(crate::specs::Boards::key_drawing))]
+pub(crate) fn put_key(
     alloc: Global,
     text: &mut String,
     mods: u16,
@@ -46,7 +46,7 @@ fn put_key(
 }
 
 /// Appends a key with a key cap in a state, with what its press does.
-#[tactic(auto, unfolding(crate::specs::Picture::key_with_cap))]
+#[tactic(auto, unfolding(crate::specs::Boards::key_with_cap))]
 fn put_with_cap(
     alloc: Global,
     text: &mut String,
@@ -67,7 +67,7 @@ fn put_with_cap(
 }
 
 /// Returns the class of a key.
-#[tactic(auto, unfolding(crate::specs::Picture::class))]
+#[tactic(auto, unfolding(crate::specs::Boards::class))]
 fn class(press: KeyPress, cell: &Cell) -> &'static str
     ensures { result.now ≡ class press cell.now }
 {
@@ -81,7 +81,7 @@ fn class(press: KeyPress, cell: &Cell) -> &'static str
 }
 
 /// Appends the beginning of a key of a class.
-#[tactic(auto, unfolding(crate::specs::Picture::key_head))]
+#[tactic(auto, unfolding(crate::specs::Boards::key_head))]
 fn put_key_head(text: &mut String, class: &str, left: u32, top: u32) -> Result<(), AllocError>
     ensures { IfOk result (λ _. string_bytes text.new ≡ string_bytes text.old ++ key_head class.now left top) }
 {
@@ -92,7 +92,7 @@ fn put_key_head(text: &mut String, class: &str, left: u32, top: u32) -> Result<(
 }
 
 /// Appends the whole text of a key.
-#[tactic(auto, unfolding(crate::specs::Picture::key_title))]
+#[tactic(auto, unfolding(crate::specs::Boards::key_title))]
 fn put_title(alloc: Global, text: &mut String, cap: &[char], cell: &Cell) -> Result<(), Memory>
     ensures { IfOk result (λ _. string_bytes text.new ≡ string_bytes text.old ++ key_title cap.now cell.now) }
 {
@@ -105,7 +105,7 @@ fn put_title(alloc: Global, text: &mut String, cap: &[char], cell: &Cell) -> Res
 }
 
 /// Appends the frame of a key with its key cap.
-#[tactic(auto, unfolding(crate::specs::Picture::key_frame))]
+#[tactic(auto, unfolding(crate::specs::Boards::key_frame))]
 fn put_frame(text: &mut String, width: u32, cap: &[char]) -> Result<(), AllocError>
     ensures { IfOk result (λ _. string_bytes text.new ≡ string_bytes text.old ++ key_frame width cap.now) }
 {
@@ -115,7 +115,7 @@ fn put_frame(text: &mut String, width: u32, cap: &[char]) -> Result<(), AllocErr
 }
 
 /// Appends the frame of a key, and the beginning of its key cap.
-#[tactic(auto, unfolding(crate::specs::Picture::frame_head))]
+#[tactic(auto, unfolding(crate::specs::Boards::frame_head))]
 fn put_frame_head(text: &mut String, width: u32) -> Result<(), AllocError>
     ensures { IfOk result (λ _. string_bytes text.new ≡ string_bytes text.old ++ frame_head width) }
 {

@@ -1,15 +1,15 @@
 //! A chart as a drawing.
 
-ghost use Rattle.std.specs.Prelude.{◌≡◌, ◌++◌, ◌+◌, ◌*◌, ◌<◌, ◌≤◌, ◌^◌, flat_map, length, map, IfOk};
+ghost use Rattle.std.specs.Prelude.{◌≡◌, ◌++◌, ◌<◌, ◌≤◌, ◌^◌, length, IfOk};
 ghost use Rattle.std.specs.String.{string_bytes};
-ghost use Rattle.chart_drawing.specs.Picture.{flag_word, state_name, board_head, board, boards, board_height, picture_height, short_title, svg_head, style, page, title_line, head, legend_head, legend, foot, picture};
+ghost use Rattle.chart_drawing.specs.Picture.{boards_end, picture_height, picture_width, svg_head, style, page, title_line, head, legend, foot, chart_boards, picture};
 
-use crate::drawing::put_keys;
-use crate::escaped::put_all_escaped;
-use chart_board::{Chart, Key, Layer};
+use crate::boards::{board_height, put_boards, put_legend_head, put_short};
+use crate::touch::{below_boards, legend_height, put_touch, sum, widest};
+use chart_board::{Chart, Layer};
 use kmn_base::{Memory, Text};
 use std::alloc::{AllocError, Global};
-use virtual_keys::{has, modifiers};
+use touch_board::TouchLayer;
 
 /// The styles of what a drawing has.
 const STYLE: &str =
@@ -19,68 +19,106 @@ const STYLE: &str =
 const LEGEND: &str =
     "ring: a deadkey by its number &#183; &#8722;1: deletes one character first &#183; bell: beeps &#183; pale: as on a US board &#183; empty: passed on to the application";
 
-/// Returns the text of the drawing of a chart, which has at most 64 states, and fewer keys than twice the codes of 16 bits.
+/// Returns the text of the drawing of a chart, which has at most 64 states, and fewer keys than twice the codes of 16 bits. Below its boards
+/// are those of the layers of a touch layout, given what tapping the keys of each layer does.
 #[tactic(auto, unfolding(crate::specs::Picture::picture))]
-pub fn picture(alloc: Global, chart: &Chart) -> Result<Text, Memory>
+pub fn picture(
+    alloc: Global,
+    chart: &Chart,
+    layers: &[TouchLayer],
+    taps: &[Layer],
+) -> Result<Text, Memory>
     requires keys { length chart.now.keys < 2 ^ 17 }
     requires states { length chart.now.layers ≤ 64 }
-    ensures { IfOk result (λ text. text ≡ picture chart.now) }
+    ensures { IfOk result (λ text. text ≡ picture chart.now layers.now taps.now) }
+{
+    let height = picture_height(chart.keys.len(), chart.layers.len(), layers)?;
+    let mut text = String::new(alloc);
+    put_head(
+        &mut text,
+        picture_width(layers),
+        height,
+        chart.title.as_slice(),
+    )?;
+    put_chart_boards(alloc, &mut text, chart, layers, taps)?;
+    put_foot(&mut text, height - 8)?;
+    Ok(Text::from_string(text))
+}
+
+/// Returns the height of a drawing with these numbers of keys and states, and with layers. Errors: `Memory` if a memory of 64 bits can't
+/// hold the drawing.
+#[tactic(auto, unfolding(crate::specs::Picture::picture_height))]
+fn picture_height(keys: usize, states: usize, layers: &[TouchLayer]) -> Result<usize, Memory>
+    requires keys { keys < 2 ^ 17 }
+    requires states { states ≤ 64 }
+    ensures is { IfOk result (λ height. height ≡ picture_height keys states layers.now) }
+    ensures least { IfOk result (λ height. 8 ≤ height) }
+{
+    let boards = below_boards(boards_end(keys, states), layers)?;
+    sum(boards, legend_height(layers) + 24)
+}
+
+/// Returns the place below the boards of these numbers of keys and states.
+#[tactic(auto, unfolding(crate::specs::Picture::boards_end))]
+fn boards_end(keys: usize, states: usize) -> usize
+    requires keys { keys < 2 ^ 17 }
+    requires states { states ≤ 64 }
+    ensures { result ≡ boards_end keys states }
+{
+    72 + board_height(keys) * states
+}
+
+/// Returns the width of a drawing with layers.
+fn picture_width(layers: &[TouchLayer]) -> u64
+    ensures { result ≡ picture_width layers.now }
+{
+    u64::from(widest(layers)) + 16
+}
+
+/// Appends the boards of a chart, and those of layers below them.
+#[tactic(auto, unfolding(crate::specs::Picture::chart_boards))]
+fn put_chart_boards(
+    alloc: Global,
+    text: &mut String,
+    chart: &Chart,
+    layers: &[TouchLayer],
+    taps: &[Layer],
+) -> Result<(), Memory>
+    requires keys { length chart.now.keys < 2 ^ 17 }
+    requires states { length chart.now.layers ≤ 64 }
+    ensures { IfOk result (λ _. string_bytes text.new ≡ string_bytes text.old ++ chart_boards chart.now layers.now taps.now) }
 {
     let height = board_height(chart.keys.len());
-    let whole = picture_height(chart.keys.len(), chart.layers.len());
-    let mut text = String::new(alloc);
-    put_head(&mut text, whole, chart.title.as_slice())?;
     put_boards(
         alloc,
-        &mut text,
+        text,
         chart.keys.as_slice(),
         height,
         chart.layers.as_slice(),
     )?;
-    put_foot(&mut text, whole - 8)?;
-    Ok(Text::from_string(text))
-}
-
-/// Returns the height of a board with this number of keys.
-#[tactic(auto, unfolding(crate::specs::Picture::board_height))]
-fn board_height(keys: usize) -> usize
-    requires { keys < 2 ^ 32 }
-    ensures is { result ≡ board_height keys }
-    ensures within { result < 2 ^ 40 }
-{
-    64 * (5 + (keys.saturating_sub(52) + 14) / 15) + 40
-}
-
-/// Returns the height of a drawing with these numbers of keys and states.
-#[tactic(auto, unfolding(crate::specs::Picture::picture_height))]
-fn picture_height(keys: usize, states: usize) -> usize
-    requires keys { keys < 2 ^ 17 }
-    requires states { states ≤ 64 }
-    ensures is { result ≡ picture_height keys states }
-    ensures least { 8 ≤ result }
-{
-    72 + board_height(keys) * states + 24
+    let end = boards_end(chart.keys.len(), chart.layers.len());
+    put_touch(alloc, text, end, layers, taps)
 }
 
 /// Appends what is before the boards.
 #[tactic(auto, unfolding(crate::specs::Picture::head))]
-fn put_head(text: &mut String, height: usize, title: &[char]) -> Result<(), AllocError>
-    ensures { IfOk result (λ _. string_bytes text.new ≡ string_bytes text.old ++ head height title.now) }
+fn put_head(text: &mut String, width: u64, height: usize, title: &[char]) -> Result<(), AllocError>
+    ensures { IfOk result (λ _. string_bytes text.new ≡ string_bytes text.old ++ head width height title.now) }
 {
-    put_svg_head(text, height)?;
+    put_svg_head(text, width, height)?;
     text.push_str(style())?;
-    put_page(text, height)?;
+    put_page(text, width, height)?;
     put_title_line(text, title)
 }
 
 /// Appends the beginning of a drawing.
 #[tactic(auto, unfolding(crate::specs::Picture::svg_head))]
-fn put_svg_head(text: &mut String, height: usize) -> Result<(), AllocError>
-    ensures { IfOk result (λ _. string_bytes text.new ≡ string_bytes text.old ++ svg_head height) }
+fn put_svg_head(text: &mut String, width: u64, height: usize) -> Result<(), AllocError>
+    ensures { IfOk result (λ _. string_bytes text.new ≡ string_bytes text.old ++ svg_head width height) }
 {
     write!(
         text,
-        "<svg xmlns='http://www.w3.org/2000/svg' viewBox='0 0 976 {height}'>\n"
+        "<svg xmlns='http://www.w3.org/2000/svg' viewBox='0 0 {width} {height}'>\n"
     )
 }
 
@@ -94,10 +132,13 @@ fn style() -> &'static str
 
 /// Appends the background of a drawing.
 #[tactic(auto, unfolding(crate::specs::Picture::page))]
-fn put_page(text: &mut String, height: usize) -> Result<(), AllocError>
-    ensures { IfOk result (λ _. string_bytes text.new ≡ string_bytes text.old ++ page height) }
+fn put_page(text: &mut String, width: u64, height: usize) -> Result<(), AllocError>
+    ensures { IfOk result (λ _. string_bytes text.new ≡ string_bytes text.old ++ page width height) }
 {
-    write!(text, "<rect class='page' width='976' height='{height}'/>\n")
+    write!(
+        text,
+        "<rect class='page' width='{width}' height='{height}'/>\n"
+    )
 }
 
 /// Appends the title above the boards.
@@ -110,97 +151,6 @@ fn put_title_line(text: &mut String, title: &[char]) -> Result<(), AllocError>
     text.push_str("</text>\n")
 }
 
-/// Appends a title, cut at a number of places of it.
-#[tactic(auto, unfolding(crate::specs::Picture::short_title))]
-fn put_short(text: &mut String, limit: usize, title: &[char]) -> Result<(), AllocError>
-    requires { 1 ≤ limit }
-    ensures { IfOk result (λ _. string_bytes text.new ≡ string_bytes text.old ++ short_title limit title.now) }
-{
-    if title.len() <= limit {
-        return put_all_escaped(text, title);
-    }
-    put_all_escaped(text, &title[..limit - 1])?;
-    text.push_str("&#8230;")
-}
-
-/// Appends the boards of states.
-fn put_boards(
-    alloc: Global,
-    text: &mut String,
-    keys: &[Key],
-    height: usize,
-    layers: &[Layer],
-) -> Result<(), Memory>
-    requires { length layers.now * height + 72 < 2 ^ 64 }
-    ensures { IfOk result (λ _. string_bytes text.new ≡ string_bytes text.old ++ boards keys.now height 72 layers.now) }
-{
-    let mut top = 72;
-    for layer in layers {
-        put_board(alloc, text, keys, top, layer)?;
-        top += height;
-    }
-    Ok(())
-}
-
-/// Appends the board of a state.
-#[tactic(auto, unfolding(crate::specs::Picture::board))]
-fn put_board(
-    alloc: Global,
-    text: &mut String,
-    keys: &[Key],
-    top: usize,
-    layer: &Layer,
-) -> Result<(), Memory>
-    ensures { IfOk result (λ _. string_bytes text.new ≡ string_bytes text.old ++ board keys.now top layer.now) }
-{
-    put_board_head(text, top)?;
-    put_state(text, layer.mods)?;
-    text.push_str("</text>\n")?;
-    put_keys(alloc, text, layer.mods, keys, layer.cells.as_slice())?;
-    text.push_str("</g>\n")?;
-    Ok(())
-}
-
-/// Appends the beginning of a board.
-#[tactic(auto, unfolding(crate::specs::Picture::board_head))]
-fn put_board_head(text: &mut String, top: usize) -> Result<(), AllocError>
-    ensures { IfOk result (λ _. string_bytes text.new ≡ string_bytes text.old ++ board_head top) }
-{
-    write!(
-        text,
-        "<g transform='translate(8,{top})'><text class='state' x='0' y='-8'>"
-    )
-}
-
-/// Appends the name of a state.
-#[tactic(auto, unfolding(crate::specs::Picture::state_name))]
-fn put_state(text: &mut String, mods: u16) -> Result<(), AllocError>
-    ensures { IfOk result (λ _. string_bytes text.new ≡ string_bytes text.old ++ state_name mods) }
-{
-    if mods == 0 {
-        text.push_str("plain")
-    } else {
-        put_flags(text, mods, modifiers())
-    }
-}
-
-/// Appends the words of the flags that a state has.
-fn put_flags(
-    text: &mut String,
-    mods: u16,
-    table: &'static [(&'static str, u16)],
-) -> Result<(), AllocError>
-    ensures { IfOk result (λ _. string_bytes text.new ≡ string_bytes text.old ++ flat_map (flag_word mods) (map (λ row. (row.0.now, row.1)) table.now)) }
-{
-    for row in table {
-        if has(u32::from(mods), row.1) {
-            text.push_str(" ")?;
-            text.push_str(row.0)?;
-        }
-    }
-    Ok(())
-}
-
 /// Appends what is after the boards.
 #[tactic(auto, unfolding(crate::specs::Picture::foot))]
 fn put_foot(text: &mut String, top: usize) -> Result<(), AllocError>
@@ -209,14 +159,6 @@ fn put_foot(text: &mut String, top: usize) -> Result<(), AllocError>
     put_legend_head(text, top)?;
     text.push_str(legend())?;
     text.push_str("</text>\n</svg>\n")
-}
-
-/// Appends the beginning of a legend.
-#[tactic(auto, unfolding(crate::specs::Picture::legend_head))]
-fn put_legend_head(text: &mut String, top: usize) -> Result<(), AllocError>
-    ensures { IfOk result (λ _. string_bytes text.new ≡ string_bytes text.old ++ legend_head top) }
-{
-    write!(text, "<text class='legend' x='8' y='{top}'>")
 }
 
 /// Returns what the legend says.

@@ -1,5 +1,5 @@
 -- The drawing of a keyboard after a script, or why there is none.
-use Rattle.std.specs.Prelude.{◌≡◌, ℕ, nat_eq, nat_lt, if◌then◌else◌, List, [], ◌∷◌, ◌++◌, length, codes, Option, Some, None, Result, Ok, Err}
+use Rattle.std.specs.Prelude.{◌≡◌, ℕ, nat_eq, nat_lt, if◌then◌else◌, List, [], ◌∷◌, ◌++◌, length, map, codes, Option, Some, None, Result, Ok, Err}
 use Rattle.std.specs.List.{concat}
 use Rattle.std.specs.Fmt.{decimal}
 use Rattle.kmn_base.specs.Answers.{and_then}
@@ -22,6 +22,8 @@ use Rattle.keyman_run.specs.declared.preparing.Stop.{Stop}
 use Rattle.keyman_run.specs.declared.preparing.Stop.TheVariants as stop
 use Rattle.play_session.specs.Session.{SessionState}
 use Rattle.chart_cells.specs.Layers.{chart_of}
+use Rattle.chart_cells.specs.Taps.{layer_taps}
+use Rattle.touch_board.specs.declared.layers.TouchLayer.{TouchLayer}
 use Rattle.chart_drawing.specs.Picture.{picture}
 
 -- a state in which a key may be pressed as the event of this number: in a longer text, the press would be refused
@@ -53,9 +55,13 @@ Leads whole rest (Err stop.Memory) = Unit {0}
 abbrev pub script_state : Tables → List Entry → Result State Reason
 script_state tables entries = state_after (tab tables) 1 (events_of entries) (first_state (tab tables))
 
--- the text of the drawing: the chart of the state after a script
-unfoldable pub drawing : (title : List ℕ) → Tables → List Entry → Result (List ℕ) Reason
-drawing title tables entries = and_then (script_state tables entries) (λ state. Ok (picture (chart_of title tables state)))
+-- the picture of a state: its chart, and the layers of a touch layout with what tapping their keys does
+abbrev pub picture_in : (title : List ℕ) → List TouchLayer → Tables → State → List ℕ
+picture_in title layers tables state = picture (chart_of title tables state) layers (map (layer_taps tables state) layers)
+
+-- the text of the drawing: the picture of the state after a script
+unfoldable pub drawing : (title : List ℕ) → List TouchLayer → Tables → List Entry → Result (List ℕ) Reason
+drawing title layers tables entries = and_then (script_state tables entries) (λ state. Ok (picture_in title layers tables state))
 
 -- the bytes of a path after its last slash, if these bytes are before it
 abbrev pub name_from : List ℕ → List ℕ → List ℕ

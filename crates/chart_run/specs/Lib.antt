@@ -1,3 +1,4 @@
 pub mod Drawings
+pub mod Layouts
 pub mod Orders
 pub mod Runs

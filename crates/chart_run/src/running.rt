@@ -2,19 +2,21 @@
 
 ghost use Rattle.std.specs.Prelude.{◌≡◌, length, option_map, IfOk};
 ghost use Rattle.chart_run.specs.Drawings.{drawn_line};
-ghost use Rattle.chart_run.specs.Orders.{chart_work};
+ghost use Rattle.chart_run.specs.Orders.{chart_work, last_work};
 ghost use Rattle.chart_run.specs.Runs.{Runs};
 ghost use Rattle.keyman_run.specs.Run.{Does};
 
 use crate::drawing::read_drawing;
+use crate::layouts::is_layout;
 use keyman_run::print_stop;
 use keyman_words::{FileName, Status, print_result, write, write_status};
 use kmn_base::{Memory, Text};
 use kmn_outside::{Folder, Sink};
 use std::alloc::Global;
 
-/// Draws the compiled keyboard that the first argument names, and writes the drawing under the name in the second one. With a third
-/// argument, the keys are pressed after the script that it names. Other arguments result in `Status::Words` and no calls.
+/// Draws the compiled keyboard that the first argument names, and writes the drawing under the name in the second one. A third argument
+/// is the name of a touch layout by its end (`is_layout`), else that of a script, and a fourth one that of a touch layout. The keys are
+/// pressed after the script, and the layers of the layout are drawn too. Other arguments result in `Status::Words` and no calls.
 pub fn chart_run<F: Folder, S: Sink>(
     alloc: Global,
     words: &[Text],
@@ -24,9 +26,37 @@ pub fn chart_run<F: Folder, S: Sink>(
     ensures { Runs words.now F.Folder folder.old folder.new S.Sink out.old out.new result }
 {
     match words {
-        [file, picture] => draw(alloc, file, &FileName::of(picture), None, folder, out),
-        [file, picture, keys] => draw(alloc, file, &FileName::of(picture), Some(keys), folder, out),
+        [file, picture] => draw(alloc, file, &FileName::of(picture), None, None, folder, out),
+        [file, picture, last] => draw_last(alloc, file, &FileName::of(picture), last, folder, out),
+        [file, picture, keys, layout] => draw(
+            alloc,
+            file,
+            &FileName::of(picture),
+            Some(keys),
+            Some(layout),
+            folder,
+            out,
+        ),
         _ => Status::Words,
+    }
+}
+
+/// Draws a compiled keyboard with the touch layout of a name, or after the script of this name, and writes the drawing.
+#[tactic(auto, unfolding(crate::specs::Orders::last_work))]
+fn draw_last<F: Folder, S: Sink>(
+    alloc: Global,
+    file: &Text,
+    picture: &FileName<'_>,
+    last: &Text,
+    folder: &mut F,
+    out: &mut S,
+) -> Status
+    ensures { Does (last_work file.now picture.now last.now) F.Folder folder.old folder.new S.Sink out.old out.new result }
+{
+    if is_layout(last.as_slice()) {
+        draw(alloc, file, picture, None, Some(last), folder, out)
+    } else {
+        draw(alloc, file, picture, Some(last), None, folder, out)
     }
 }
 
@@ -36,12 +66,13 @@ fn draw<F: Folder, S: Sink>(
     file: &Text,
     picture: &FileName<'_>,
     keys: Option<&Text>,
+    layout: Option<&Text>,
     folder: &mut F,
     out: &mut S,
 ) -> Status
-    ensures { Does (chart_work file.now picture.now (option_map (λ name. name.now) keys.entry)) F.Folder folder.old folder.new S.Sink out.old out.new result }
+    ensures { Does (chart_work file.now picture.now (option_map (λ name. name.now) keys.entry) (option_map (λ name. name.now) layout.entry)) F.Folder folder.old folder.new S.Sink out.old out.new result }
 {
-    match read_drawing(alloc, file, keys, folder) {
+    match read_drawing(alloc, file, keys, layout, folder) {
         Ok(text) => match write(alloc, picture, text.as_slice(), folder) {
             Ok(()) => print_result(drawn_line(alloc, &text), Status::Done, out),
             Err(error) => write_status(error),

@@ -79,7 +79,7 @@ fn draws(rt: HostRuntime) -> Result<(), Fail> {
     let alloc = rt.alloc();
     let small = chart(alloc)?;
     assert!(rt; small.keys.len() == 2 && small.layers.len() == 1);
-    let drawn = picture(alloc, &small)?;
+    let drawn = picture(alloc, &small, &[], &[])?;
     let text = drawn.as_slice();
     assert!(rt; has_at(text, Some(0), HEAD));
     assert!(rt; has_at(text, place_of(text, b"</style>"), BOARDS));

@@ -8,7 +8,8 @@ use run_tests::commands::words;
 use std::alloc::Global;
 use std::test::Fail;
 
-/// A run with command-line arguments over a folder that contains a file `in` and a script `keys`. The folder call and the sink call
+/// A run with command-line arguments over a folder that contains a file `in`, a script `keys`, a touch layout `x.json`, and a file `bad.json`
+/// that is not JSON. The folder call and the sink call
 /// with these numbers fail. If a number is 0, no call fails.
 #[derive(Drop)]
 struct Run<'a> {
@@ -30,6 +31,14 @@ struct End<'a> {
 const KEY_A: &str =
     "<g class='ruled' transform='translate(112,128)'><title>A: b U+0062</title><rect width='60' height='60' rx='6'/><text class='cap' x='6' y='13'>A</text><text class='text' x='30' y='42' font-size='24'>b</text></g>\n";
 
+/// The key A of the touch layout.
+const TAP_A: &str =
+    "<g class='ruled' transform='translate(9,0)'><title>a: b U+0062</title><rect width='60' height='60' rx='6'/><text class='cap' x='6' y='13'>a</text><text class='text' x='30' y='42' font-size='24'>b</text></g>\n";
+
+/// A touch layout with the key A.
+const LAYOUT: &[u8] =
+    b"{\"phone\":{\"layer\":[{\"id\":\"default\",\"row\":[{\"key\":[{\"id\":\"K_A\",\"text\":\"a\"}]}]}]}}";
+
 /// Returns the file of one rule, `+ 'a' > 'b'`, with the version 17.0.
 fn one_rule() -> [u8; 122] {
     let mut file = ONE_RULE;
@@ -42,7 +51,8 @@ fn has(text: &[u8], part: &[u8]) -> bool {
     (0..text.len()).any(|place| text[place..].starts_with(part))
 }
 
-/// Returns whether a run ends like this. A run that ends with status 0 writes a drawing, which has the key A. If the write of the
+/// Returns whether a run ends like this. A run that ends with status 0 writes a drawing, which has the key A, and also the key A of the touch
+/// layout if the last argument is one. If the write of the
 /// drawing or the printing fails, the status is 4, and the folder has at least the first half of the drawing, with this key.
 fn ends(alloc: Global, run: &Run, end: &End) -> Result<bool, Fail> {
     let words = words(alloc, run.words)?;
@@ -55,6 +65,14 @@ fn ends(alloc: Global, run: &Run, end: &End) -> Result<bool, Fail> {
         Seq::from_slice(alloc, b"keys")?,
         Seq::from_slice(alloc, run.keys.as_bytes())?,
     ))?;
+    files.push((
+        Seq::from_slice(alloc, b"x.json")?,
+        Seq::from_slice(alloc, LAYOUT)?,
+    ))?;
+    files.push((
+        Seq::from_slice(alloc, b"bad.json")?,
+        Seq::from_slice(alloc, b"{")?,
+    ))?;
     let folder_fails = Vec::from_slice(alloc, &[run.folder_call])?;
     let mut folder = MemoryFolder::new(alloc, Seq::from_vec(files), Seq::from_vec(folder_fails));
     let sink_fails = Vec::from_slice(alloc, &[run.sink_call])?;
@@ -64,7 +82,8 @@ fn ends(alloc: Global, run: &Run, end: &End) -> Result<bool, Fail> {
     Ok(
         status.number() == end.status
             && sink.written().starts_with(end.printed.as_bytes())
-            && has(drawn, KEY_A.as_bytes()) == (end.status == 0 || end.status == 4),
+            && has(drawn, KEY_A.as_bytes()) == (end.status == 0 || end.status == 4)
+            && has(drawn, TAP_A.as_bytes()) == (end.status == 0 && run.words.ends_with("json")),
     )
 }
 
@@ -72,9 +91,27 @@ fn ends(alloc: Global, run: &Run, end: &End) -> Result<bool, Fail> {
 fn runs(rt: HostRuntime) -> Result<(), Fail> {
     let alloc = rt.alloc();
     let file = one_rule();
-    let rows: [(&str, &[u8], &str, (u32, u32), u8, &str); 10] = [
+    let rows: [(&str, &[u8], &str, (u32, u32), u8, &str); 14] = [
         ("in out", &file, "", (0, 0), 0, "drawn bytes="),
         ("in out keys", &file, "[K_B]\n", (0, 0), 0, "drawn bytes="),
+        ("in out x.json", &file, "", (0, 0), 0, "drawn bytes="),
+        (
+            "in out keys x.json",
+            &file,
+            "[K_B]\n",
+            (0, 0),
+            0,
+            "drawn bytes=",
+        ),
+        (
+            "in out bad.json",
+            &file,
+            "",
+            (0, 0),
+            1,
+            "refused T1 platform 0 layer 0 row 0 key 0\n",
+        ),
+        ("in out none.json", &file, "", (0, 0), 3, ""),
         ("in out", &file[..60], "", (0, 0), 1, "refused V01 at 60\n"),
         (
             "in out keys",

@@ -1,4 +1,5 @@
 pub mod Meanings
+pub mod WarningTexts
 pub mod Printed
 pub mod Orders
 pub mod Runs

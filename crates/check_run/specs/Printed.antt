@@ -1,11 +1,13 @@
 -- What a check of a source prints.
-use Rattle.std.specs.Prelude.{◌≡◌, ℕ, ◌-◌, nat_eq, if◌then◌else◌, List, [], ◌∷◌, ◌++◌, length, take, drop, find, flat_map, codes, Option, Some, None}
+use Rattle.std.specs.Prelude.{◌≡◌, ℕ, ◌-◌, nat_eq, Bool, not, if◌then◌else◌, List, [], ◌∷◌, ◌++◌, length, take, drop, find, flat_map, count_by, codes, Option, Some, None}
 use Rattle.std.specs.List.{concat}
 use Rattle.std.specs.Fmt.{decimal}
 use Rattle.kmn_base.specs.CodeTexts.{code_text}
 use Rattle.kmn_base.specs.declared.refusals.Refusal.{Refusal}
 use Rattle.rule_model.specs.Lines.{refusal_line}
 use Rattle.source_faults.specs.Faults.{in_lines}
+use Rattle.name_warnings.specs.declared.warning.Warning.{Warning}
+use Rattle.name_warnings.specs.declared.warning.WarningKind.{WarningKind}
 use Rattle.keyman_words.specs.Reasons.{reason_line}
 use Rattle.keyman_words.specs.Seen.{SinkView}
 use Rattle.keyman_words.specs.Tells.{Tells}
@@ -16,8 +18,11 @@ use Rattle.keyman_words.specs.declared.status.Status.TheVariants as status
 use Rattle.keyman_run.specs.Endings.{Ending}
 use Rattle.keyman_run.specs.declared.preparing.Stop.{Stop}
 use Rattle.keyman_run.specs.declared.preparing.Stop.TheVariants as stop
+use Rattle.check_run.specs.declared.findings.Findings.{Findings}
+use Rattle.check_run.specs.declared.findings.Findings.TheVariants as findings
 use Rattle.check_run.specs.declared.printing.TheConstants.{SHOWN}
 use Rattle.check_run.specs.Meanings.{meaning}
+use Rattle.check_run.specs.WarningTexts.{is_note, warning_code, warning_text}
 
 -- the line of a refusal, in the form that editors read: the given name of the source, the line, the code and its meaning
 unfoldable pub error_line : List ℕ → Refusal → List ℕ
@@ -47,27 +52,48 @@ error_lines file first sorted =
     flat_map (error_line file) (take SHOWN sorted)
     ++ (late_line file (late first (drop SHOWN sorted)) ++ rest_line (rest_count (drop SHOWN sorted) (late first (drop SHOWN sorted))))
 
--- the text of a source that is not refused
-abbrev pub clean_text : List ℕ
-clean_text = codes "checked warnings=0 notes=0\n"
-
 -- the text of refusals, the first of which compilation reports: its last line is the line of this refusal
 abbrev pub refused_text : List ℕ → Refusal → List Refusal → List ℕ
 refused_text file first refusals = error_lines file first (in_lines refusals) ++ refusal_line first
 
--- the status of a check with refusals
-abbrev pub check_status : List Refusal → Status
-check_status [] = status.Done
-check_status (first ∷ refusals) = status.Refused
+-- whether a warning is a note, and whether it is not
+abbrev pub is_noted : Warning → Bool
+is_noted warning = is_note warning.kind
 
--- the text of a check with refusals
-abbrev pub check_text : List ℕ → List Refusal → List ℕ
-check_text file [] = clean_text
-check_text file (first ∷ refusals) = refused_text file first (first ∷ refusals)
+abbrev pub is_warned : Warning → Bool
+is_warned warning = not (is_note warning.kind)
 
--- how a check ends with refusals
-abbrev pub check_ending : List ℕ → List Refusal → Ending
-check_ending file refusals = record { status = check_status refusals; file = None; printed = check_text file refusals }
+-- the word before the code of a warning or a note
+abbrev pub severity : WarningKind → List ℕ
+severity kind = if is_note kind then codes "note " else codes "warning "
+
+-- the line of a warning, in the form of the line of a refusal
+unfoldable pub warning_line : List ℕ → Warning → List ℕ
+warning_line file warning = concat (
+    file ∷ codes ":" ∷ decimal warning.line ∷ codes ": " ∷ severity warning.kind ∷ warning_code warning.kind ∷ codes ": "
+    ∷ warning_text warning.kind ∷ codes "\n" ∷ [])
+
+-- the last line of a source that is not refused: the number of warnings, and the number of notes
+abbrev pub counts_line : ℕ → ℕ → List ℕ
+counts_line warnings notes = concat (codes "checked warnings=" ∷ decimal warnings ∷ codes " notes=" ∷ decimal notes ∷ codes "\n" ∷ [])
+
+-- the text of a source that is not refused: the lines of its warnings, and their numbers
+abbrev pub accepted_text : List ℕ → List Warning → List ℕ
+accepted_text file warnings = flat_map (warning_line file) warnings ++ counts_line (count_by is_warned warnings) (count_by is_noted warnings)
+
+-- the status of a check: a source with warnings is not refused
+abbrev pub check_status : Findings → Status
+check_status (findings.Refused first refusals) = status.Refused
+check_status (findings.Accepted warnings) = status.Done
+
+-- the text of a check
+abbrev pub check_text : List ℕ → Findings → List ℕ
+check_text file (findings.Refused first refusals) = refused_text file first refusals
+check_text file (findings.Accepted warnings) = accepted_text file warnings
+
+-- how a check ends with what it finds
+abbrev pub check_ending : List ℕ → Findings → Ending
+check_ending file found = record { status = check_status found; file = None; printed = check_text file found }
 
 -- the line of a reason in the form that editors read: a limit that the picture or the file exceeds is an error of line 1. No other
 -- reason stops a check

@@ -1,28 +1,35 @@
-//! Reads a source by name and finds its refusals.
+//! Reads a source by name and finds its refusals or its warnings.
 
-ghost use Rattle.check_run.specs.Orders.{bytes_refusals_work, compiling_work, file_check_work, refusals_work, text_work};
+ghost use Rattle.std.specs.Prelude.{◌≡◌, IfOk};
+ghost use Rattle.source_warnings.specs.Aside.{aside_words};
+ghost use Rattle.source_warnings.specs.Warnings.{warnings};
+ghost use Rattle.check_run.specs.Orders.{bytes_check_work, file_check_work, findings_work, program_check_work, text_work};
 ghost use Rattle.keyman_run.specs.Steps.{Gives, itself};
 
+use crate::findings::Findings;
 use keyman_run::{Stop, at_line_one, compile_beside, read_stop};
 use keyman_words::{FileName, read};
 use kmn_base::limits::TEXT_BYTES;
-use kmn_base::{Code, Refusal, Seq};
-use kmn_compiler::{Compiled, front};
+use kmn_base::{Code, Memory, Seq};
+use kmn_compiler::front;
 use kmn_outside::Folder;
+use rule_checker::Checked;
+use rule_model::Program;
 use source_faults::faults;
+use source_warnings::{Warning, aside_words, warnings};
 use std::alloc::Global;
 
-/// Reads a source by name and returns its refusals. If no line is refused, reads the bitmap that the source names and checks the limits
-/// of the file.
-pub(crate) fn read_refusals<F: Folder>(
+/// Reads a source by name and returns what a check finds in it. If no line is refused, reads the bitmap that the source names and checks
+/// the limits of the file, and then finds the warnings.
+pub(crate) fn read_findings<F: Folder>(
     alloc: Global,
     source: &FileName<'_>,
     folder: &mut F,
-) -> Result<Seq<Refusal>, Stop>
-    ensures { Gives itself (refusals_work source.now) F.Folder folder.old folder.new result }
+) -> Result<Findings, Stop>
+    ensures { Gives itself (findings_work source.now) F.Folder folder.old folder.new result }
 {
     let bytes = read_text(alloc, source, folder)?;
-    find_refusals(alloc, source, bytes.as_slice(), folder)
+    find(alloc, source, bytes.as_slice(), folder)
 }
 
 /// Reads a source by name.
@@ -39,44 +46,57 @@ fn read_text<F: Folder>(
     ))
 }
 
-/// Finds the refusals of the bytes of a source.
-fn find_refusals<F: Folder>(
+/// Finds the refusals of the bytes of a source or, if there are none, its warnings.
+fn find<F: Folder>(
     alloc: Global,
     source: &FileName<'_>,
     bytes: &[u8],
     folder: &mut F,
-) -> Result<Seq<Refusal>, Stop>
-    ensures { Gives itself (bytes_refusals_work source.now bytes.now) F.Folder folder.old folder.new result }
+) -> Result<Findings, Stop>
+    ensures { Gives itself (bytes_check_work source.now bytes.now) F.Folder folder.old folder.new result }
 {
     let refusals = faults(alloc, bytes)?;
     match refusals.as_slice() {
         [] => check_file(alloc, source, bytes, folder),
-        _ => Ok(refusals),
+        [first, ..] => {
+            let first = *first;
+            Ok(Findings::Refused { first, refusals })
+        }
     }
 }
 
-/// Compiles the bytes of a source, and returns no refusals of lines.
+/// Compiles the bytes of a source, and finds its warnings.
 fn check_file<F: Folder>(
     alloc: Global,
     source: &FileName<'_>,
     bytes: &[u8],
     folder: &mut F,
-) -> Result<Seq<Refusal>, Stop>
+) -> Result<Findings, Stop>
     ensures { Gives itself (file_check_work source.now bytes.now) F.Folder folder.old folder.new result }
 {
-    compile(alloc, source, bytes, folder)?;
-    Ok(Seq::new(alloc))
+    let checked = front(alloc, bytes)?;
+    check_program(alloc, source, bytes, &checked, folder)
 }
 
-/// Compiles the bytes of a source with the bitmap that its program names.
-fn compile<F: Folder>(
+/// Compiles a program with the bitmap that it names, and finds its warnings. The bytes are those of its source.
+fn check_program<F: Folder>(
     alloc: Global,
     source: &FileName<'_>,
     bytes: &[u8],
+    checked: &Checked,
     folder: &mut F,
-) -> Result<Compiled, Stop>
-    ensures { Gives itself (compiling_work source.now bytes.now) F.Folder folder.old folder.new result }
+) -> Result<Findings, Stop>
+    ensures { Gives itself (program_check_work source.now bytes.now checked.now) F.Folder folder.old folder.new result }
 {
-    let checked = front(alloc, bytes)?;
-    compile_beside(alloc, source, &checked, folder)
+    compile_beside(alloc, source, checked, folder)?;
+    let warnings = find_warnings(alloc, bytes, checked.program())?;
+    Ok(Findings::Accepted { warnings })
+}
+
+/// Finds the warnings of a program. The bytes are those of its source.
+fn find_warnings(alloc: Global, bytes: &[u8], program: &Program) -> Result<Seq<Warning>, Memory>
+    ensures { IfOk result (λ found. found ≡ warnings program.now (aside_words bytes.now)) }
+{
+    let aside = aside_words(alloc, bytes)?;
+    warnings(alloc, program, aside.as_slice())
 }

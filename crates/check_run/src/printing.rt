@@ -2,12 +2,14 @@
 
 ghost use Rattle.std.specs.Prelude.{◌≡◌, ◌++◌, flat_map, IfOk, OnOk};
 ghost use Rattle.check_run.specs.Meanings.{meaning};
-ghost use Rattle.check_run.specs.Printed.{PrintsStopped, check_ending, clean_text, error_line, error_lines, late, late_line, reason_error, refused_text, rest_count, rest_line, stopped_text};
+ghost use Rattle.check_run.specs.Printed.{PrintsStopped, check_ending, error_line, error_lines, late, late_line, reason_error, refused_text, rest_count, rest_line, stopped_text};
 ghost use Rattle.keyman_words.specs.Tells.{Tells};
 
+use crate::findings::Findings;
 use crate::meanings::{program_meaning, statement_meaning, token_meaning};
+use crate::warning_lines::accepted_text;
 use keyman_run::Stop;
-use keyman_words::{Reason, Status, print_line, print_result, reason_line};
+use keyman_words::{Reason, Status, print_result, reason_line};
 use kmn_base::slices::{before, behind};
 use kmn_base::{Code, Memory, Refusal, Seq, Text};
 use kmn_outside::Sink;
@@ -17,22 +19,24 @@ use std::alloc::Global;
 /// The number of refusals that are printed because of their lines. The one that compilation reports is always printed.
 const SHOWN: usize = 100;
 
-/// What is printed if nothing is refused.
-const CLEAN: &str = "checked warnings=0 notes=0\n";
-
-/// Prints the refusals of a source with a name, the first of which compilation reports.
-pub(crate) fn print_refusals<S: Sink>(
+/// Prints what a check finds in a source with a name.
+#[tactic(auto, using(keyman_words::proofs::Printed::tells_made))]
+pub(crate) fn print_findings<S: Sink>(
     alloc: Global,
     file: &[u8],
-    refusals: &[Refusal],
+    findings: &Findings,
     out: &mut S,
 ) -> Status
-    ensures { Tells (check_ending file.now refusals.now).status (check_ending file.now refusals.now).printed S.Sink out.old out.new result }
+    ensures { Tells (check_ending file.now findings.now).status (check_ending file.now findings.now).printed S.Sink out.old out.new result }
 {
-    match refusals {
-        [] => print_line(CLEAN.as_bytes(), Status::Done, out),
-        [first, ..] => print_result(
-            refused_text(alloc, file, *first, refusals),
+    match findings {
+        Findings::Accepted { warnings } => print_result(
+            accepted_text(alloc, file, warnings.as_slice()),
+            Status::Done,
+            out,
+        ),
+        Findings::Refused { first, refusals } => print_result(
+            refused_text(alloc, file, *first, refusals.as_slice()),
             Status::Refused,
             out,
         ),

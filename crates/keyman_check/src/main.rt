@@ -1,8 +1,8 @@
-//! The program that checks a source: prints all of its refusals.
+//! The program that checks a source: prints all of its refusals, or its warnings.
 //!
 //! Depends on `keyman_words` (the command-line arguments, and the exit status as `status_number`) and on `check_run` (its
-//! function `check_run` reads a source in a folder and prints its refusals to a sink). `main` is one call of `run_words`, on the real files
-//! and standard output, with the arguments of the process.
+//! function `check_run` reads a source in a folder and prints what it finds to a sink). `main` is one call of `run_words`, on the real
+//! files and standard output, with the arguments of the process.
 #![tactic(auto)]
 
 ghost use Rattle.std.specs.Prelude.{◌≡◌, IfErr, IfOk};

@@ -34,8 +34,8 @@ pub fn words_of(alloc: Global, source: &str, logical: Logical) -> Result<Seq<Tex
     Ok(words)
 }
 
-/// Appends the words of a text.
-fn add_words(alloc: Global, words: &mut Seq<Text>, text: &[u8]) -> Result<(), Memory>
+/// Appends the words of a text, also those in quotes. Errors: `Memory` if an allocation fails.
+pub fn add_words(alloc: Global, words: &mut Seq<Text>, text: &[u8]) -> Result<(), Memory>
     ensures { OnOk result (words.new ≡ words.old ++ words_in [] text.now) }
 {
     let mut word = Seq::new(alloc);

@@ -1,7 +1,7 @@
 //! Tests the crates that read sources: `keys` tests `virtual_keys`, `lines` tests `kmn_lines`, and `tokens` tests `kmn_tokens`.
 //! `statements` tests `kmn_parser` on the sources in `rows`, each with its statements or its refusal. `names` tests `store_table` on
 //! programs, each with the first refusal of its names, and on one program with the numbers of its names. `faults` tests
-//! `source_faults` on sources, each with all of its refusals.
+//! `source_faults` on sources, each with all of its refusals, and `warnings` tests `source_warnings` on sources that are not refused.
 //!
 //! The tests are in a separate crate because a crate with tests is proved twice, once with its tests and once without. So each of
 //! the tested crates is proved once, and the tests are proved after it. `telling` writes what a program states in the notation of
@@ -27,3 +27,5 @@ mod statements;
 mod telling;
 #[cfg(test)]
 mod tokens;
+#[cfg(test)]
+mod warnings;

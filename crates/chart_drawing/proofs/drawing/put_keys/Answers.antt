@@ -1,6 +1,6 @@
 use Rattle.std.proofs.Common.{◌≡◌, ℕ, List, [], ◌++◌, drop, sym, ◌∙◌, ap, append-nil, arith}
 use Rattle.std.specs.String.{string_bytes}
-use Rattle.chart_drawing.specs.Picture.{key_drawings}
+use Rattle.chart_drawing.specs.Boards.{key_drawings}
 use Rattle.chart_drawing.proofs.Drawings.{drawn_all}
 use Rattle.chart_drawing.proofs.drawing.put_keys.Goals as goal
 

@@ -1,6 +1,6 @@
 use Rattle.std.proofs.Common.{◌≡◌, ◌++◌, drop}
 use Rattle.std.specs.String.{string_bytes}
-use Rattle.chart_drawing.specs.Picture.{key_drawings}
+use Rattle.chart_drawing.specs.Boards.{key_drawings}
 use Rattle.chart_drawing.proofs.drawing.put_keys.Given as goal
 
 abbrev pub invariant-loop-number : goal.invariant-loop-number

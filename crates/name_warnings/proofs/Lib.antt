@@ -1,0 +1,2 @@
+pub mod OwnValues
+pub mod Reached

@@ -1,0 +1,61 @@
+//! Tests what a check prints for small sources, and its exit status.
+
+use check_run::check_run;
+use kmn_base::Seq;
+use kmn_outside::{MemoryFolder, MemorySink};
+use run_tests::commands::words;
+use source_tests::fixtures::{is_row, parted, source_of};
+use std::alloc::Global;
+use std::test::Fail;
+
+/// Each row contains a source and, after ` ⇒ `, the exit status and the printed text for the source in a file `in`. In both, `¶` is a
+/// line feed.
+const CHECKS: &str = "\
+== nothing
+begin Unicode > use(main)¶group(main) using keys¶+ 'a' > 'b' ⇒ 0 checked warnings=0 notes=0¶
+== errors, in the order of lines, and no warnings beside them
+store(a) 'x'¶begin Unicode > use(main)¶group(main) using keys¶+ 'a' > outs(v)¶+ 'c' > 'd ⇒ 1 in:4: error C05: a store that is not stated¶in:5: error L03: a quote that is not closed¶refused L03 line 5¶
+== each text of a warning
+store(a) 'x'¶store(b) outs(a)¶begin Unicode > use(main)¶group(main) using keys¶+ 'a' > 'b' ⇒ 0 in:2: warning W01: store 'b' is used nowhere¶checked warnings=1 notes=0¶
+begin Unicode > use(main)¶group(main) using keys¶+ '^' > dk(hat)¶dk(hta) + 'a' > 'â' ⇒ 0 in:3: warning W02: deadkey 'hat' is put and never looked for¶in:4: warning W03: deadkey 'hta' is looked for and never put¶checked warnings=2 notes=0¶
+begin Unicode > use(main)¶group(main) using keys¶+ 'a' > 'b'¶group(late)¶'b' > 'c' ⇒ 0 in:4: warning W04: group 'late' is never entered¶checked warnings=1 notes=0¶
+store(v) 'aeiou'¶store(w) 'AEIO'¶begin Unicode > use(main)¶group(main) using keys¶any(v) + '^' > index(w, 1) ⇒ 0 in:5: warning W05: index('w') has 4 elements, any('v') 5¶checked warnings=1 notes=0¶
+store(o) '0'¶begin Unicode > use(main)¶group(main) using keys¶if(o = '1') if(o = '2') + 'a' > 'b'¶+ 'e' > set(o = '1') set(o = '2') ⇒ 0 in:4: warning W09: these conditions are never true together¶checked warnings=1 notes=0¶
+store(k) 'aé'¶begin Unicode > use(main)¶group(main) using keys¶+ 'é' > 'x'¶+ any(k) > 'y' ⇒ 0 in:4: warning W13: no press gives this key¶in:5: warning W13: 1 of 2 keys of 'k' are given by no press¶checked warnings=2 notes=0¶
+store(k) [K_A]¶begin Unicode > use(main)¶group(main) using keys¶any(k) + 'a' > 'x' ⇒ 0 in:4: warning W14: store 'k' has no character and no deadkey¶checked warnings=1 notes=0¶
+store(&name) 'one'¶store(&name) 'two'¶begin Unicode > use(main)¶group(main) using keys¶+ 'a' > 'b' ⇒ 0 in:2: warning W16: the first of these statements counts¶checked warnings=1 notes=0¶
+== notes are counted by themselves
+store(o) '0'¶store(p) '0'¶begin Unicode > use(main)¶group(main) using keys¶+ 'a' > set(o = '1')¶if(p = '0') + 'b' > save(p) ⇒ 0 in:5: warning W08: option 'o' is set and never asked for¶in:6: note W10: option 'p' is asked for, and nothing sets it¶in:6: warning W12: option 'p' is saved, and nothing sets it¶checked warnings=2 notes=1¶
+store(p) '0'¶begin Unicode > use(main)¶group(main) using keys¶if(p = 'öne') + 'c' > 'd'¶+ 'e' > set(p = '1')¶if(p = '1') + 'f' > 'g' ⇒ 0 in:4: note W11: option 'p' is never 'öne'¶checked warnings=0 notes=1¶
+begin Unicode > use(main)¶group(main) using keys¶+ 'a' > 'a'¶+ 'b' > 'B' ⇒ 0 in:3: note W15: the key gives this without a rule¶checked warnings=0 notes=1¶
+store(v) 'aeio'¶store(w) 'AEIOU'¶begin Unicode > use(main)¶group(main) using keys¶any(v) + '^' > index(w, 1) ⇒ 0 in:5: note W18: index('w') has more elements than any('v')¶checked warnings=0 notes=1¶
+== a line for another program may use what others do not
+store(a) 'x'¶begin Unicode > use(main)¶group(main) using keys¶$keymanweb: + 'q' > outs(a)¶+ 'a' > 'b' ⇒ 0 checked warnings=0 notes=0¶";
+
+/// Returns whether a source in a file `in` has the exit status and the printed text of its row.
+fn is_checked(alloc: Global, row: &str) -> Result<bool, Fail> {
+    let (source, wanted) = parted(row)?;
+    let (status, printed) = wanted.split_once(' ').ok_or("a row without a status")?;
+    let source = source_of(alloc, source)?;
+    let printed = source_of(alloc, printed)?;
+    let mut files = Vec::new(alloc);
+    files.push((
+        Seq::from_slice(alloc, b"in")?,
+        Seq::from_slice(alloc, source.as_bytes())?,
+    ))?;
+    let mut folder = MemoryFolder::new(alloc, Seq::from_vec(files), Seq::new(alloc));
+    let mut sink = MemorySink::new(alloc, Seq::new(alloc));
+    let words = words(alloc, "in")?;
+    let ended = check_run(alloc, words.as_slice(), &mut folder, &mut sink);
+    Ok(status.parse::<u8>().ok() == Some(ended.number()) && sink.written() == printed.as_bytes())
+}
+
+#[test]
+fn checks(rt: HostRuntime) -> Result<(), Fail> {
+    for row in CHECKS.lines() {
+        if is_row(&row) {
+            assert!(rt; is_checked(rt.alloc(), row)?, "{row}");
+        }
+    }
+    Ok(())
+}

@@ -1,0 +1,4 @@
+pub mod Chosen
+pub mod Denoted
+pub mod InLines
+pub mod Walks

@@ -1,0 +1,2 @@
+pub mod AsideBytes
+pub mod Pressed

@@ -1,0 +1,7 @@
+pub mod Aside
+pub mod Conditions
+pub mod Indexes
+pub mod Keys
+pub mod Patterns
+pub mod SameKeys
+pub mod Warnings

@@ -1,0 +1,4 @@
+pub mod Caps
+pub mod Layers
+pub mod Sizes
+pub mod Words
