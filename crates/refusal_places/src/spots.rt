@@ -1,0 +1,104 @@
+//! Where the token of a line begins that a refusal of the line is about.
+
+ghost use Rattle.std.specs.Prelude.{◌≡◌, ◌<◌, ◌^◌, ◌≤◌, length, slice_get, IfOk};
+ghost use Rattle.kmn_base.specs.declared.limits.TheConstants.{TEXT_BYTES};
+ghost use Rattle.kmn_items.specs.TokenTexts.{texts, with_texts};
+ghost use Rattle.kmn_lines.specs.Places.{IsPlaced};
+ghost use Rattle.refusal_places.specs.Spots.{group_again, spot_in, stop_place, token_spot};
+
+use crate::faulty::faulty_spot;
+use crate::spot::Spot;
+use kmn_base::{Code, CompileError, Memory};
+use kmn_items::{LineError, LineTokens};
+use kmn_lines::{Logical, Token};
+use kmn_parser::{LastGroup, Sign, place_of, read_line};
+use kmn_tokens::tokens;
+use std::alloc::Global;
+
+/// Returns where the token begins that a refusal of a logical line with this code is about. Errors: `Memory` if an allocation fails.
+pub(crate) fn spot_in(
+    alloc: Global,
+    source: &str,
+    logical: Logical,
+    code: Code,
+) -> Result<Option<Spot>, Memory>
+    requires few { length source.now ≤ TEXT_BYTES }
+    requires placed { IsPlaced source.now logical }
+    ensures { IfOk result (λ spot. spot ≡ spot_in source.now logical code) }
+{
+    match tokens(alloc, source, logical) {
+        Ok(tokens) => stop_spot(
+            alloc,
+            source.as_bytes(),
+            logical.first_line,
+            code,
+            tokens.as_slice(),
+        ),
+        Err(CompileError::Refused(_)) => Ok(faulty_spot(source, logical)),
+        Err(_) => Err(Memory),
+    }
+}
+
+/// Returns where the token begins at which reading the tokens of a line stops, for a refusal with this code.
+fn stop_spot(
+    alloc: Global,
+    source: &[u8],
+    line: u32,
+    code: Code,
+    tokens: &[Token],
+) -> Result<Option<Spot>, Memory>
+    requires { length tokens.now < 2 ^ 59 }
+    ensures { IfOk result (λ spot. spot ≡ token_spot (slice_get tokens.now (stop_place line code (with_texts source.now tokens.now)))) }
+{
+    let place = stop_place(alloc, line, code, LineTokens { source, tokens })?;
+    Ok(token_spot(tokens, place))
+}
+
+/// Returns the number of tokens before the one at which reading a line stops, for a refusal with this code. It is 0 if the line is read
+/// whole.
+fn stop_place(
+    alloc: Global,
+    line: u32,
+    code: Code,
+    tokens: LineTokens<'_>,
+) -> Result<usize, Memory>
+    requires { length (texts tokens) < 2 ^ 59 }
+    ensures { IfOk result (λ place. place ≡ stop_place line code (texts tokens.entry)) }
+{
+    match read_line(alloc, group_again(code, tokens), line, tokens) {
+        Ok(_) => Ok(0),
+        Err(LineError::Refused(fault)) => Ok(fault.at),
+        Err(LineError::Memory) => Err(Memory),
+    }
+}
+
+/// Returns the group in which a line is read again. Only `S03`, `S07` and `S08` depend on the group of a line.
+fn group_again(code: Code, tokens: LineTokens<'_>) -> LastGroup
+    ensures { result ≡ group_again code (texts tokens.entry) }
+{
+    match code {
+        Code::S03 => LastGroup::Missing,
+        Code::S07 => LastGroup::WithoutKeys,
+        Code::S08 => LastGroup::UsingKeys,
+        _ => {
+            if place_of(Sign::Plus, tokens) < place_of(Sign::Arrow, tokens) {
+                LastGroup::UsingKeys
+            } else {
+                LastGroup::WithoutKeys
+            }
+        }
+    }
+}
+
+/// Returns where the token at an index begins, if there is one.
+fn token_spot(tokens: &[Token], place: usize) -> Option<Spot>
+    ensures { result ≡ token_spot (slice_get tokens.now place) }
+{
+    match tokens.get(place) {
+        Some(token) => Some(Spot {
+            line: token.line,
+            at: token.from,
+        }),
+        None => None,
+    }
+}
