@@ -9,7 +9,7 @@ use Rattle.kmn_lines.specs.Lines.{logicals}
 use Rattle.kmn_lines.specs.declared.logical.Logical.{Logical}
 use Rattle.refusal_places.specs.Columns.{column_behind}
 use Rattle.refusal_places.specs.Spots.{spot_in}
-use Rattle.refusal_places.specs.declared.placed.Placed.{Placed}
+use Rattle.refusal_places.specs.declared.placed_refusal.Placed.{Placed}
 use Rattle.refusal_places.specs.declared.spot.Spot.{Spot}
 
 -- a refusal at the start of its line

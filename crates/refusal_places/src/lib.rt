@@ -9,11 +9,11 @@
 
 mod columns;
 mod faulty;
-mod placed;
+mod placed_refusal;
 mod placing;
 mod sizes;
 mod spot;
 mod spots;
 
-pub use placed::{Placed, at_start};
+pub use placed_refusal::{Placed, at_start};
 pub use placing::placed;

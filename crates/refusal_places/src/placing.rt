@@ -9,7 +9,7 @@ ghost use Rattle.refusal_places.specs.Placed.{at_start, is_of_whole, placed, pla
 ghost use Rattle.refusal_places.specs.Spots.{spot_in};
 
 use crate::columns::column_behind;
-use crate::placed::{Placed, at_start};
+use crate::placed_refusal::{Placed, at_start};
 use crate::spot::Spot;
 use crate::spots::spot_in;
 use kmn_base::limits::TEXT_BYTES;

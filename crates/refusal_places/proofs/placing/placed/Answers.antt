@@ -1,5 +1,5 @@
 use Rattle.std.proofs.Common.{◌≡◌, IfOk, List, subst, arith}
-use Rattle.refusal_places.specs.declared.placed.Placed.{Placed}
+use Rattle.refusal_places.specs.declared.placed_refusal.Placed.{Placed}
 use Rattle.refusal_places.proofs.PlacedBytes.{bytes_at_starts, text_is}
 use Rattle.refusal_places.proofs.placing.placed.Goals as goal
 
