@@ -3,7 +3,7 @@
 //! `kmn_tokens` returns the code of the first fault of a line, but not its place. A line with a fault is scanned again here, by the same
 //! steps.
 
-ghost use Rattle.std.specs.Prelude.{◌≡◌, ◌+◌, ◌^◌, ◌<◌, ◌≤◌, length, drop};
+ghost use Rattle.std.specs.Prelude.{◌≡◌, ◌<◌, ◌≤◌, length, drop};
 ghost use Rattle.kmn_base.specs.declared.limits.TheConstants.{TEXT_BYTES};
 ghost use Rattle.kmn_lines.specs.Lines.{parts_in};
 ghost use Rattle.kmn_lines.specs.Places.{IsPlaced};
@@ -52,7 +52,6 @@ fn fault_spot(line: u32, from: usize, bytes: &[u8]) -> Option<Spot>
 /// begins there.
 fn step(line: u32, at: usize, bytes: &[u8]) -> Result<usize, Spot>
     requires some { 0 < length bytes.now }
-    requires few { at + length bytes.now < 2 ^ 32 }
     ensures { Steps line at bytes.now result }
 {
     if is_blank(bytes[0]) {
@@ -61,10 +60,7 @@ fn step(line: u32, at: usize, bytes: &[u8]) -> Result<usize, Spot>
     let size = token_size(bytes);
     let text = before(bytes, size);
     if has_fault(text) {
-        return Err(Spot {
-            line,
-            at: at as u32,
-        });
+        return Err(Spot { line, at });
     }
     Ok(size)
 }

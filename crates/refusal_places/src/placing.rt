@@ -124,9 +124,9 @@ fn placed_at(source: &[u8], logical: Logical, refusal: Refusal, spot: Option<Spo
 }
 
 /// Returns the column of a position in the source, behind the beginning of a line.
-fn column_to(source: &[u8], from: u32, at: u32) -> usize
+fn column_to(source: &[u8], from: u32, at: usize) -> usize
     requires { length source.now ≤ TEXT_BYTES }
     ensures { result ≡ column_behind (drop from (take at source.now)) }
 {
-    column_behind(behind(before(source, at as usize), from as usize))
+    column_behind(behind(before(source, at), from as usize))
 }

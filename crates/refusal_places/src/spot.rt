@@ -4,5 +4,5 @@
 #[derive(Clone, Copy)]
 pub struct Spot {
     pub line: u32,
-    pub at: u32,
+    pub at: usize,
 }

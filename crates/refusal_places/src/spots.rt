@@ -50,7 +50,8 @@ fn stop_spot(
     requires { length tokens.now < 2 ^ 59 }
     ensures { IfOk result (λ spot. spot ≡ token_spot (slice_get tokens.now (stop_place line code (with_texts source.now tokens.now)))) }
 {
-    let place = stop_place(alloc, line, code, LineTokens { source, tokens })?;
+    let line_tokens = LineTokens { source, tokens };
+    let place = stop_place(alloc, line, code, line_tokens)?;
     Ok(token_spot(tokens, place))
 }
 
@@ -97,7 +98,7 @@ fn token_spot(tokens: &[Token], place: usize) -> Option<Spot>
     match tokens.get(place) {
         Some(token) => Some(Spot {
             line: token.line,
-            at: token.from,
+            at: token.from as usize,
         }),
         None => None,
     }
