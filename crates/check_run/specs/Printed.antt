@@ -49,7 +49,7 @@ is_warned warning = not (is_note warning.kind)
 abbrev pub severity : WarningKind → List ℕ
 severity kind = if is_note kind then codes "note " else codes "warning "
 
--- the line of a warning, in the form of the line of a refusal
+-- the line of a warning, in the form that editors read, without a column
 unfoldable pub warning_line : List ℕ → Warning → List ℕ
 warning_line file warning = concat (
     file ∷ codes ":" ∷ decimal warning.line ∷ codes ": " ∷ severity warning.kind ∷ warning_code warning.kind ∷ codes ": "
