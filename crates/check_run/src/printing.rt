@@ -94,12 +94,7 @@ fn refused_text(
 }
 
 /// Appends the lines of refusals.
-fn put_lines(
-    alloc: Global,
-    lines: &mut Text,
-    file: &[u8],
-    errors: &[Placed],
-) -> Result<(), Memory>
+fn put_lines(alloc: Global, lines: &mut Text, file: &[u8], errors: &[Placed]) -> Result<(), Memory>
     ensures { OnOk result (lines.new ≡ lines.old ++ flat_map (error_line file.now) errors.now) }
 {
     for error in errors {
