@@ -6,6 +6,7 @@ use Rattle.std.proofs.lemmas.Str.{IsUtf8-from_is_utf8, is_utf8-from_IsUtf8}
 use Rattle.std.proofs.lemmas.Bool.Decides.{nat_tests}
 use Rattle.kmn_base.specs.declared.limits.TheConstants.{TEXT_BYTES}
 use Rattle.kmn_base.specs.declared.refusals.Refusal.{Refusal}
+use Rattle.source_faults.specs.Faults.{name_faults}
 use Rattle.refusal_places.specs.Placed.{at_start, placed, placed_in}
 
 is_long : (n : ℕ) → TEXT_BYTES < n → nat_lt TEXT_BYTES n ≡ true
@@ -19,7 +20,7 @@ pub long_at_starts : (source : List ℕ) (refusals : List Refusal) → TEXT_BYTE
 unfolding placed
 long_at_starts source refusals long =
     λ j. if is_long (length source) long j then map at_start refusals
-    else (if not (is_utf8 source) then map at_start refusals else map (placed_in source) refusals)
+    else (if not (is_utf8 source) then map at_start refusals else map (placed_in source (name_faults source)) refusals)
 
 not_utf8 : (source : List ℕ) → (IsUtf8 source → ⊥) → is_utf8 source ≡ false
 not_utf8 source none = by (is_utf8 source) refl
@@ -32,7 +33,7 @@ other_bytes : (source : List ℕ) (refusals : List Refusal) → length source �
 unfolding placed
 other_bytes source refusals short none =
     λ j. if is_short (length source) short j then map at_start refusals
-    else (if not (none j) then map at_start refusals else map (placed_in source) refusals)
+    else (if not (none j) then map at_start refusals else map (placed_in source (name_faults source)) refusals)
 
 -- in a source that is not in UTF-8, too
 pub bytes_at_starts : (source : List ℕ) (refusals : List Refusal) → length source ≤ TEXT_BYTES → (IsUtf8 source → ⊥)
@@ -40,14 +41,14 @@ pub bytes_at_starts : (source : List ℕ) (refusals : List Refusal) → length s
 bytes_at_starts source refusals short none = sym (other_bytes source refusals short (not_utf8 source none))
 
 plain_text : (source : List ℕ) (refusals : List Refusal) → length source ≤ TEXT_BYTES → is_utf8 source ≡ true
-    → placed source refusals ≡ map (placed_in source) refusals
+    → placed source refusals ≡ map (placed_in source (name_faults source)) refusals
 unfolding placed
 plain_text source refusals short text =
     λ j. if is_short (length source) short j then map at_start refusals
-    else (if not (text j) then map at_start refusals else map (placed_in source) refusals)
+    else (if not (text j) then map at_start refusals else map (placed_in source (name_faults source)) refusals)
 
 -- in a text, each refusal stands at its place
 pub text_is : (source text : List ℕ) (refusals : List Refusal) → length source ≤ TEXT_BYTES → text ≡ source → IsUtf8 source
-    → map (placed_in text) refusals ≡ placed source refusals
+    → map (placed_in text (name_faults text)) refusals ≡ placed source refusals
 text_is source text refusals short same utf8 =
-    ap (λ bytes. map (placed_in bytes) refusals) same ∙ sym (plain_text source refusals short (is_utf8-from_IsUtf8 source utf8))
+    ap (λ bytes. map (placed_in bytes (name_faults bytes)) refusals) same ∙ sym (plain_text source refusals short (is_utf8-from_IsUtf8 source utf8))

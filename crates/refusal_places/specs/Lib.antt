@@ -1,3 +1,4 @@
 pub mod Columns
+pub mod Names
 pub mod Spots
 pub mod Placed

@@ -7,7 +7,10 @@ use Rattle.kmn_base.specs.declared.limits.TheConstants.{TEXT_BYTES}
 use Rattle.kmn_base.specs.declared.refusals.Refusal.{Refusal}
 use Rattle.kmn_lines.specs.Lines.{logicals}
 use Rattle.kmn_lines.specs.declared.logical.Logical.{Logical}
+use Rattle.source_names.specs.declared.causes.NameFault.{NameFault}
+use Rattle.source_faults.specs.Faults.{name_faults}
 use Rattle.refusal_places.specs.Columns.{column_behind}
+use Rattle.refusal_places.specs.Names.{name_at}
 use Rattle.refusal_places.specs.Spots.{spot_in}
 use Rattle.refusal_places.specs.declared.placed_refusal.Placed.{Placed}
 use Rattle.refusal_places.specs.declared.spot.Spot.{Spot}
@@ -33,18 +36,20 @@ placed_at source line found None = at_start found
 placed_at source line found (Some spot) =
     record { line = spot.line; column = column_behind (drop line.from (take spot.at source)); code = found.code }
 
--- a refusal at its spot in the one of these lines that has its number
-abbrev pub placed_among : List ℕ → Refusal → List Logical → Placed
-placed_among source found [] = at_start found
-placed_among source found (line ∷ lines) =
-    if nat_eq line.first_line found.line then placed_at source line found (spot_in source line found.code) else placed_among source found lines
+-- a refusal at its spot in the one of these lines that has its number, for the name that the line lacks
+abbrev pub placed_among : List ℕ → Refusal → List ℕ → List Logical → Placed
+placed_among source found name [] = at_start found
+placed_among source found name (line ∷ lines) =
+    if nat_eq line.first_line found.line then placed_at source line found (spot_in source line found.code name)
+    else placed_among source found name lines
 
--- a refusal of a source in UTF-8
-abbrev pub placed_in : List ℕ → Refusal → Placed
-placed_in source found = if is_of_whole found.code then at_start found else placed_among source found (logicals source)
+-- a refusal of a source in UTF-8, for the causes for which names refuse its lines
+abbrev pub placed_in : List ℕ → List NameFault → Refusal → Placed
+placed_in source faults found =
+    if is_of_whole found.code then at_start found else placed_among source found (name_at found.line faults) (logicals source)
 
 -- refusals of a source, each at its place; a source that is too long or not in UTF-8 has no lines
 unfoldable pub placed : List ℕ → List Refusal → List Placed
 placed source refusals =
     if nat_lt TEXT_BYTES (length source) then map at_start refusals
-    else (if not (is_utf8 source) then map at_start refusals else map (placed_in source) refusals)
+    else (if not (is_utf8 source) then map at_start refusals else map (placed_in source (name_faults source)) refusals)

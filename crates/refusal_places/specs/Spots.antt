@@ -18,6 +18,7 @@ use Rattle.kmn_parser.specs.declared.statement.LastGroup.{LastGroup}
 use Rattle.kmn_parser.specs.declared.statement.LastGroup.TheVariants.{Missing, UsingKeys, WithoutKeys}
 use Rattle.kmn_parser.specs.declared.statement.Sign.TheVariants as sign
 use Rattle.kmn_parser.specs.declared.statement.Statement.{Statement}
+use Rattle.refusal_places.specs.Names.{named_token}
 use Rattle.refusal_places.specs.declared.spot.Spot.{Spot}
 
 -- the beginning of a token in a physical line
@@ -62,14 +63,19 @@ abbrev pub token_spot : Option Token → Option Spot
 token_spot None = None
 token_spot (Some token) = Some (spot_at token.line token.from)
 
--- where the token begins that a refusal of a line is about, for the tokens of the line or their refusal: the token at which reading the
--- line stops, or the first one with a fault
-abbrev pub scan_spot : List ℕ → Logical → Code → Result (List Token) Refusal → Option Spot
-scan_spot source line code (Ok tokens) = token_spot (slice_get tokens (stop_place line.first_line code (with_texts source tokens)))
-scan_spot source line code (Err found) = parts_spot source (parts_in source line)
+-- where the token begins that a refusal of a line is about, among its tokens: the one with the name that the line lacks, or the one at which
+-- reading the line stops
+abbrev pub tokens_spot : List ℕ → ℕ → Code → List ℕ → List Token → Option Spot
+tokens_spot source line code name tokens =
+    option_or (token_spot (named_token source code name [] [] tokens)) (token_spot (slice_get tokens (stop_place line code (with_texts source tokens))))
 
-abbrev pub spot_in : List ℕ → Logical → Code → Option Spot
-spot_in source line code = scan_spot source line code (scanned_line source line)
+-- the same for the tokens of a line or their refusal, which is at the first token with a fault
+abbrev pub scan_spot : List ℕ → Logical → Code → List ℕ → Result (List Token) Refusal → Option Spot
+scan_spot source line code name (Ok tokens) = tokens_spot source line.first_line code name tokens
+scan_spot source line code name (Err found) = parts_spot source (parts_in source line)
+
+abbrev pub spot_in : List ℕ → Logical → Code → List ℕ → Option Spot
+spot_in source line code name = scan_spot source line code name (scanned_line source line)
 
 -- a step at the beginning of a text: the size of a blank or of a token without a fault, after which the search goes on, or where a token
 -- with a fault begins

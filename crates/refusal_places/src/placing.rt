@@ -7,8 +7,10 @@ ghost use Rattle.kmn_lines.specs.Places.{IsPlaced};
 ghost use Rattle.refusal_places.specs.Columns.{column_behind};
 ghost use Rattle.refusal_places.specs.Placed.{at_start, is_of_whole, placed, placed_among, placed_at, placed_in};
 ghost use Rattle.refusal_places.specs.Spots.{spot_in};
+ghost use Rattle.source_faults.specs.Faults.{name_faults};
 
 use crate::columns::column_behind;
+use crate::names::name_at;
 use crate::placed_refusal::{Placed, at_start};
 use crate::spot::Spot;
 use crate::spots::spot_in;
@@ -16,6 +18,8 @@ use kmn_base::limits::TEXT_BYTES;
 use kmn_base::slices::{before, behind};
 use kmn_base::{Code, Memory, Refusal, Seq};
 use kmn_lines::{Logical, lines};
+use source_faults::name_faults;
+use source_names::NameFault;
 use std::alloc::Global;
 use std::str;
 
@@ -48,25 +52,43 @@ fn at_starts(alloc: Global, refusals: &[Refusal]) -> Result<Seq<Placed>, Memory>
 /// Returns refusals of a source in UTF-8, each with its place.
 fn text_placed(alloc: Global, source: &str, refusals: &[Refusal]) -> Result<Seq<Placed>, Memory>
     requires { length source.now ≤ TEXT_BYTES }
-    ensures { IfOk result (λ list. list ≡ map (placed_in source.now) refusals.now) }
+    ensures { IfOk result (λ list. list ≡ map (placed_in source.now (name_faults source.now)) refusals.now) }
+{
+    let faults = name_faults(alloc, source)?;
+    all_placed(alloc, source, faults.as_slice(), refusals)
+}
+
+/// Returns refusals, each with its place, for the causes for which names refuse lines.
+fn all_placed(
+    alloc: Global,
+    source: &str,
+    faults: &[NameFault],
+    refusals: &[Refusal],
+) -> Result<Seq<Placed>, Memory>
+    requires { length source.now ≤ TEXT_BYTES }
+    ensures { IfOk result (λ list. list ≡ map (placed_in source.now faults.now) refusals.now) }
 {
     let mut list = Seq::new(alloc);
     for refusal in refusals {
-        list.add(placed_in(alloc, source, *refusal)?)?;
+        list.add(placed_in(alloc, source, faults, *refusal)?)?;
     }
     Ok(list)
 }
 
 /// Returns a refusal of a source in UTF-8 with its place.
-fn placed_in(alloc: Global, source: &str, refusal: Refusal) -> Result<Placed, Memory>
+fn placed_in(
+    alloc: Global,
+    source: &str,
+    faults: &[NameFault],
+    refusal: Refusal,
+) -> Result<Placed, Memory>
     requires { length source.now ≤ TEXT_BYTES }
-    ensures { IfOk result (λ found. found ≡ placed_in source.now refusal) }
+    ensures { IfOk result (λ found. found ≡ placed_in source.now faults.now refusal) }
 {
     if is_of_whole(refusal.code) {
-        Ok(at_start(refusal))
-    } else {
-        placed_among(alloc, source, refusal)
+        return Ok(at_start(refusal));
     }
+    placed_among(alloc, source, refusal, name_at(refusal.line, faults))
 }
 
 /// Returns whether a code is about the source or the program as a whole.
@@ -81,13 +103,18 @@ fn is_of_whole(code: Code) -> bool
 
 /// Returns a refusal with its place in the line that has its number.
 #[tactic(auto, using(kmn_parser::proofs::LineLemmas::by_recursion))]
-fn placed_among(alloc: Global, source: &str, refusal: Refusal) -> Result<Placed, Memory>
+fn placed_among(
+    alloc: Global,
+    source: &str,
+    refusal: Refusal,
+    name: &[u8],
+) -> Result<Placed, Memory>
     requires { length source.now ≤ TEXT_BYTES }
-    ensures { IfOk result (λ found. found ≡ placed_among source.now refusal (logicals source.now)) }
+    ensures { IfOk result (λ found. found ≡ placed_among source.now refusal name.now (logicals source.now)) }
 {
     for logical in lines(source) {
         if logical.first_line == refusal.line {
-            return placed_on(alloc, source, logical, refusal);
+            return placed_on(alloc, source, logical, refusal, name);
         }
     }
     Ok(at_start(refusal))
@@ -99,12 +126,13 @@ fn placed_on(
     source: &str,
     logical: Logical,
     refusal: Refusal,
+    name: &[u8],
 ) -> Result<Placed, Memory>
     requires few { length source.now ≤ TEXT_BYTES }
     requires placed { IsPlaced source.now logical }
-    ensures { IfOk result (λ found. found ≡ placed_at source.now logical refusal (spot_in source.now logical refusal.code)) }
+    ensures { IfOk result (λ found. found ≡ placed_at source.now logical refusal (spot_in source.now logical refusal.code name.now)) }
 {
-    let spot = spot_in(alloc, source, logical, refusal.code)?;
+    let spot = spot_in(alloc, source, logical, refusal.code, name)?;
     Ok(placed_at(source.as_bytes(), logical, refusal, spot))
 }
 

@@ -9,5 +9,5 @@ use Rattle.refusal_places.proofs.placing.placed_among.Given as goal
 abbrev pub invariant-loop-logical : goal.invariant-loop-logical
 invariant-loop-logical l = record {
   placed : AllByRecursion (IsPlaced l.source) (lines_left l.logical-iterator);
-  rest : placed_among l.source l.refusal (lines_left l.logical-iterator) ≡ placed_among l.source l.refusal (logicals l.source);
+  rest : placed_among l.source l.refusal l.name (lines_left l.logical-iterator) ≡ placed_among l.source l.refusal l.name (logicals l.source);
 }
