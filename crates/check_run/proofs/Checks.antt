@@ -17,6 +17,7 @@ use Rattle.keyman_run.proofs.RunLaws.{gives_as, gives_no_memory, gives_refused, 
 use Rattle.check_run.specs.declared.findings.Findings.{Findings}
 use Rattle.check_run.specs.declared.findings.Findings.TheVariants as findings
 use Rattle.check_run.specs.Orders.{bytes_check_work, file_check_work, further_work, warnings_found}
+use Rattle.check_run.specs.Shown.{refused_lines}
 
 none_if_short : (refusals : List Refusal) → length refusals < 1 → refusals ≡ []
 none_if_short [] few = refl
@@ -31,18 +32,19 @@ module _ {F : Type 0} (source bytes : List ℕ) (folders : FolderView F) (folder
       (ap (further_work source bytes) (sym (none_if_short refusals few) ∙ is)) gives
 
   more_given : (other : Refusal) (found : List Refusal) → 1 ≤ length found
-      → Gives itself (further_work source bytes found) folders folder folder (Ok (findings.Refused (get_or found 0 other) found))
+      → Gives itself (further_work source bytes found) folders folder folder (Ok (refused_lines bytes (get_or found 0 other) found))
   more_given other [] some = absurd (omega (arith, some))
-  more_given other (first ∷ others) some = gives_value itself folders folder (findings.Refused first (first ∷ others))
+  more_given other (first ∷ others) some = gives_value itself folders folder (refused_lines bytes first (first ∷ others))
 
-  -- with a refused line, its refusals are the result, and the first of them is the one that compilation reports
-  pub refuses_lines : (listed : List Refusal) (other : Refusal) → listed ≡ refusals → 1 ≤ length listed
-      → Gives itself (bytes_check_work source bytes) folders folder folder (Ok (findings.Refused (get_or listed 0 other) refusals))
-  refuses_lines listed other same some =
-      gives_as itself (further_work source bytes refusals) (bytes_check_work source bytes) folders folder folder (Ok (findings.Refused (get_or listed 0 other) refusals))
+  -- with a refused line, the refusals are the result, and the first of them is the one that compilation reports
+  pub refuses_lines : (listed : List Refusal) (other : Refusal) (found : Findings) → listed ≡ refusals → 1 ≤ length listed
+      → found ≡ refused_lines bytes (get_or listed 0 other) refusals → Gives itself (bytes_check_work source bytes) folders folder folder (Ok found)
+  refuses_lines listed other found same some is_found =
+      gives_as itself (further_work source bytes refusals) (bytes_check_work source bytes) folders folder folder (Ok found)
       (ap (further_work source bytes) is)
-      (subst (λ (list : List Refusal). Gives itself (further_work source bytes refusals) folders folder folder (Ok (findings.Refused (get_or list 0 other) refusals))) (sym same)
-      (more_given other refusals (subst (λ (list : List Refusal). 1 ≤ length list) same some)))
+      (subst (λ (value : Findings). Gives itself (further_work source bytes refusals) folders folder folder (Ok value)) (sym is_found)
+      (subst (λ (list : List Refusal). Gives itself (further_work source bytes refusals) folders folder folder (Ok (refused_lines bytes (get_or list 0 other) refusals))) (sym same)
+      (more_given other refusals (subst (λ (list : List Refusal). 1 ≤ length list) same some))))
 
 -- the warnings of a program are what is found
 pub warnings_given : {F : Type 0} (bytes : List ℕ) (program : Program) (folders : FolderView F) (folder : F) (found : List Warning) → found ≡ warnings program (aside_words bytes)

@@ -1,5 +1,6 @@
 pub mod Meanings
 pub mod WarningTexts
+pub mod Shown
 pub mod Printed
 pub mod Orders
 pub mod Runs

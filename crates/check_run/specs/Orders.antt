@@ -18,6 +18,7 @@ use Rattle.keyman_run.specs.Work.Reading.{Bytes, Over}
 use Rattle.keyman_run.specs.Work.Work.{Give, Refuse, Read}
 use Rattle.check_run.specs.declared.findings.Findings.{Findings}
 use Rattle.check_run.specs.declared.findings.Findings.TheVariants as findings
+use Rattle.check_run.specs.Shown.{refused_lines}
 use Rattle.check_run.specs.Printed.{check_ending, stopped_ending}
 
 -- the bytes of a source, unless it is over the size limit
@@ -41,10 +42,10 @@ program_check_work source bytes program = and_then (file_work source program) (�
 abbrev pub file_check_work : (source bytes : List ℕ) → Work Findings
 file_check_work source bytes = and_then (given (by_line (checked bytes))) (program_check_work source bytes)
 
--- refusals of lines are what is found; if there are none, check the bytes further
+-- refused lines are what is found; if there are none, check the bytes further
 abbrev pub further_work : (source bytes : List ℕ) → List Refusal → Work Findings
 further_work source bytes [] = file_check_work source bytes
-further_work source bytes (first ∷ refusals) = Give (findings.Refused first (first ∷ refusals))
+further_work source bytes (first ∷ refusals) = Give (refused_lines bytes first (first ∷ refusals))
 
 -- check bytes
 abbrev pub bytes_check_work : (source bytes : List ℕ) → Work Findings

@@ -1,11 +1,12 @@
 -- What a check of a source prints.
-use Rattle.std.specs.Prelude.{◌≡◌, ℕ, ◌-◌, nat_eq, Bool, not, if◌then◌else◌, List, [], ◌∷◌, ◌++◌, length, take, drop, find, flat_map, count_by, codes, Option, Some, None}
+use Rattle.std.specs.Prelude.{◌≡◌, ℕ, nat_eq, Bool, not, if◌then◌else◌, List, [], ◌∷◌, ◌++◌, flat_map, count_by, codes, None}
 use Rattle.std.specs.List.{concat}
 use Rattle.std.specs.Fmt.{decimal}
 use Rattle.kmn_base.specs.CodeTexts.{code_text}
 use Rattle.kmn_base.specs.declared.refusals.Refusal.{Refusal}
 use Rattle.rule_model.specs.Lines.{refusal_line}
-use Rattle.source_faults.specs.Faults.{in_lines}
+use Rattle.refusal_places.specs.Placed.{at_start}
+use Rattle.refusal_places.specs.declared.placed_refusal.Placed.{Placed}
 use Rattle.name_warnings.specs.declared.warning.Warning.{Warning}
 use Rattle.name_warnings.specs.declared.warning.WarningKind.{WarningKind}
 use Rattle.keyman_words.specs.Reasons.{reason_line}
@@ -20,41 +21,22 @@ use Rattle.keyman_run.specs.declared.preparing.Stop.{Stop}
 use Rattle.keyman_run.specs.declared.preparing.Stop.TheVariants as stop
 use Rattle.check_run.specs.declared.findings.Findings.{Findings}
 use Rattle.check_run.specs.declared.findings.Findings.TheVariants as findings
-use Rattle.check_run.specs.declared.printing.TheConstants.{SHOWN}
 use Rattle.check_run.specs.Meanings.{meaning}
 use Rattle.check_run.specs.WarningTexts.{is_note, warning_code, warning_text}
 
--- the line of a refusal, in the form that editors read: the given name of the source, the line, the code and its meaning
-unfoldable pub error_line : List ℕ → Refusal → List ℕ
-error_line file found = concat (
-    file ∷ codes ":" ∷ decimal found.line ∷ codes ": error " ∷ code_text found.code ∷ codes ": " ∷ meaning found.code ∷ codes "\n" ∷ [])
-
--- the refusal that compilation reports, if it is among the others
-abbrev pub late : Refusal → List Refusal → Option Refusal
-late first others = find (λ (found : Refusal). nat_eq found.line first.line) others
-
-abbrev pub late_line : List ℕ → Option Refusal → List ℕ
-late_line file None = []
-late_line file (Some found) = error_line file found
-
--- the number of the others that are not printed
-abbrev pub rest_count : List Refusal → Option Refusal → ℕ
-rest_count others None = length others
-rest_count others (Some found) = length others - 1
+-- the line of a refusal, in the form that editors read: the given name of the source, the line, the column, the code and its meaning
+unfoldable pub error_line : List ℕ → Placed → List ℕ
+error_line file error = concat (
+    file ∷ codes ":" ∷ decimal error.line ∷ codes ":" ∷ decimal error.column ∷ codes ": error " ∷ code_text error.code ∷ codes ": "
+    ∷ meaning error.code ∷ codes "\n" ∷ [])
 
 -- the line for refusals that are not printed
 abbrev pub rest_line : ℕ → List ℕ
 rest_line count = if nat_eq count 0 then [] else concat (codes "and " ∷ decimal count ∷ codes " more\n" ∷ [])
 
--- the lines of refusals in the order of lines: of the first ones, and of the one that compilation reports
-abbrev pub error_lines : List ℕ → Refusal → List Refusal → List ℕ
-error_lines file first sorted =
-    flat_map (error_line file) (take SHOWN sorted)
-    ++ (late_line file (late first (drop SHOWN sorted)) ++ rest_line (rest_count (drop SHOWN sorted) (late first (drop SHOWN sorted))))
-
--- the text of refusals, the first of which compilation reports: its last line is the line of this refusal
-abbrev pub refused_text : List ℕ → Refusal → List Refusal → List ℕ
-refused_text file first refusals = error_lines file first (in_lines refusals) ++ refusal_line first
+-- the text of refusals and of the number of those that are not printed: its last line is the one of the refusal that compilation reports
+abbrev pub refused_text : List ℕ → Refusal → List Placed → ℕ → List ℕ
+refused_text file first errors more = flat_map (error_line file) errors ++ (rest_line more ++ refusal_line first)
 
 -- whether a warning is a note, and whether it is not
 abbrev pub is_noted : Warning → Bool
@@ -67,7 +49,7 @@ is_warned warning = not (is_note warning.kind)
 abbrev pub severity : WarningKind → List ℕ
 severity kind = if is_note kind then codes "note " else codes "warning "
 
--- the line of a warning, in the form of the line of a refusal
+-- the line of a warning, in the form that editors read, without a column
 unfoldable pub warning_line : List ℕ → Warning → List ℕ
 warning_line file warning = concat (
     file ∷ codes ":" ∷ decimal warning.line ∷ codes ": " ∷ severity warning.kind ∷ warning_code warning.kind ∷ codes ": "
@@ -83,12 +65,12 @@ accepted_text file warnings = flat_map (warning_line file) warnings ++ counts_li
 
 -- the status of a check: a source with warnings is not refused
 abbrev pub check_status : Findings → Status
-check_status (findings.Refused first refusals) = status.Refused
+check_status (findings.Refused first errors more) = status.Refused
 check_status (findings.Accepted warnings) = status.Done
 
 -- the text of a check
 abbrev pub check_text : List ℕ → Findings → List ℕ
-check_text file (findings.Refused first refusals) = refused_text file first refusals
+check_text file (findings.Refused first errors more) = refused_text file first errors more
 check_text file (findings.Accepted warnings) = accepted_text file warnings
 
 -- how a check ends with what it finds
@@ -96,10 +78,10 @@ abbrev pub check_ending : List ℕ → Findings → Ending
 check_ending file found = record { status = check_status found; file = None; printed = check_text file found }
 
 -- the line of a reason in the form that editors read: a limit that the picture or the file exceeds is an error of line 1. No other
--- reason stops a check
+-- reason stops a check. Its place is the start of its line
 abbrev pub reason_error : List ℕ → Reason → List ℕ
-reason_error file (reason.Line found) = error_line file found
-reason_error file (reason.Size code size) = error_line file (record { line = 1; code = code })
+reason_error file (reason.Line found) = error_line file (at_start found)
+reason_error file (reason.Size code size) = error_line file (at_start (record { line = 1; code = code }))
 reason_error file other = []
 
 -- the text of a reason for which a check stops: its last line is the line that compilation prints

@@ -7,6 +7,7 @@ ghost use Rattle.check_run.specs.Orders.{bytes_check_work, file_check_work, find
 ghost use Rattle.keyman_run.specs.Steps.{Gives, itself};
 
 use crate::findings::Findings;
+use crate::shown::refused_lines;
 use keyman_run::{Stop, at_line_one, compile_beside, read_stop};
 use keyman_words::{FileName, read};
 use kmn_base::limits::TEXT_BYTES;
@@ -58,10 +59,7 @@ fn find<F: Folder>(
     let refusals = faults(alloc, bytes)?;
     match refusals.as_slice() {
         [] => check_file(alloc, source, bytes, folder),
-        [first, ..] => {
-            let first = *first;
-            Ok(Findings::Refused { first, refusals })
-        }
+        [first, ..] => Ok(refused_lines(alloc, bytes, *first, &refusals)?),
     }
 }
 

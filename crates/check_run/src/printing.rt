@@ -2,7 +2,7 @@
 
 ghost use Rattle.std.specs.Prelude.{◌≡◌, ◌++◌, flat_map, IfOk, OnOk};
 ghost use Rattle.check_run.specs.Meanings.{meaning};
-ghost use Rattle.check_run.specs.Printed.{PrintsStopped, check_ending, error_line, error_lines, late, late_line, reason_error, refused_text, rest_count, rest_line, stopped_text};
+ghost use Rattle.check_run.specs.Printed.{PrintsStopped, check_ending, error_line, reason_error, refused_text, rest_line, stopped_text};
 ghost use Rattle.keyman_words.specs.Tells.{Tells};
 
 use crate::findings::Findings;
@@ -10,14 +10,10 @@ use crate::meanings::{program_meaning, statement_meaning, token_meaning};
 use crate::warning_lines::accepted_text;
 use keyman_run::Stop;
 use keyman_words::{Reason, Status, print_result, reason_line};
-use kmn_base::slices::{before, behind};
 use kmn_base::{Code, Memory, Refusal, Seq, Text};
 use kmn_outside::Sink;
-use source_faults::sort_by_line;
+use refusal_places::{Placed, at_start};
 use std::alloc::Global;
-
-/// The number of refusals that are printed because of their lines. The one that compilation reports is always printed.
-const SHOWN: usize = 100;
 
 /// Prints what a check finds in a source with a name.
 #[tactic(auto, using(keyman_words::proofs::Printed::tells_made))]
@@ -35,8 +31,12 @@ pub(crate) fn print_findings<S: Sink>(
             Status::Done,
             out,
         ),
-        Findings::Refused { first, refusals } => print_result(
-            refused_text(alloc, file, *first, refusals.as_slice()),
+        Findings::Refused {
+            first,
+            errors,
+            more,
+        } => print_result(
+            refused_text(alloc, file, *first, errors.as_slice(), *more),
             Status::Refused,
             out,
         ),
@@ -70,108 +70,50 @@ fn reason_error(alloc: Global, file: &[u8], why: Reason) -> Result<Text, Memory>
     ensures { IfOk result (λ line. line ≡ reason_error file.now why) }
 {
     match why {
-        Reason::Line(refusal) => error_line(alloc, file, refusal),
-        Reason::Size { code, .. } => error_line(alloc, file, Refusal { line: 1, code }),
+        Reason::Line(refusal) => error_line(alloc, file, at_start(refusal)),
+        Reason::Size { code, .. } => error_line(alloc, file, at_start(Refusal { line: 1, code })),
         _ => Ok(Seq::new(alloc)),
     }
 }
 
-/// Returns the text of refusals, the first of which compilation reports.
+/// Returns the text of refusals that are printed, and of the number of the others. The first refusal is the one that compilation reports.
 fn refused_text(
     alloc: Global,
     file: &[u8],
     first: Refusal,
-    refusals: &[Refusal],
+    errors: &[Placed],
+    more: usize,
 ) -> Result<Text, Memory>
-    ensures { IfOk result (λ text. text ≡ refused_text file.now first refusals.now) }
+    ensures { IfOk result (λ text. text ≡ refused_text file.now first errors.now more) }
 {
-    let sorted = sort_by_line(alloc, refusals)?;
-    let mut text = error_lines(alloc, file, first, sorted.as_slice())?;
+    let mut text = Seq::new(alloc);
+    put_lines(alloc, &mut text, file, errors)?;
+    put_rest(alloc, &mut text, more)?;
     text.append(reason_line(alloc, Reason::Line(first))?)?;
     Ok(text)
 }
 
-/// Returns the lines of refusals in the order of lines.
-fn error_lines(
-    alloc: Global,
-    file: &[u8],
-    first: Refusal,
-    sorted: &[Refusal],
-) -> Result<Text, Memory>
-    ensures { IfOk result (λ lines. lines ≡ error_lines file.now first sorted.now) }
-{
-    let others = behind(sorted, SHOWN);
-    let late = late(first, others);
-    let mut lines = Seq::new(alloc);
-    put_lines(alloc, &mut lines, file, before(sorted, SHOWN))?;
-    put_late(alloc, &mut lines, file, late)?;
-    put_rest(alloc, &mut lines, rest_count(others, late))?;
-    Ok(lines)
-}
-
-/// Returns the refusal that compilation reports, if it is among the others.
-fn late(first: Refusal, others: &[Refusal]) -> Option<Refusal>
-    ensures { result ≡ late first others.now }
-{
-    for other in others {
-        if other.line == first.line {
-            return Some(*other);
-        }
-    }
-    None
-}
-
-/// Appends the line of a refusal, if there is one.
-fn put_late(
-    alloc: Global,
-    lines: &mut Text,
-    file: &[u8],
-    late: Option<Refusal>,
-) -> Result<(), Memory>
-    ensures { OnOk result (lines.new ≡ lines.old ++ late_line file.now late) }
-{
-    match late {
-        Some(found) => lines.append(error_line(alloc, file, found)?),
-        None => Ok(()),
-    }
-}
-
-/// Returns the number of the others that are not printed.
-fn rest_count(others: &[Refusal], late: Option<Refusal>) -> usize
-    ensures { result ≡ rest_count others.now late }
-{
-    match late {
-        Some(_) => others.len().saturating_sub(1),
-        None => others.len(),
-    }
-}
-
 /// Appends the lines of refusals.
-fn put_lines(
-    alloc: Global,
-    lines: &mut Text,
-    file: &[u8],
-    refusals: &[Refusal],
-) -> Result<(), Memory>
-    ensures { OnOk result (lines.new ≡ lines.old ++ flat_map (error_line file.now) refusals.now) }
+fn put_lines(alloc: Global, lines: &mut Text, file: &[u8], errors: &[Placed]) -> Result<(), Memory>
+    ensures { OnOk result (lines.new ≡ lines.old ++ flat_map (error_line file.now) errors.now) }
 {
-    for refusal in refusals {
-        lines.append(error_line(alloc, file, *refusal)?)?;
+    for error in errors {
+        lines.append(error_line(alloc, file, *error)?)?;
     }
     Ok(())
 }
 
 /// Returns the line of a refusal.
 #[tactic(auto, unfolding(crate::specs::Printed::error_line))]
-fn error_line(alloc: Global, file: &[u8], refusal: Refusal) -> Result<Text, Memory>
-    ensures { IfOk result (λ line. line ≡ error_line file.now refusal) }
+fn error_line(alloc: Global, file: &[u8], error: Placed) -> Result<Text, Memory>
+    ensures { IfOk result (λ line. line ≡ error_line file.now error) }
 {
     let mut line = Seq::from_slice(alloc, file)?;
-    let place = format!(in alloc; ":{}: error ", refusal.line)?;
+    let place = format!(in alloc; ":{}:{}: error ", error.line, error.column)?;
     line.extend_from_slice(place.as_bytes())?;
-    line.extend_from_slice(refusal.code.text())?;
+    line.extend_from_slice(error.code.text())?;
     line.extend_from_slice(b": ")?;
-    put_meaning(&mut line, refusal.code)?;
+    put_meaning(&mut line, error.code)?;
     line.extend_from_slice(b"\n")?;
     Ok(line)
 }

@@ -14,7 +14,15 @@ const CHECKS: &str = "\
 == nothing
 begin Unicode > use(main)¶group(main) using keys¶+ 'a' > 'b' ⇒ 0 checked warnings=0 notes=0¶
 == errors, in the order of lines, and no warnings beside them
-store(a) 'x'¶begin Unicode > use(main)¶group(main) using keys¶+ 'a' > outs(v)¶+ 'c' > 'd ⇒ 1 in:4: error C05: a store that is not stated¶in:5: error L03: a quote that is not closed¶refused L03 line 5¶
+store(a) 'x'¶begin Unicode > use(main)¶group(main) using keys¶+ 'a' > outs(v)¶+ 'c' > 'd ⇒ 1 in:4:14: error C05: a store that is not stated¶in:5:9: error L03: a quote that is not closed¶refused L03 line 5¶
+== columns count characters, in the physical line of the token
+begin Unicode > use(main)¶group(main) using keys¶  + 'â' > 'é𐐀' hello ⇒ 1 in:3:16: error S06: an item that may not stand in an output or a store¶refused S06 line 3¶
+begin Unicode > use(main)¶group(main) using keys¶+ 'a' > \\¶  'b¶  'c' > 'd' ⇒ 1 in:4:3: error L03: a quote that is not closed¶in:5:3: error S08: no + in a group with keys¶refused L03 line 3¶
+begin Unicode > use(main)¶group(main)¶$keyman: 'a' + 'b' > 'c' ⇒ 1 in:3:14: error S07: a + in a group without keys¶refused S07 line 3¶
+== the name that a line lacks
+begin Unicode > use(mian)¶group(main) using keys¶dk(v) + 'a' > dk(v) $v ⇒ 1 in:1:21: error C06: a group that is not stated¶in:3:21: error C05: a store that is not stated¶refused C06 line 1¶
+== a refusal without a token
+ ⇒ 1 in:1:1: error C01: no begin Unicode¶refused C01 line 1¶
 == each text of a warning
 store(a) 'x'¶store(b) outs(a)¶begin Unicode > use(main)¶group(main) using keys¶+ 'a' > 'b' ⇒ 0 in:2: warning W01: store 'b' is used nowhere¶checked warnings=1 notes=0¶
 begin Unicode > use(main)¶group(main) using keys¶+ '^' > dk(hat)¶dk(hta) + 'a' > 'â' ⇒ 0 in:3: warning W02: deadkey 'hat' is put and never looked for¶in:4: warning W03: deadkey 'hta' is looked for and never put¶checked warnings=2 notes=0¶

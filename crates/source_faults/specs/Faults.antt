@@ -7,6 +7,7 @@ use Rattle.kmn_base.specs.declared.refusals.Refusal.{Refusal}
 use Rattle.kmn_lines.specs.Tokens.{refusal}
 use Rattle.rule_model.specs.declared.program.Program.{Program}
 use Rattle.source_names.specs.Causes.{cause_refusal}
+use Rattle.source_names.specs.declared.causes.NameFault.{NameFault}
 use Rattle.source_names.specs.Telling.{names_lacked, reported_causes}
 use Rattle.item_checker.specs.Items.{items_refusals}
 use Rattle.rule_checker.specs.AllLimits.{limits_refusals}
@@ -48,6 +49,10 @@ names_faults refused shared program =
     let causes = reported_causes program in
     let names = further refused (map cause_refusal causes) in
     names ++ items_faults (refused ++ names) (shared && is_empty names) (stubbed (refused ++ names) (with_words program (names_lacked causes)))
+
+-- the causes for which names refuse lines of a source: a name that is not defined anywhere has one
+abbrev pub name_faults : List ℕ → List NameFault
+name_faults source = reported_causes (with_words (read_all source).program (read_all source).words)
 
 -- the refusals of a program, some of whose lines are refused already: for its start, names, items and limits
 abbrev pub program_faults : List Refusal → Program → List Refusal

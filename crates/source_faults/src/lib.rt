@@ -7,7 +7,8 @@
 //! `specs/Words` takes the words of a line that cannot be read for names that it defines, and `specs/Stubs` replaces a refused
 //! statement by what others need of it. A name that is not defined anywhere is reported once (`source_names`), and later passes see it
 //! as a store and a group. `laws` states that the first of all refusals is the one that compilation reports. `sort_by_line` returns
-//! refusals in the order of their lines. `words_of` returns the words of a line, and `add_words` those of a text.
+//! refusals in the order of their lines. `words_of` returns the words of a line, and `add_words` those of a text. `name_faults` returns
+//! the names that lines lack.
 #![tactic(auto)]
 
 mod found;
@@ -20,5 +21,5 @@ mod stubs;
 mod words;
 
 pub use in_lines::sort_by_line;
-pub use listing::faults;
+pub use listing::{faults, name_faults};
 pub use words::{add_words, words_of};

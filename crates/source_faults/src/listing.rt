@@ -3,7 +3,7 @@
 ghost use Rattle.std.specs.Prelude.{◌≡◌, ◌≤◌, ◌&&◌, [], ◌∷◌, ◌++◌, length, IfOk, OnOk};
 ghost use Rattle.kmn_base.specs.declared.limits.TheConstants.{TEXT_BYTES};
 ghost use Rattle.source_faults.specs.Reading.{read_all};
-ghost use Rattle.source_faults.specs.Faults.{faults, faults_of, further, in_lines, is_empty, items_faults, limits_faults, names_faults, program_faults};
+ghost use Rattle.source_faults.specs.Faults.{faults, faults_of, further, in_lines, is_empty, items_faults, limits_faults, name_faults, names_faults, program_faults};
 ghost use Rattle.source_faults.specs.Stubs.{stubbed};
 
 use crate::found::Found;
@@ -16,7 +16,7 @@ use kmn_base::limits::TEXT_BYTES;
 use kmn_base::{Code, Memory, Refusal, Seq};
 use rule_checker::{limits_refusals, start_refusal};
 use rule_model::Program;
-use source_names::{names_lacked, refusals_of, reported_causes};
+use source_names::{NameFault, names_lacked, refusals_of, reported_causes};
 use std::alloc::Global;
 use std::str;
 use store_table::add_refusal;
@@ -44,6 +44,17 @@ fn text_faults(alloc: Global, text: &str) -> Result<Seq<Refusal>, Memory>
 {
     let found = read_all(alloc, text)?;
     faults_of(alloc, found)
+}
+
+/// Returns the causes for which names refuse lines of a source in UTF-8, in the order of lines. A name that is not defined anywhere has
+/// one. Errors: `Memory` if an allocation fails.
+pub fn name_faults(alloc: Global, source: &str) -> Result<Seq<NameFault>, Memory>
+    requires { length source.now ≤ TEXT_BYTES }
+    ensures { IfOk result (λ causes. causes ≡ name_faults source.now) }
+{
+    let found = read_all(alloc, source)?;
+    let program = with_words(alloc, found.program, found.words.as_slice())?;
+    reported_causes(alloc, &program)
 }
 
 /// Returns one refusal, at line 1.

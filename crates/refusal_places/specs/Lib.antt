@@ -1,0 +1,4 @@
+pub mod Columns
+pub mod Names
+pub mod Spots
+pub mod Placed
