@@ -80,13 +80,28 @@ fn put_named_text(line: &mut Text, kind: &WarningKind) -> Result<(), Memory>
             put_around(line, b"option '", option, b"' is set and never asked for")
         }
         WarningKind::OptionNeverSet { option } => {
-            put_around(line, b"option '", option, b"' is asked for, and nothing sets it")
+            put_around(
+                line,
+                b"option '",
+                option,
+                b"' is asked for, and nothing sets it",
+            )
         }
         WarningKind::SavedNeverSet { option } => {
-            put_around(line, b"option '", option, b"' is saved, and nothing sets it")
+            put_around(
+                line,
+                b"option '",
+                option,
+                b"' is saved, and nothing sets it",
+            )
         }
         WarningKind::PatternWithoutElements { store } => {
-            put_around(line, b"store '", store, b"' has no character and no deadkey")
+            put_around(
+                line,
+                b"store '",
+                store,
+                b"' has no character and no deadkey",
+            )
         }
         _ => Ok(()),
     }

@@ -33,12 +33,7 @@ fn name_of(cause: &Cause) -> &[u8]
 }
 
 /// Returns the first of a line's tokens that has the name for which a code refuses the line.
-pub(crate) fn named_token(
-    source: &[u8],
-    code: Code,
-    name: &[u8],
-    tokens: &[Token],
-) -> Option<Token>
+pub(crate) fn named_token(source: &[u8], code: Code, name: &[u8], tokens: &[Token]) -> Option<Token>
     ensures { result ≡ named_token source.now code name.now [] [] tokens.now }
 {
     let mut previous: &[u8] = &[];
