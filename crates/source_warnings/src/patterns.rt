@@ -1,6 +1,6 @@
 //! W14: `any` and `index` with a store that has no character and no deadkey.
 
-ghost use Rattle.std.specs.Prelude.{◌≡◌, ◌++◌, flat_map, true, IfOk, OnOk};
+ghost use Rattle.std.specs.Prelude.{◌≡◌, ◌++◌, flat_map, false, true, IfOk, OnOk};
 ghost use Rattle.std.specs.List.{list_any};
 ghost use Rattle.source_uses.specs.Uses.{rule_uses};
 ghost use Rattle.source_uses.specs.declared.used.Part.TheVariants as part;
