@@ -2,7 +2,7 @@
 
 ghost use Rattle.std.specs.Prelude.{◌≡◌, ◌++◌, flat_map, IfOk, OnOk};
 ghost use Rattle.check_run.specs.Meanings.{meaning};
-ghost use Rattle.check_run.specs.Printed.{PrintsStopped, check_ending, error_line, reason_error, refused_text, rest_line, stopped_text};
+ghost use Rattle.check_run.specs.Printed.{PrintsStopped, accepted_text, check_status, check_text, error_line, reason_error, refused_text, rest_line, stopped_text};
 ghost use Rattle.keyman_words.specs.Tells.{Tells};
 
 use crate::findings::Findings;
@@ -12,35 +12,54 @@ use keyman_run::Stop;
 use keyman_words::{Reason, Status, print_result, reason_line};
 use kmn_base::{Code, Memory, Refusal, Seq, Text};
 use kmn_outside::Sink;
+use name_warnings::Warning;
 use refusal_places::{Placed, at_start};
 use std::alloc::Global;
 
 /// Prints what a check finds in a source with a name.
-#[tactic(auto, using(keyman_words::proofs::Printed::tells_made))]
 pub(crate) fn print_findings<S: Sink>(
     alloc: Global,
     file: &[u8],
     findings: &Findings,
     out: &mut S,
 ) -> Status
-    ensures { Tells (check_ending file.now findings.now).status (check_ending file.now findings.now).printed S.Sink out.old out.new result }
+    ensures { Tells (check_status findings.now) (check_text file.now findings.now) S.Sink out.old out.new result }
 {
     match findings {
-        Findings::Accepted { warnings } => print_result(
-            accepted_text(alloc, file, warnings.as_slice()),
-            Status::Done,
-            out,
-        ),
+        Findings::Accepted { warnings } => print_accepted(alloc, file, warnings.as_slice(), out),
         Findings::Refused {
             first,
             errors,
             more,
-        } => print_result(
-            refused_text(alloc, file, *first, errors.as_slice(), *more),
-            Status::Refused,
-            out,
-        ),
+        } => print_refused(alloc, file, *first, errors.as_slice(), *more, out),
     }
+}
+
+/// Prints the warnings of a source that is not refused.
+#[tactic(auto, using(keyman_words::proofs::Printed::tells_made))]
+fn print_accepted<S: Sink>(alloc: Global, file: &[u8], warnings: &[Warning], out: &mut S) -> Status
+    ensures { Tells Status.Done (accepted_text file.now warnings.now) S.Sink out.old out.new result }
+{
+    print_result(accepted_text(alloc, file, warnings), Status::Done, out)
+}
+
+/// Prints the errors of a source.
+#[tactic(auto, using(keyman_words::proofs::Printed::tells_made))]
+fn print_refused<S: Sink>(
+    alloc: Global,
+    file: &[u8],
+    first: Refusal,
+    errors: &[Placed],
+    more: usize,
+    out: &mut S,
+) -> Status
+    ensures { Tells Status.Refused (refused_text file.now first errors.now more) S.Sink out.old out.new result }
+{
+    print_result(
+        refused_text(alloc, file, first, errors, more),
+        Status::Refused,
+        out,
+    )
 }
 
 /// Ends a check that stops before the file of the source is checked. A refusal prints its error, and then the line that compilation
