@@ -83,7 +83,7 @@ fn is_refused(alloc: Global, row: &str) -> Result<bool, Fail> {
 }
 
 /// Returns whether an expected result has the codes and the lines of refusals.
-fn are_refusals(refusals: &[Refusal], wanted: &str) -> bool {
+pub fn are_refusals(refusals: &[Refusal], wanted: &str) -> bool {
     if wanted == "none" {
         return refusals.is_empty();
     }

@@ -1,11 +1,8 @@
-//! Keys by name and key press, and the names of custom keys.
+//! Keys by name and key press.
 
 use kmn_base::{KeyPress, RuleKey};
-use std::alloc::Global;
 use std::test::Fail;
-use virtual_keys::{
-    KeyDictionary, char_of, fits, is_plain, key_named, modifier_named, name_of, named_chars,
-};
+use virtual_keys::{char_of, fits, is_plain, key_named, modifier_named, name_of, named_chars};
 
 /// A key's name and code, the modifiers of a press of it, the character that the press produces, the shift flags of a rule, and
 /// whether the rule matches the press.
@@ -33,20 +30,12 @@ fn is_right(row: (&str, u16, u16, Option<char>, u32, bool)) -> bool {
         && fits(RuleKey::Virtual { flags, code }, press) == fit
 }
 
-/// Returns whether the names of custom keys get the expected codes.
-fn are_numbered(alloc: Global) -> Result<bool, Fail> {
-    let mut names = KeyDictionary::new(alloc);
-    let codes = [
-        names.add(b"T_flip")?,
-        names.add(b"U_00E1")?,
-        names.add(b"t_FLIP")?,
-    ];
-    Ok(
-        codes == [256, 257, 256]
-            && names.code_of(b"u_00e1") == Some(257)
-            && names.name_at(256) == Some(b"T_flip".as_slice())
-            && names.name_at(258).is_none(),
-    )
+/// Returns whether the name of a key lists these characters.
+fn lists(name: &[u8], wanted: &[char]) -> bool {
+    match named_chars(name) {
+        Some(chars) => chars.as_slice() == wanted,
+        None => false,
+    }
 }
 
 #[test]
@@ -55,11 +44,7 @@ fn keys_by_name_and_press(rt: HostRuntime) -> Result<(), Fail> {
         assert!(rt; is_right(row), "{}", row.0);
     }
     assert_eq!(rt; modifier_named(b"ncaps"), Some(0x0200));
-    assert!(rt;
-        named_chars(b"u_01F600_0041").is_some_and(|chars| chars.as_slice()
-            == ['\u{1F600}', 'A'].as_slice())
-    );
+    assert!(rt; lists(b"u_01F600_0041", &['\u{1F600}', 'A']));
     assert!(rt; named_chars(b"U_D800").is_none());
-    assert!(rt; are_numbered(rt.alloc())?);
     Ok(())
 }

@@ -467,27 +467,6 @@ K:platform("mac") if(s = "v") 'a' + 'a' > 'b' ⇒ 3 if(&31=6D 61 63) if(s=76) 61
 K:+ 'a' > call(x:y) ⇒ 3 + 61 > call(x:y)
 K:layer('x') nul + 'a' > 'b' ⇒ 3 if(&33=78) nul + 61 > 62"##;
 
-/// What the sample states, without its stores.
-pub const SAMPLE_RULES: &str = "9 Unicode main; \
-    14 group main keys; \
-    15 + 27 > dk(acute); \
-    16 + 60 > dk(grave); \
-    17 dk(acute) + any(plain) > index(acute,2); \
-    18 dk(grave) + any(plain) > index(grave,2); \
-    19 dk(acute) + 27 > 27; \
-    20 any(acute) + [4000 8] > index(plain,1) dk(acute); \
-    21 + [4000 0 T_flip] > use(flip); \
-    22 if(quotes=31) + 22 > 201C; \
-    23 + [4060 81] > set(quotes=31) save(quotes); \
-    24 + 2D > 2D; \
-    25 match > use(after); \
-    26 group flip; \
-    27 any(acute) > index(grave,1); \
-    28 any(grave) > index(acute,1); \
-    29 nomatch > beep; \
-    30 group after; \
-    31 2D 2D > 2013";
-
 /// The text before the copies of a character, the character, the number of copies, the text after them, and the expected number of
 /// stores or the refusal.
 pub type LimitRow = (&'static str, char, u32, &'static str, &'static str);

@@ -1,9 +1,8 @@
 //! Sources that the parser reads, each with the expected result.
 
 use crate::fixtures::{is_row, parted, source_of};
-use crate::rows::{ITEMS, LIMITS, LINES, LimitRow, SAMPLE_RULES, STATEMENTS, TOKENS};
-use crate::sample::SAMPLE;
-use crate::telling::{write_error, write_groups, write_program};
+use crate::rows::{ITEMS, LIMITS, LINES, LimitRow, STATEMENTS, TOKENS};
+use crate::telling::{write_error, write_program};
 use kmn_base::{Code, CompileError, Refusal};
 use kmn_parser::parse;
 use std::alloc::{AllocError, Global};
@@ -56,14 +55,6 @@ fn is_answered(alloc: Global, row: &str) -> Result<bool, Fail> {
     Ok(given.as_str().strip_prefix("; ").unwrap_or("nothing") == wanted)
 }
 
-/// Returns whether the sample has its stores and rules.
-fn has_parsed_sample(alloc: Global) -> Result<bool, Fail> {
-    let program = parse(alloc, SAMPLE.as_bytes())?;
-    let mut rules = String::new(alloc);
-    write_groups(&mut rules, 0, &program)?;
-    Ok(program.stores.len() == 11 && rules.as_str().strip_prefix("; ") == Some(SAMPLE_RULES))
-}
-
 /// Returns the source with a row's name.
 fn source_with(alloc: Global, row: LimitRow) -> Result<String, AllocError> {
     let (before, c, count, after, _) = row;
@@ -107,14 +98,7 @@ fn worked_rows(rt: HostRuntime) -> Result<(), Fail> {
             assert!(rt; is_answered(rt.alloc(), row)?, "{row}");
         }
     }
-    assert!(rt; has_parsed_sample(rt.alloc())?);
     Ok(())
-}
-
-/// Returns whether the parser refuses a source that is one byte longer than the limit.
-fn is_long_refused(alloc: Global) -> Result<bool, AllocError> {
-    let long = vec![in alloc; 0xFFu8; 4_194_305]?;
-    Ok(is_refused(alloc, &long, Code::L05))
 }
 
 #[test]
@@ -123,6 +107,5 @@ fn limits(rt: HostRuntime) -> Result<(), Fail> {
         assert!(rt; is_limited(rt.alloc(), *row)?, "{} {}", row.0, row.2);
     }
     assert!(rt; is_refused(rt.alloc(), &[b'\n', 0xFF, b'\''], Code::L01));
-    assert!(rt; is_long_refused(rt.alloc())?);
     Ok(())
 }

@@ -1,7 +1,7 @@
 //! Writes what a program states, in the notation of the rows.
 
 use kmn_base::{CompileError, Seq};
-use rule_model::{BeginDef, GroupDef, KeyName, Program, RuleDef, RuleKind, SrcItem, StoreDef};
+use rule_model::{GroupDef, KeyName, Program, RuleDef, RuleKind, SrcItem, StoreDef};
 use std::alloc::AllocError;
 use std::fmt::Write;
 use std::str;
@@ -10,50 +10,24 @@ fn name(bytes: &Seq<u8>) -> &str {
     str::from_utf8(bytes.as_slice()).unwrap_or("?")
 }
 
-fn write_number(out: &mut String, number: u32) -> Result<(), AllocError> {
-    write!(out, "{number}")
-}
-
-fn write_hex(out: &mut String, number: u32) -> Result<(), AllocError> {
-    write!(out, "{number:X}")
-}
-
-/// Writes the beginning of a statement: `; `, its line and a space.
-fn write_line(out: &mut String, line: u32) -> Result<(), AllocError> {
-    out.push_str("; ")?;
-    write_number(out, line)?;
-    out.push(' ')
-}
-
 fn write_chars(out: &mut String, chars: &Seq<char>) -> Result<(), AllocError> {
     let mut parting = "";
     for c in chars.as_slice() {
-        out.push_str(parting)?;
-        write_hex(out, *c as u32)?;
+        write!(out, "{parting}{:X}", *c as u32)?;
         parting = " ";
     }
     Ok(())
 }
 
 fn write_key(out: &mut String, key: &KeyName) -> Result<(), AllocError> {
-    out.push('[')?;
-    write_hex(out, u32::from(key.flags))?;
-    out.push(' ')?;
-    write_number(out, u32::from(key.code))?;
+    write!(out, "[{:X} {}", u32::from(key.flags), key.code)?;
     if key.code == 0 {
-        out.push(' ')?;
-        out.push_str(name(&key.name))?;
+        write!(out, " {}", name(&key.name))?;
     }
     out.push(']')
 }
 
-/// Writes the end of an item with a value: the operator, the value and `)`.
-fn write_end(out: &mut String, sign: &str, value: &Seq<char>) -> Result<(), AllocError> {
-    out.push_str(sign)?;
-    write_chars(out, value)?;
-    out.push(')')
-}
-
+/// Writes an item with a word, a store, an operator and a value.
 fn write_value(
     out: &mut String,
     word: &str,
@@ -61,9 +35,9 @@ fn write_value(
     sign: &str,
     value: &Seq<char>,
 ) -> Result<(), AllocError> {
-    out.push_str(word)?;
-    out.push_str(name(store))?;
-    write_end(out, sign, value)
+    write!(out, "{word}({}{sign}", name(store))?;
+    write_chars(out, value)?;
+    out.push(')')
 }
 
 /// Writes an item on a system option, with the id of the option.
@@ -74,47 +48,30 @@ fn write_system(
     sign: &str,
     value: &Seq<char>,
 ) -> Result<(), AllocError> {
-    out.push_str(word)?;
-    write_number(out, id)?;
-    write_end(out, sign, value)
-}
-
-fn write_index(out: &mut String, store: &Seq<u8>, offset: u32) -> Result<(), AllocError> {
-    out.push_str("index(")?;
-    out.push_str(name(store))?;
-    out.push(',')?;
-    write_number(out, offset)?;
-    out.push(')')
-}
-
-fn write_context(out: &mut String, offset: u32) -> Result<(), AllocError> {
-    out.push_str("context(")?;
-    write_number(out, offset)?;
+    write!(out, "{word}(&{id}{sign}")?;
+    write_chars(out, value)?;
     out.push(')')
 }
 
 /// Writes an item that has a number or a value.
 fn write_item(out: &mut String, item: &SrcItem) -> Result<(), AllocError> {
     match item {
-        SrcItem::Char(c) => write_hex(out, *c as u32),
+        SrcItem::Char(c) => write!(out, "{:X}", *c as u32),
         SrcItem::Key(key) => write_key(out, key),
-        SrcItem::Index(store, offset) => write_index(out, store, *offset),
-        SrcItem::ContextAt(offset) => write_context(out, *offset),
-        SrcItem::Equal(store, value) => write_value(out, "if(", store, "=", value),
-        SrcItem::Unequal(store, value) => write_value(out, "if(", store, "!=", value),
-        SrcItem::Set(store, value) => write_value(out, "set(", store, "=", value),
-        SrcItem::SystemEqual(id, value) => write_system(out, "if(&", *id, "=", value),
-        SrcItem::SystemUnequal(id, value) => write_system(out, "if(&", *id, "!=", value),
-        SrcItem::SetSystem(id, value) => write_system(out, "set(&", *id, "=", value),
+        SrcItem::Index(store, offset) => write!(out, "index({},{offset})", name(store)),
+        SrcItem::ContextAt(offset) => write!(out, "context({offset})"),
+        SrcItem::Equal(store, value) => write_value(out, "if", store, "=", value),
+        SrcItem::Unequal(store, value) => write_value(out, "if", store, "!=", value),
+        SrcItem::Set(store, value) => write_value(out, "set", store, "=", value),
+        SrcItem::SystemEqual(id, value) => write_system(out, "if", *id, "=", value),
+        SrcItem::SystemUnequal(id, value) => write_system(out, "if", *id, "!=", value),
+        SrcItem::SetSystem(id, value) => write_system(out, "set", *id, "=", value),
         other => write_named(out, other),
     }
 }
 
 fn write_call(out: &mut String, word: &str, argument: &Seq<u8>) -> Result<(), AllocError> {
-    out.push_str(word)?;
-    out.push('(')?;
-    out.push_str(name(argument))?;
-    out.push(')')
+    write!(out, "{word}({})", name(argument))
 }
 
 /// Writes an item that has at most a name.
@@ -152,20 +109,18 @@ fn write_items(out: &mut String, items: &Seq<SrcItem>) -> Result<(), AllocError>
 }
 
 fn write_store(out: &mut String, store: &StoreDef) -> Result<(), AllocError> {
-    write_line(out, store.line)?;
-    out.push_str("store ")?;
+    write!(out, "; {} store ", store.line)?;
     if store.system == 0 {
         out.push_str(name(&store.name))?;
     } else {
-        write_number(out, store.system)?;
+        write!(out, "{}", store.system)?;
     }
     out.push(':')?;
     write_items(out, &store.items)
 }
 
 fn write_rule(out: &mut String, rule: &RuleDef) -> Result<(), AllocError> {
-    out.push_str("; ")?;
-    write_number(out, rule.line)?;
+    write!(out, "; {}", rule.line)?;
     match rule.kind {
         RuleKind::Plain => write_items(out, &rule.context)?,
         RuleKind::OnMatch => out.push_str(" match")?,
@@ -182,10 +137,8 @@ fn write_rule(out: &mut String, rule: &RuleDef) -> Result<(), AllocError> {
 /// Writes a group with its rules. Writes its own line only if it comes after the `opened` lines.
 fn write_group(out: &mut String, opened: u32, group: &GroupDef) -> Result<(), AllocError> {
     if opened < group.line {
-        write_line(out, group.line)?;
-        out.push_str("group ")?;
-        out.push_str(name(&group.name))?;
-        out.push_str(if group.using_keys { " keys" } else { "" })?;
+        let keys = if group.using_keys { " keys" } else { "" };
+        write!(out, "; {} group {}{keys}", group.line, name(&group.name))?;
     }
     for rule in group.rules.as_slice() {
         write_rule(out, rule)?;
@@ -193,24 +146,19 @@ fn write_group(out: &mut String, opened: u32, group: &GroupDef) -> Result<(), Al
     Ok(())
 }
 
-fn write_begin(out: &mut String, begin: &BeginDef) -> Result<(), AllocError> {
-    write_line(out, begin.line)?;
-    out.push_str(if begin.unicode { "Unicode " } else { "ANSI " })?;
-    out.push_str(name(&begin.group))
-}
-
 /// Writes the begin statements after the first `opened` lines.
 fn write_begins(out: &mut String, opened: u32, program: &Program) -> Result<(), AllocError> {
     for begin in program.begins.as_slice() {
         if opened < begin.line {
-            write_begin(out, begin)?;
+            let kind = if begin.unicode { "Unicode" } else { "ANSI" };
+            write!(out, "; {} {kind} {}", begin.line, name(&begin.group))?;
         }
     }
     Ok(())
 }
 
 /// Writes the begin statements and groups after the first `opened` lines.
-pub fn write_groups(out: &mut String, opened: u32, program: &Program) -> Result<(), AllocError> {
+fn write_groups(out: &mut String, opened: u32, program: &Program) -> Result<(), AllocError> {
     write_begins(out, opened, program)?;
     for group in program.groups.as_slice() {
         write_group(out, opened, group)?;
@@ -228,10 +176,7 @@ pub fn write_program(out: &mut String, opened: u32, program: &Program) -> Result
 
 pub fn write_error(out: &mut String, error: &CompileError) -> Result<(), AllocError> {
     match error {
-        CompileError::Refused(refusal) => {
-            write!(out, "{} ", refusal.code)?;
-            write_number(out, refusal.line)
-        }
+        CompileError::Refused(refusal) => write!(out, "{} {}", refusal.code, refusal.line),
         _ => out.push_str("another error"),
     }
 }

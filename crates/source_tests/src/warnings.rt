@@ -114,13 +114,13 @@ fn write_warning(out: &mut String, warning: &Warning) -> Result<(), AllocError> 
         WarningKind::MarkNeverPut { mark } => write_name(out, "W03", line, mark),
         WarningKind::GroupNeverEntered { group } => write_name(out, "W04", line, group),
         WarningKind::OptionNeverAsked { option } => write_name(out, "W08", line, option),
-        WarningKind::ContradictoryConditions => write_code(out, "W09", line),
+        WarningKind::ContradictoryConditions => write!(out, "W09 {line}"),
         WarningKind::OptionNeverSet { option } => write_name(out, "W10", line, option),
         WarningKind::SavedNeverSet { option } => write_name(out, "W12", line, option),
-        WarningKind::KeyNeverPressed => write_code(out, "W13", line),
+        WarningKind::KeyNeverPressed => write!(out, "W13 {line}"),
         WarningKind::PatternWithoutElements { store } => write_name(out, "W14", line, store),
-        WarningKind::KeyGivesTheSame => write_code(out, "W15", line),
-        WarningKind::SecondSystemStore => write_code(out, "W16", line),
+        WarningKind::KeyGivesTheSame => write!(out, "W15 {line}"),
+        WarningKind::SecondSystemStore => write!(out, "W16 {line}"),
         WarningKind::ValueNeverSet { option, value } => write_value(out, line, option, value),
         other => write_sizes(out, line, other),
     }
@@ -163,10 +163,6 @@ fn write_value(
         out.push(*c)?;
     }
     Ok(())
-}
-
-fn write_code(out: &mut String, code: &str, line: u32) -> Result<(), AllocError> {
-    write!(out, "{code} {line}")
 }
 
 fn write_name(out: &mut String, code: &str, line: u32, bytes: &Seq<u8>) -> Result<(), AllocError> {
