@@ -1,10 +1,9 @@
-//! Sources, which `source_of` reads, each followed by ` ⇒ ` and its first refusal or `ok`.
+//! Sources, which `opened_source` reads, each followed by ` ⇒ ` and its first refusal or `ok`.
 
-use crate::rows::source_of;
+use crate::rows::opened_source;
 use kmn_base::CompileError;
 use kmn_compiler::front;
 use source_tests::fixtures::{is_refusal, is_row, parted};
-use source_tests::sample::SAMPLE;
 use std::alloc::Global;
 use std::test::Fail;
 
@@ -465,7 +464,7 @@ K:store(&casedkeys) [K_A]¶store(k) ⟨[K_A] ×49999⟩¶+ any(k) > 'x'¶+ 'b' >
 /// Returns whether the parser and then the checker accept or refuse a row's source as the row expects.
 fn is_right(alloc: Global, row: &str) -> Result<bool, Fail> {
     let (text, wanted) = parted(row)?;
-    let source = source_of(alloc, text)?;
+    let source = opened_source(alloc, text)?;
     match front(alloc, source.as_bytes()) {
         Ok(_) => Ok(wanted == "ok"),
         Err(CompileError::Refused(refusal)) => Ok(is_refusal(refusal, wanted)),
@@ -480,6 +479,5 @@ fn refusals(rt: HostRuntime) -> Result<(), Fail> {
             assert!(rt; is_right(rt.alloc(), row)?, "{row}");
         }
     }
-    assert!(rt; front(rt.alloc(), SAMPLE.as_bytes()).is_ok());
     Ok(())
 }

@@ -6,13 +6,14 @@ use compile_tests::fixtures::ONE_RULE;
 use keyman_run::Status;
 use kmn_base::{Memory, Seq};
 use kmn_outside::{Folder, MemoryFolder, MemorySink};
-use run_tests::commands::{empty_folder, ended, folder, sink, written_out};
+use run_tests::commands::{empty_folder, ended, folder, sink};
+use source_tests::fixtures::source_of;
 use std::alloc::Global;
 use std::test::Fail;
 
 /// The first run with failing calls: what can't be read or written; the numbers, from 1, of the folder call and of the sink
 /// call that fail, 0 if none fails; the exit status; the printed text; and the number of bytes of the file in `out`, `None` if
-/// there is no such file. The texts of this table and of the tables below contain the symbols that `written_out` expands.
+/// there is no such file. The texts of this table and of the tables below contain the symbols that `source_of` expands.
 const FAULTS: &[(&str, (u32, u32), Status, &str, Option<usize>)] = &[
     ("the source", (1, 0), Status::ReadFault, "", None),
     ("the script", (2, 0), Status::ReadFault, "", None),
@@ -68,7 +69,7 @@ fn ends_so(
     sink: &mut MemorySink,
     wanted: Ending,
 ) -> Result<bool, Fail> {
-    let printed = written_out(alloc, wanted.printed)?;
+    let printed = source_of(alloc, wanted.printed)?;
     let status = ended(alloc, line, folder, sink)?;
     Ok(
         status == wanted.status
@@ -111,7 +112,7 @@ fn wrong_fault(alloc: Global) -> Result<Option<&'static str>, Fail> {
 
 /// Returns whether that play prints exactly this text if the sink call with this number fails. No call fails for 0.
 fn is_begun(alloc: Global, failing: u32, printed: &str) -> Result<bool, Fail> {
-    let printed = written_out(alloc, printed)?;
+    let printed = source_of(alloc, printed)?;
     let (source, script) = EACH_KIND;
     let mut folder = folder(alloc, source, b"", script, 0)?;
     let mut sink = sink(alloc, failing)?;
@@ -201,7 +202,7 @@ fn sizes(rt: HostRuntime) -> Result<(), Fail> {
 
 /// Writes a source `a.kmn` whose bitmap (the icon file of the keyboard) is one byte longer than its limit.
 fn write_long_picture(alloc: Global, folder: &mut MemoryFolder) -> Result<(), Fail> {
-    let source = written_out(alloc, "store(&bitmap) 'p.ico'¶§+ 'a' > 'b'¶")?;
+    let source = source_of(alloc, "store(&bitmap) 'p.ico'¶§+ 'a' > 'b'¶")?;
     folder.write(alloc, b"a.kmn", source.as_bytes())?;
     let picture = equal_bytes(alloc, 0, 1_048_577)?;
     folder.write(alloc, b"p.ico", picture.as_slice())?;

@@ -1,8 +1,9 @@
-//! Runs commands over a folder and a sink in memory, and expands the placeholders in the texts of rows.
+//! Runs commands over a folder and a sink in memory.
 
 use keyman_run::{Status, run};
 use kmn_base::{Seq, Text};
 use kmn_outside::{Folder, MemoryFolder, MemorySink};
+use source_tests::fixtures::source_of;
 use std::alloc::{AllocError, Global};
 use std::test::Fail;
 
@@ -28,52 +29,6 @@ pub fn ended(
         status = run(alloc, words.as_slice(), folder, sink);
     }
     Ok(status)
-}
-
-/// Writes a text with its placeholders replaced.
-fn write_text(out: &mut String, text: &str) -> Result<(), AllocError> {
-    for c in text.chars() {
-        match c {
-            '¶' => out.push('\n')?,
-            '␍' => out.push('\r')?,
-            '⌖' => out.push('\u{FEFF}')?,
-            '§' => out.push_str("begin Unicode > use(main)\ngroup(main) using keys\n")?,
-            _ => out.push(c)?,
-        }
-    }
-    Ok(())
-}
-
-fn write_copies(out: &mut String, text: &str, count: u32) -> Result<(), AllocError> {
-    for _ in 0..count {
-        write_text(out, text)?;
-    }
-    Ok(())
-}
-
-/// Writes a piece of a text: a text, then the copies of another text, if the piece has any.
-pub fn write_piece(out: &mut String, piece: &str) -> Result<(), Fail> {
-    match piece.split_once('⟨') {
-        Some((text, copies)) => {
-            write_text(out, text)?;
-            let (copied, count) = copies.split_once('×').ok_or("copies without a count")?;
-            let count = count
-                .parse::<u32>()
-                .ok()
-                .ok_or("a count that is no number")?;
-            Ok(write_copies(out, copied, count)?)
-        }
-        None => Ok(write_text(out, piece)?),
-    }
-}
-
-/// Returns a text with its placeholders and copies expanded.
-pub fn written_out(alloc: Global, text: &str) -> Result<String, Fail> {
-    let mut out = String::new(alloc);
-    for piece in text.split('⟩') {
-        write_piece(&mut out, piece)?;
-    }
-    Ok(out)
 }
 
 /// Returns a folder without files. Call number `failing` after the first `behind` calls fails; for 0 no call fails.
@@ -122,8 +77,8 @@ pub fn folder(
     script: &str,
     failing: u32,
 ) -> Result<MemoryFolder, Fail> {
-    let source = written_out(alloc, source)?;
-    let script = written_out(alloc, script)?;
+    let source = source_of(alloc, source)?;
+    let script = source_of(alloc, script)?;
     let mut folder = empty_folder(alloc, failing, FILES)?;
     write_files(
         alloc,

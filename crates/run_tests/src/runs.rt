@@ -6,20 +6,26 @@ mod rows;
 mod shadow_rows;
 mod trace_rows;
 
-use crate::commands::{ended, folder, sink, write_piece, written_out};
-use compile_tests::fixtures::ONE_RULE;
+use crate::commands::{ended, folder, sink};
+use compile_tests::fixtures::{ONE_RULE, TWO_KEYS};
 use host_rows::HOST_RUNS;
 use kmn_base::Seq;
 use kmn_outside::MemoryFolder;
 use rows::{FILE_RUNS, LAYOUT_RUNS, LONG_RUNS, RUNS, TEXT};
 use shadow_rows::SHADOW_RUNS;
-use source_tests::fixtures::is_row;
+use source_tests::fixtures::{is_row, source_of};
 use source_tests::sample::SAMPLE;
 use std::alloc::{Alloc, Global};
 use std::process::Abort;
 use std::str;
 use std::test::Fail;
 use trace_rows::TRACE_RUNS;
+
+/// The source of the file of one rule.
+const ONE_RULE_SOURCE: &str = "§+ 'a' > 'b'¶";
+
+/// The source of the file of two keys.
+const TWO_KEYS_SOURCE: &str = "store(k) [K_A] [SHIFT K_A]¶store(o) 'xy'¶§+ any(k) > index(o,1)¶";
 
 /// A run, as its row states it.
 #[derive(Clone, Copy)]
@@ -41,7 +47,7 @@ fn number_at(line: &str, place: usize) -> u32 {
 }
 
 /// Returns the source that a row contains or names.
-fn source_of(text: &str) -> &str {
+fn source_in(text: &str) -> &str {
     if text == "SAMPLE" { SAMPLE } else { text }
 }
 
@@ -73,12 +79,12 @@ fn pieced(alloc: Global, file: &[u8], pieces: &str) -> Result<Seq<u8>, Fail> {
 fn folder_of(alloc: Global, row: Run, failing: u32) -> Result<MemoryFolder, Fail> {
     match row.source.split_once(" ⇒ ") {
         Some((source, pieces)) => {
-            let source = source_of(source);
+            let source = source_in(source);
             let file = compiled(alloc, source)?;
             let file = pieced(alloc, file.as_slice(), pieces)?;
             folder(alloc, source, file.as_slice(), row.script, failing)
         }
-        None => folder(alloc, source_of(row.source), b"", row.script, failing),
+        None => folder(alloc, source_in(row.source), b"", row.script, failing),
     }
 }
 
@@ -105,7 +111,7 @@ fn has_lines(text: &[u8], lines: &str) -> bool {
 
 /// Returns whether a text is the one that a row expects or, if the expected text begins with `?`, has each of its lines.
 fn is_printed(alloc: Global, text: &[u8], wanted: &str) -> Result<bool, Fail> {
-    let wanted = written_out(alloc, wanted)?;
+    let wanted = source_of(alloc, wanted)?;
     Ok(match wanted.as_str().strip_prefix('?') {
         Some(lines) => has_lines(text, lines),
         None => text == wanted.as_bytes(),
@@ -168,20 +174,21 @@ fn runs_on_files(rt: HostRuntime) -> Result<(), Fail> {
     check_runs(&rt, FILE_RUNS)
 }
 
-/// Returns whether the first source compiles to these bytes.
-fn is_compiled_to(alloc: Global, file: &[u8]) -> Result<bool, Fail> {
-    Ok(compiled(alloc, "§+ 'a' > 'b'¶")?.as_slice() == file)
+/// Returns whether a source compiles to these bytes.
+fn is_compiled_to(alloc: Global, source: &str, file: &[u8]) -> Result<bool, Fail> {
+    Ok(compiled(alloc, source)?.as_slice() == file)
 }
 
 #[test]
-fn first_file(rt: HostRuntime) -> Result<(), Fail> {
-    assert!(rt; is_compiled_to(rt.alloc(), &ONE_RULE)?);
+fn worked_files(rt: HostRuntime) -> Result<(), Fail> {
+    assert!(rt; is_compiled_to(rt.alloc(), ONE_RULE_SOURCE, &ONE_RULE)?);
+    assert!(rt; is_compiled_to(rt.alloc(), TWO_KEYS_SOURCE, &TWO_KEYS)?);
     Ok(())
 }
 
 /// Returns whether the compiled keyboard of the first source decompiles to this text.
 fn is_decompiled_to(alloc: Global, text: &[u8]) -> Result<bool, Fail> {
-    let file = compiled(alloc, "§+ 'a' > 'b'¶")?;
+    let file = compiled(alloc, ONE_RULE_SOURCE)?;
     let mut folder = folder(alloc, "", file.as_slice(), "", 0)?;
     let mut sink = sink(alloc, 0)?;
     ended(alloc, "decompile a.kmx out", &mut folder, &mut sink)?;
@@ -194,22 +201,24 @@ fn first_text(rt: HostRuntime) -> Result<(), Fail> {
     Ok(())
 }
 
-/// Returns whether a script is refused and this is printed. The script has `count` edits that each insert 4,096 characters at the
-/// start of the text, and then the line `last`.
-fn is_refused_behind(alloc: Global, count: u32, last: &str, printed: &str) -> Result<bool, Fail> {
-    let mut script = String::new(alloc);
-    for _ in 0..count {
-        write_piece(&mut script, "edit 0 0 '⟨x×4096")?;
-        script.push_str("'\n")?;
-    }
+/// Returns whether a run of the file of one rule ends and prints like this. Its script has `count` edits that each insert 4,096
+/// characters at the start of the text, and then the lines `last`.
+fn is_right_behind(
+    alloc: Global,
+    count: usize,
+    last: &str,
+    ends: &str,
+    printed: &str,
+) -> Result<bool, Fail> {
+    let mut script = "edit 0 0 '⟨x×4096⟩'¶".repeat(alloc, count)?;
     script.push_str(last)?;
     is_right(
         alloc,
         Run {
             words: "test a.kmn out a.keys",
-            source: "§+ 'a' > 'b'¶",
+            source: ONE_RULE_SOURCE,
             script: script.as_str(),
-            ends: "1 122",
+            ends,
             printed,
         },
     )
@@ -220,8 +229,21 @@ fn is_refused_behind(alloc: Global, count: u32, last: &str, printed: &str) -> Re
 #[test]
 fn long_texts(rt: HostRuntime) -> Result<(), Fail> {
     let printed = "?243 del=0 ins=- pass=0 beep=0 ent=0 ctx=-¶refused E2 event 244¶";
-    assert!(rt; is_refused_behind(rt.alloc(), 243, "[K_A]\n", printed)?);
+    assert!(rt; is_right_behind(rt.alloc(), 243, "[K_A]", "1 122", printed)?);
     let printed = "?244 del=0 ins=- pass=0 beep=0 ent=0 ctx=-¶refused E2 event 245¶";
-    assert!(rt; is_refused_behind(rt.alloc(), 245, "", printed)?);
+    assert!(rt; is_right_behind(rt.alloc(), 245, "", "1 122", printed)?);
+    Ok(())
+}
+
+/// Checks many presses that are passed on in a long text. Each of them looks only at the last items of the text.
+#[test]
+fn many_presses_in_a_long_text(rt: HostRuntime) -> Result<(), Fail> {
+    let last = "caret 991232¶⟨[K_F5]¶×99000⟩";
+    let printed = "?242 del=0 ins=- pass=0 beep=0 ent=0 ctx=-¶\
+        243 del=0 ins=- pass=0 beep=0 ent=0 ctx=⟨0078.×63⟩0078¶\
+        244 del=0 ins=- pass=1 beep=0 ent=1 ctx=⟨0078.×63⟩0078¶\
+        99243 del=0 ins=- pass=1 beep=0 ent=1 ctx=⟨0078.×63⟩0078¶\
+        text ⟨0078.×991231⟩0078|-¶end events=99243 failed=0¶";
+    assert!(rt; is_right_behind(rt.alloc(), 242, last, "0 122", printed)?);
     Ok(())
 }

@@ -7,6 +7,8 @@ ghost use Rattle.source_tests.specs.declared.fixtures.TheConstants.{ANSWER_SIGN}
 
 use kmn_base::{Item, Memory, Refusal};
 use std::alloc::{AllocError, Global};
+use std::fmt::Write;
+use std::test::Fail;
 
 /// The separator between a row's text and its expected result.
 const ANSWER_SIGN: &str = " ⇒ ";
@@ -41,11 +43,47 @@ pub fn character(c: char) -> char {
     }
 }
 
-/// Returns the text that a text of a table represents.
-pub fn source_of(alloc: Global, text: &str) -> Result<String, AllocError> {
-    let mut source = String::new(alloc);
+/// Writes a text of a table, as the copy with this number: `№` is the number, and `§` is the lines of a group `main` that uses keys.
+fn write_copy(out: &mut String, text: &str, copy: u32) -> Result<(), AllocError> {
     for c in text.chars() {
-        source.push(character(c))?;
+        match c {
+            '№' => write!(out, "{copy}")?,
+            '§' => out.push_str("begin Unicode > use(main)\ngroup(main) using keys\n")?,
+            other => out.push(character(other))?,
+        }
+    }
+    Ok(())
+}
+
+fn write_copies(out: &mut String, text: &str, count: u32) -> Result<(), AllocError> {
+    for copy in 0..count {
+        write_copy(out, text, copy)?;
+    }
+    Ok(())
+}
+
+/// Writes a piece of a text of a table: a text, and the copies of another text if the piece has any.
+fn write_piece(out: &mut String, piece: &str) -> Result<(), Fail> {
+    match piece.split_once('⟨') {
+        Some((text, copies)) => {
+            write_copy(out, text, 0)?;
+            let (copied, count) = copies.split_once('×').ok_or("copies without a count")?;
+            let count = count
+                .parse::<u32>()
+                .ok()
+                .ok_or("a count that is no number")?;
+            Ok(write_copies(out, copied, count)?)
+        }
+        None => Ok(write_copy(out, piece, 0)?),
+    }
+}
+
+/// Returns the text that a text of a table represents. In it, `⟨TEXT×COUNT⟩` is a text repeated count times, in which `№` is the number
+/// of the copy, counted from 0.
+pub fn source_of(alloc: Global, text: &str) -> Result<String, Fail> {
+    let mut source = String::new(alloc);
+    for piece in text.split('⟩') {
+        write_piece(&mut source, piece)?;
     }
     Ok(source)
 }

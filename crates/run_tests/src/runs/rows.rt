@@ -300,6 +300,11 @@ edit 0 0 '⟨z×130⟩'¶caret 130¶[K_Q]
 1 del=0 ins=- pass=0 beep=0 ent=0 ctx=-¶2 del=0 ins=- pass=0 beep=0 ent=0 ctx=⟨007A.×63⟩007A¶\
 3 del=120 ins=- pass=0 beep=0 ent=5 ctx=⟨007A.×9⟩007A¶text ⟨007A.×9⟩007A|-¶end events=3 failed=0¶
 test a.kmn out a.keys
+store(z) 'z'¶§+ 'q' > '⟨z×70⟩' use(t) use(n)¶group(t)¶⟨any(z) ×60⟩> nul¶group(n)¶⟨any(z) ×10⟩> 'N'
+[K_Q]
+0 822
+1 del=0 ins=004E pass=0 beep=0 ent=3 ctx=004E¶text 004E|-¶end events=1 failed=0¶
+test a.kmn out a.keys
 §+ '`' > dk(g)¶dk(g) + 'a' > U+00E0
 [K_X] [K_BKQUOTE]¶edit 0 0 "yyy"
 0 158
@@ -806,6 +811,17 @@ layout a.kmn a.keys
 ⟨ ×4194305⟩
 1
 refused T7 platform 0 layer 0 row 0 key 0¶
+== the greatest file, and a file that is too large
+compile a.kmn out
+store(s) '⟨x×1024⟩'¶§⟨+ 'a' > outs(s)¶×32418⟩
+
+0 67107424
+compiled stores=1 groups=1 rules=32418 bytes=67107424¶
+compile a.kmn out
+store(s) '⟨x×1024⟩'¶§⟨+ 'a' > outs(s)¶×32419⟩
+
+1
+refused C23 size 67109494¶
 == load: sizes
 load 1
 
