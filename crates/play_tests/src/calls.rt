@@ -1,7 +1,6 @@
 //! Tests the printed texts of the errors of calls from a program in another language.
 
 use curlew_calls::CallError;
-use std::alloc::{AllocError, Global};
 use std::test::Fail;
 
 /// Errors and their printed texts.
@@ -13,15 +12,11 @@ const PRINTED: &[(CallError, &str)] = &[
     (CallError::NoOption, "no option of this name"),
 ];
 
-/// Returns whether an error has this printed text.
-fn is_printed(alloc: Global, error: &CallError, wanted: &str) -> Result<bool, AllocError> {
-    Ok(format!(in alloc; "{error}")?.as_str() == wanted)
-}
-
 #[test]
 fn call_errors(rt: HostRuntime) -> Result<(), Fail> {
+    let alloc = rt.alloc();
     for (error, wanted) in PRINTED {
-        assert!(rt; is_printed(rt.alloc(), error, wanted)?, "{wanted}");
+        assert!(rt; format!(in alloc; "{error}")?.as_str() == *wanted, "{wanted}");
     }
     Ok(())
 }

@@ -2,7 +2,7 @@
 
 use editor_model::{EditError, Editor};
 use kmn_base::{KeyPress, Memory};
-use std::alloc::{AllocError, Global};
+use std::alloc::Global;
 use std::test::Fail;
 
 /// A change of a text with a caret.
@@ -176,40 +176,6 @@ fn changes(rt: HostRuntime) -> Result<(), Fail> {
     Ok(())
 }
 
-/// Returns whether a text of a million characters does not accept another one, but accepts one that replaces another.
-fn keeps_its_length(alloc: Global) -> Result<bool, Fail> {
-    let text = vec![in alloc; 'x'; 1_000_000]?;
-    let mut editor = Editor::new(alloc);
-    editor.edit(alloc, 0, 0, text.as_slice())?;
-    let longer = editor.edit(alloc, 7, 7, &['y']);
-    let tried = editor.try_edit(7, 8, 1);
-    editor.edit(alloc, 7, 8, &['y'])?;
-    Ok(
-        matches!(longer, Err(EditError::Length))
-            && tried.is_ok()
-            && editor.left().len() == 0
-            && editor.right().len() == 1_000_000,
-    )
-}
-
-/// Returns whether a text replaces two characters before the caret, and a copy made before is unchanged.
-fn replaces_two(alloc: Global) -> Result<bool, Fail> {
-    let mut editor = editor_of(alloc, "abc", "de")?;
-    editor.reserve(alloc, 4_097)?;
-    let kept = editor.copy(alloc)?;
-    if editor.left().len() >= 2 {
-        editor.apply(2, &['x', 'y', 'z']);
-    }
-    Ok(shown(alloc, &editor)?.as_str() == "axyz|de" && shown(alloc, &kept)?.as_str() == "abc|de")
-}
-
-#[test]
-fn long_texts_and_copies(rt: HostRuntime) -> Result<(), Fail> {
-    assert!(rt; keeps_its_length(rt.alloc())?);
-    assert!(rt; replaces_two(rt.alloc())?);
-    Ok(())
-}
-
 /// Errors and their printed texts.
 const PRINTED: &[(EditError, &str)] = &[
     (EditError::Place, "refused E1"),
@@ -217,15 +183,11 @@ const PRINTED: &[(EditError, &str)] = &[
     (EditError::Memory, "out of memory"),
 ];
 
-/// Returns whether an error has this printed text.
-fn is_printed(alloc: Global, error: &EditError, wanted: &str) -> Result<bool, AllocError> {
-    Ok(format!(in alloc; "{error}")?.as_str() == wanted)
-}
-
 #[test]
 fn edit_errors(rt: HostRuntime) -> Result<(), Fail> {
+    let alloc = rt.alloc();
     for (error, wanted) in PRINTED {
-        assert!(rt; is_printed(rt.alloc(), error, wanted)?, "{wanted}");
+        assert!(rt; format!(in alloc; "{error}")?.as_str() == *wanted, "{wanted}");
     }
     Ok(())
 }

@@ -1,16 +1,14 @@
 //! Tests scripts for several fields: the entries that they contain or the rule that they break.
 
-use crate::fixtures::put_copies;
 use kmn_base::{Event, Refusal};
 use play_script::ScriptError;
-use source_tests::fixtures::{is_row, parted};
+use source_tests::fixtures::{is_row, parted, source_of};
 use std::alloc::Global;
 use std::test::Fail;
 use text_host::{HostEntry, read_host};
 use virtual_keys::KeyDictionary;
 
-/// Each row contains a script and, after ` ⇒ `, its entries, each with its line, or the rule that it breaks. `¶` is a line
-/// feed. `|` separates the parts of the script. A part occurs once, or as often as the number before its `×` specifies.
+/// Each row contains a script, as `source_of` reads it, and, after ` ⇒ `, its entries, each with its line, or the rule that it breaks.
 const ROWS: &str = "\
 == notes and empty scripts
 # x¶ ⇒ 
@@ -28,16 +26,16 @@ open¶field 2 ⇒ H1 2
 open¶field 0 ⇒ H1 2
 open¶field 2¶open ⇒ H1 2
 [K_A]¶[K_QQ] ⇒ H1 1
-100001×[K_F5]¶ ⇒ H1 1
+⟨[K_F5]¶×100001⟩ ⇒ H1 1
 == at most 64 fields
-65×open¶ ⇒ H2 65
-65×open¶|x ⇒ H2 65
+⟨open¶×65⟩ ⇒ H2 65
+⟨open¶×65⟩x ⇒ H2 65
 == faults of lines, whatever field is active
 [K_A] x ⇒ P08 1
 [K_A] [K_B ⇒ P03 1
 open¶field 9 x ⇒ P08 2
-64×open¶|open x ⇒ P08 65
-100001×[K_F5] ⇒ P07 1
+⟨open¶×64⟩open x ⇒ P08 65
+⟨[K_F5]×100001⟩ ⇒ P07 1
 open x ⇒ P08 1
 open¶field x ⇒ P05 2
 open¶field ⇒ P05 2
@@ -51,27 +49,9 @@ open¶preview [K_A ⇒ P03 2
 open¶preview [K_A] [K_A ⇒ P08 2
 open¶preview[K_A] ⇒ P02 2
 == limits on entries and bytes
-open¶|100001×preview [K_F5]¶ ⇒ P07 100002
-open¶|100000×preview [K_F5]¶|preview [K_F5] x ⇒ P07 100002
-4194305×# ⇒ P06 1";
-
-/// Returns the bytes of the script of a row.
-fn script_of(alloc: Global, row: &str) -> Result<Vec<u8>, Fail> {
-    let text = row.replace(alloc, "¶", "\n")?;
-    let mut script = Vec::new(alloc);
-    for part in text.as_str().split('|') {
-        match part.split_once('×') {
-            Some((count, copy)) => put_copies(
-                alloc,
-                &mut script,
-                count.parse().unwrap_or(0),
-                copy,
-            )?,
-            None => script.extend_from_slice(part.as_bytes())?,
-        }
-    }
-    Ok(script)
-}
+open¶⟨preview [K_F5]¶×100001⟩ ⇒ P07 100002
+open¶⟨preview [K_F5]¶×100000⟩preview [K_F5] x ⇒ P07 100002
+⟨#×4194305⟩ ⇒ P06 1";
 
 /// Appends an entry in the notation of the rows.
 fn show_entry(shown: &mut String, entry: &HostEntry) -> Result<(), Fail> {
@@ -116,21 +96,17 @@ fn given(alloc: Global, script: &[u8]) -> Result<String, Fail> {
     }
 }
 
-/// Returns the first row with a different result.
-fn wrong_row(alloc: Global) -> Result<Option<&'static str>, Fail> {
-    for row in ROWS.lines().filter(is_row) {
-        let (text, wanted) = parted(row)?;
-        let script = script_of(alloc, text)?;
-        if given(alloc, script.as_slice())?.as_str() != wanted {
-            return Ok(Some(row));
-        }
-    }
-    Ok(None)
+/// Returns whether the script of a row has the result in the row.
+fn is_right(alloc: Global, row: &str) -> Result<bool, Fail> {
+    let (text, wanted) = parted(row)?;
+    let script = source_of(alloc, text)?;
+    Ok(given(alloc, script.as_bytes())?.as_str() == wanted)
 }
 
 #[test]
 fn scripts_give_entries(rt: HostRuntime) -> Result<(), Fail> {
-    let wrong = wrong_row(rt.alloc())?;
-    assert!(rt; wrong.is_none(), "{}", wrong.unwrap_or(""));
+    for row in ROWS.lines().filter(is_row) {
+        assert!(rt; is_right(rt.alloc(), row)?, "{row}");
+    }
     Ok(())
 }

@@ -1,20 +1,15 @@
-//! Tests scripts: the entries that they contain or the rule that they break, and the lines of a transcript.
+//! Tests scripts: the entries that they contain or the rule that they break.
 
-use crate::fixtures::with_copies;
-use kmn_base::{Code, Element, Event, Item, Outcome, Refusal, Text};
-use play_script::{
-    ScriptError, end_line, expect_line, line_of, read_script, refused_event_line, text_line,
-    value_line,
-};
+use kmn_base::{Code, Event, Refusal};
+use play_script::{ScriptError, read_script};
 use rule_model::Entry;
-use source_tests::fixtures::{is_refusal, is_row, parted};
-use std::alloc::{AllocError, Global};
+use source_tests::fixtures::{is_refusal, is_row, parted, source_of};
+use std::alloc::Global;
 use std::test::Fail;
 use virtual_keys::KeyDictionary;
 
-/// Each row contains a script and, after ` ⇒ `, its entries, each with its line, or the rule that it breaks. `¶` is a line
-/// feed, `␍` a carriage return, `␉` a tab, `⌖` U+FEFF, and a backquote the byte FF. A key press has its code and its modifiers.
-/// The keyboard has the names `T_flip` and `U_0041`.
+/// Each row contains a script, as `source_of` reads it, in which a backquote is the byte FF, and, after ` ⇒ `, its entries, each with
+/// its line, or the rule that it breaks. A key press has its code and its modifiers. The keyboard has the names `T_flip` and `U_0041`.
 const ROWS: &str = "\
 == keys
 [K_A] ⇒ 1:65:0
@@ -109,27 +104,28 @@ edit 0 0\"a\" ⇒ P05 1
 caret 0 0 ⇒ P08 1
 [K_A] x ⇒ P08 1
 [K_A]] ⇒ P08 1
-[K_A]¶[K_A] x [K_QQ] ⇒ P08 2";
-
-/// Returns the character that a character of a row stands for.
-fn character(c: char) -> char {
-    match c {
-        '¶' => '\n',
-        '␍' => '\r',
-        '␉' => '\t',
-        '⌖' => '\u{FEFF}',
-        other => other,
-    }
-}
+[K_A]¶[K_A] x [K_QQ] ⇒ P08 2
+== limits on bytes and events
+⟨#×4194304⟩ ⇒ 
+⟨#×4194305⟩ ⇒ P06 1
+⟨[K_A]¶×100000⟩#¶expect ''x ⇒ P04 100002
+⟨[K_A]¶×100000⟩[K_A] ⇒ P07 100001
+⟨[K_A]¶×100000⟩caret 0 0 ⇒ P07 100001
+⟨[K_A]¶×100000⟩caret x ⇒ P05 100001
+⟨'a' ×4096⟩¶ ⇒ P02 1
+== limits on texts and names
+expect ⟨'é'×4096⟩ ⇒ 1:expect ⟨é×4096⟩
+expect ⟨'é'×4097⟩ ⇒ P04 1
+option ⟨é×80⟩ 'a' ⇒ 1:option ⟨é×80⟩ a
+option ⟨é×81⟩ 'a' ⇒ P04 1";
 
 /// Returns the bytes of the script of a row.
 fn script_of(alloc: Global, text: &str) -> Result<Vec<u8>, Fail> {
-    let mut script = Vec::new(alloc);
-    for c in text.chars() {
-        if c == '`' {
-            script.push(0xFF)?;
-        } else {
-            script.extend_from_slice(character(c).encode_utf8(&mut [0; 4]).as_bytes())?;
+    let text = source_of(alloc, text)?;
+    let mut script = Vec::from_slice(alloc, text.as_bytes())?;
+    for byte in script.as_mut_slice() {
+        if *byte == b'`' {
+            *byte = 0xFF;
         }
     }
     Ok(script)
@@ -207,36 +203,9 @@ fn gives(alloc: Global, script: &[u8], names: &KeyDictionary, wanted: &str) -> R
 /// Returns whether the script of a row has the result in the row.
 fn is_right(alloc: Global, names: &KeyDictionary, row: &str) -> Result<bool, Fail> {
     let (text, wanted) = parted(row)?;
-    gives(alloc, script_of(alloc, text)?.as_slice(), names, wanted)
-}
-
-/// A line, the number of its copies in a script, the text after them, and the entries or the refusal of the script. `¶` is a
-/// line feed.
-const LIMITS: &[(&str, usize, &str, &str)] = &[
-    ("#", 4_194_304, "", ""),
-    ("#", 4_194_305, "", "P06 1"),
-    ("[K_A]¶", 100_000, "#¶expect ''x", "P04 100002"),
-    ("[K_A]¶", 100_000, "[K_A]", "P07 100001"),
-    ("[K_A]¶", 100_000, "caret 0 0", "P07 100001"),
-    ("[K_A]¶", 100_000, "caret x", "P05 100001"),
-    ("'a' ", 4_096, "¶", "P02 1"),
-];
-
-/// A word, a text, the number of its copies after the word, and the end of the line; and whether the line is read. The copies
-/// are a string or a name of this many characters.
-const LENGTHS: &[(&str, &str, usize, &str, bool)] = &[
-    ("expect ", "'é'", 4_096, "", true),
-    ("expect ", "'é'", 4_097, "", false),
-    ("option ", "é", 80, " 'a'", true),
-    ("option ", "é", 81, " 'a'", false),
-];
-
-/// Returns whether a script of one line is read as one entry.
-fn is_read(alloc: Global, names: &KeyDictionary, script: &[u8]) -> bool {
-    match read_script(alloc, script, names) {
-        Ok(entries) => entries.len() == 1,
-        Err(_) => false,
-    }
+    let script = script_of(alloc, text)?;
+    let wanted = source_of(alloc, wanted)?;
+    gives(alloc, script.as_slice(), names, wanted.as_str())
 }
 
 /// Returns the names of the custom keys of the keyboard.
@@ -258,111 +227,10 @@ fn wrong_row(alloc: Global) -> Result<Option<&'static str>, Fail> {
     Ok(None)
 }
 
-/// Returns the script of a row of `LIMITS`.
-fn limit_script(
-    alloc: Global,
-    line: &str,
-    count: usize,
-    last: &str,
-) -> Result<Vec<u8>, AllocError> {
-    let line = line.replace(alloc, "¶", "\n")?;
-    let last = last.replace(alloc, "¶", "\n")?;
-    with_copies(alloc, "", line.as_str(), count, last.as_str())
-}
-
-/// Returns the expected result of the first row of `LIMITS` that isn't right.
-fn wrong_limit(alloc: Global) -> Result<Option<&'static str>, Fail> {
-    let names = names(alloc)?;
-    for &(line, count, last, wanted) in LIMITS {
-        let script = limit_script(alloc, line, count, last)?;
-        if !gives(alloc, script.as_slice(), &names, wanted)? {
-            return Ok(Some(wanted));
-        }
-    }
-    Ok(None)
-}
-
-/// Returns the word of the first row of `LENGTHS` that isn't right.
-fn wrong_length(alloc: Global) -> Result<Option<&'static str>, Fail> {
-    let names = names(alloc)?;
-    for &(word, token, count, end, read) in LENGTHS {
-        let script = with_copies(alloc, word, token, count, end)?;
-        if is_read(alloc, &names, script.as_slice()) != read {
-            return Ok(Some(word));
-        }
-    }
-    Ok(None)
-}
-
 #[test]
 fn scripts_give_entries(rt: HostRuntime) -> Result<(), Fail> {
     let wrong = wrong_row(rt.alloc())?;
     assert!(rt; wrong.is_none(), "{}", wrong.unwrap_or(""));
-    Ok(())
-}
-
-#[test]
-fn scripts_have_limits(rt: HostRuntime) -> Result<(), Fail> {
-    let wrong = wrong_limit(rt.alloc())?;
-    assert!(rt; wrong.is_none(), "{}", wrong.unwrap_or(""));
-    let wrong = wrong_length(rt.alloc())?;
-    assert!(rt; wrong.is_none(), "{}", wrong.unwrap_or(""));
-    Ok(())
-}
-
-/// Returns whether the lines of an event and of two values are right.
-fn are_event_lines(alloc: Global) -> Result<bool, Fail> {
-    let outcome = Outcome {
-        delete: 2,
-        pass: true,
-        beeps: 1,
-        entered: 3,
-        put: 4,
-        saved: 5,
-    };
-    let context = [Item::Char('x'), Item::Mark(12), Item::Char('\u{1F600}')];
-    let value = [
-        Element::Char('1'),
-        Element::Mark(3),
-        Element::Key {
-            flags: 0x4000,
-            code: 65,
-        },
-    ];
-    let event = line_of(alloc, 7, outcome, &['à', 'b'], &context)?;
-    let option = value_line(alloc, false, b"o", &value)?;
-    let saved = value_line(alloc, true, b"", &[])?;
-    Ok(
-        is_line(
-            &event,
-            "7 del=2 ins=00E0.0062 pass=1 beep=1 ent=3 ctx=0078.d12.1F600\n",
-        ) && is_line(&option, "opt o 0031.d3.k0041\n")
-            && is_line(&saved, "save  -\n"),
-    )
-}
-
-/// Returns whether the other lines are right.
-fn are_other_lines(alloc: Global) -> Result<bool, Fail> {
-    let expected = expect_line(alloc, 12)?;
-    let refused = refused_event_line(alloc, 3, Code::E1)?;
-    let text = text_line(alloc, &['b'], &[])?;
-    let end = end_line(alloc, 5, 2)?;
-    Ok(
-        is_line(&expected, "expect failed line=12\n")
-            && is_line(&refused, "refused E1 event 3\n")
-            && is_line(&text, "text 0062|-\n")
-            && is_line(&end, "end events=5 failed=2\n"),
-    )
-}
-
-fn is_line(line: &Text, wanted: &str) -> bool {
-    line.as_slice() == wanted.as_bytes()
-}
-
-#[test]
-fn lines_of_a_transcript(rt: HostRuntime) -> Result<(), Fail> {
-    assert!(rt; are_event_lines(rt.alloc())?);
-    assert!(rt; are_other_lines(rt.alloc())?);
     Ok(())
 }
 
@@ -378,15 +246,11 @@ const PRINTED: &[(ScriptError, &str)] = &[
     (ScriptError::Memory, "out of memory"),
 ];
 
-/// Returns whether an error has this printed text.
-fn is_printed(alloc: Global, error: &ScriptError, wanted: &str) -> Result<bool, AllocError> {
-    Ok(format!(in alloc; "{error}")?.as_str() == wanted)
-}
-
 #[test]
 fn script_errors(rt: HostRuntime) -> Result<(), Fail> {
+    let alloc = rt.alloc();
     for (error, wanted) in PRINTED {
-        assert!(rt; is_printed(rt.alloc(), error, wanted)?, "{wanted}");
+        assert!(rt; format!(in alloc; "{error}")?.as_str() == *wanted, "{wanted}");
     }
     Ok(())
 }
