@@ -1,5 +1,6 @@
-//! Tests the crates that check sources and find dead rules: `checks` tests `rule_checker`. For `rule_shadow`, `dead_rules` tests what it
-//! finds in short sources, and `certificates` tests certificates that are written by hand.
+//! Tests the crates that check and compile sources: `checks` tests `rule_checker`, and `writing` tests `kmx_writer` on a bitmap that is
+//! too large. For `rule_shadow`, `dead_rules` tests what it finds in short sources, and `certificates` tests certificates that are
+//! written by hand.
 //!
 //! The tests are in a separate crate because a crate with tests is proved twice, once with its tests and once without. So each of
 //! the tested crates is proved once, and the tests are proved after it. `source_tests` does the same for the crates below these.
@@ -18,3 +19,5 @@ pub mod fixtures;
 mod rows;
 #[cfg(test)]
 mod sources;
+#[cfg(test)]
+mod writing;

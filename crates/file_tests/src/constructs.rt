@@ -5,79 +5,76 @@ use core_constructs::{
     Construct, Difference, FileConstruct, GroupConstruct, GroupDifference, Told, told,
 };
 use kmx_verifier::verify;
-use source_tests::fixtures::parted;
+use source_tests::fixtures::{parted, source_of};
 use std::alloc::{AllocError, Global};
 use std::test::Fail;
 
-/// The lines that `H` stands for.
-const HEAD: &str = "begin Unicode > use(main)\ngroup(main) using keys\n";
-
-/// Each line has a source of lines separated by `¶` and, after ` ⇒ `, what is told of it, separated by commas: a line with its words, a group with a word, or
-/// a word for the file.
+/// Each line has a source, as `source_of` reads it, and, after ` ⇒ `, what is told of it, separated by commas: a line with its words, a
+/// group with a word, or a word for the file.
 const TOLD: &str = "\
-H¶+ 'a' > layer('caps')¶if(&layer = 'caps') + 'b' > 'B' ⇒ 3 layer,4 layer
-H¶if(&layer != 'caps') + 'a' > 'x' ⇒ 3 layer
-H¶layer('default') + 'a' > 'x' ⇒ 3 layer
-H¶+ 'a' > 'x' layer('shift') ⇒ 3 layer
-H¶+ 'a' > use(t)¶group(t)¶'q' > 'r'¶nomatch > 'n' layer('shift') ⇒ group 1 layer
-H¶platform('windows') + 'a' > 'x'¶platform('NATIVE Windows') + 'b' > 'y' ⇒ 
-H¶platform(' windows') + 'a' > 'x' ⇒ 3 platform
-H¶if(&platform != 'touch ') + 'a' > 'x'¶if(&platform != 'native ') + 'b' > 'y' ⇒ 3 platform,4 platform
-H¶platform('windows   native') + 'a' > 'x' ⇒ 
-H¶platform(' ') + 'a' > 'x' ⇒ 3 platform
-H¶+ [CTRL RALT K_A] > 'x' ⇒ 3 sides
-H¶+ [LCTRL ALT K_A] > 'x' ⇒ 3 sides
-H¶+ [LCTRL LALT K_A] > 'x'¶+ [RCTRL RALT K_A] > 'y' ⇒ 
-H¶+ [LCTRL RALT K_A] > 'x' ⇒ 3 right
-H¶+ [SHIFT LCTRL RALT K_A] > 'x' ⇒ 
-H¶+ [CAPS LCTRL RALT K_A] > 'x' ⇒ 3 right
-H¶+ [CTRL K_A] > 'x' ⇒ file both
-H¶+ [LCTRL RCTRL K_A] > 'x' ⇒ file both
-H¶+ [RALT K_A] > 'x' ⇒ 
-H¶+ 'a' > 'x'¶nomatch > 'n' ⇒ group 0 nomatch
-H¶+ 'a' > 'x'¶nomatch > nul ⇒ group 0 nomatch
+§+ 'a' > layer('caps')¶if(&layer = 'caps') + 'b' > 'B' ⇒ 3 layer,4 layer
+§if(&layer != 'caps') + 'a' > 'x' ⇒ 3 layer
+§layer('default') + 'a' > 'x' ⇒ 3 layer
+§+ 'a' > 'x' layer('shift') ⇒ 3 layer
+§+ 'a' > use(t)¶group(t)¶'q' > 'r'¶nomatch > 'n' layer('shift') ⇒ group 1 layer
+§platform('windows') + 'a' > 'x'¶platform('NATIVE Windows') + 'b' > 'y' ⇒ 
+§platform(' windows') + 'a' > 'x' ⇒ 3 platform
+§if(&platform != 'touch ') + 'a' > 'x'¶if(&platform != 'native ') + 'b' > 'y' ⇒ 3 platform,4 platform
+§platform('windows   native') + 'a' > 'x' ⇒ 
+§platform(' ') + 'a' > 'x' ⇒ 3 platform
+§+ [CTRL RALT K_A] > 'x' ⇒ 3 sides
+§+ [LCTRL ALT K_A] > 'x' ⇒ 3 sides
+§+ [LCTRL LALT K_A] > 'x'¶+ [RCTRL RALT K_A] > 'y' ⇒ 
+§+ [LCTRL RALT K_A] > 'x' ⇒ 3 right
+§+ [SHIFT LCTRL RALT K_A] > 'x' ⇒ 
+§+ [CAPS LCTRL RALT K_A] > 'x' ⇒ 3 right
+§+ [CTRL K_A] > 'x' ⇒ file both
+§+ [LCTRL RCTRL K_A] > 'x' ⇒ file both
+§+ [RALT K_A] > 'x' ⇒ 
+§+ 'a' > 'x'¶nomatch > 'n' ⇒ group 0 nomatch
+§+ 'a' > 'x'¶nomatch > nul ⇒ group 0 nomatch
 begin Unicode > use(main)¶group(main)¶'q' > 'r'¶nomatch > 'n' ⇒ 
-H¶'a' + [U_00E1] > 'X' ⇒ file own
-H¶'a' + [T_x] > 'X' ⇒ file own
-H¶+ '5' > 'x'¶+ '+' > 'y' ⇒ 3 keypad,4 keypad
-H¶+ [K_NP5] > 'x' ⇒ 
-H¶+ 'r' > return¶+ 'a' > use(t) 'x'¶group(t)¶'q' > 'r' ⇒ 4 use
-H¶+ 'r' > return¶+ 'a' > 'x' use(t) nul¶group(t)¶'x' > 'y' ⇒ 
-H¶+ 'r' > return¶+ 'a' > 'x' use(t) return¶match > 'm'¶group(t)¶'x' > 'y' ⇒ 
-H¶+ 'a' > use(t) return 'x'¶group(t)¶'q' > 'r' ⇒ 
-H¶+ 'a' > 'x' use(t) use(u)¶group(t)¶'x' > 'y'¶group(u)¶'y' > 'z' ⇒ 3 use
-H¶+ 'a' > 'x' use(t)¶match > 'm'¶group(t)¶'x' > 'y' ⇒ 3 match
-H¶+ 'a' > 'x' use(t)¶match > nul¶group(t)¶'x' > 'y' ⇒ 
-H¶+ 'a' > 'x' use(t)¶match > return¶group(t)¶'x' > 'y' ⇒ 
-H¶+ 'r' > return¶+ 'a' > 'x'¶match > use(t) 'm'¶group(t)¶'x' > 'y' ⇒ group 0 use
-H¶+ 'a' > 'x'¶match > use(t)¶group(t)¶'x' > 'y' ⇒ 
-H¶+ 'a' > 'x'¶group(t)¶'x' > use(u) 'y'¶ > 'n'¶group(u)¶'p' > 'q' ⇒ 
-H¶store(o) '1'¶nul if(o = '1') + 'c' > 'd'¶+ 'x' > set(o = '1') ⇒ 
-H¶store(o) '1'¶store(v) 'ab'¶if(o = '1') any(v) context(2) + 'x' > 'y'¶+ 'z' > set(o = '1') ⇒ 5 offset
-H¶store(v) 'ab'¶any(v) context(1) + 'x' > 'y' ⇒ 
-H¶store(o) '1'¶if(o = '1') 'a' 'b' + 'x' > context(3) context(2)¶+ 'z' > set(o = '1') ⇒ 
-H¶store(v) 'ab'¶store(w) 'xy'¶nul any(v) + 'i' > index(w, 2) ⇒ 5 offset
-H¶store(o) '1'¶store(v) 'ab'¶store(w) 'xy'¶if(o = '1') any(v) + 'i' > index(w, 2)¶+ 'z' > set(o = '1') ⇒ 
-H¶nul 'a' + 'b' > context 'x' ⇒ 
-H¶+ 'a' > 'x' use(t)¶group(t)¶'q' > 'r'¶ > 'n'¶match > 'm' ⇒ 6 empty
-H¶+ 'd' > dk(1)¶dk(1) dk(1) dk(1) dk(1) dk(1) dk(1) dk(1) dk(1) dk(1) dk(1) dk(1) dk(1) dk(1) dk(1) dk(1) dk(1) dk(1) dk(1) dk(1) dk(1) dk(1) + 'x' > 'y' ⇒ file marks
-H¶+ 'd' > dk(1)¶dk(1) dk(1) dk(1) dk(1) dk(1) dk(1) dk(1) dk(1) dk(1) dk(1) dk(1) dk(1) dk(1) dk(1) dk(1) dk(1) dk(1) dk(1) dk(1) dk(1) dk(1) dk(1) + 'x' > 'y' ⇒ 4 long,file marks
-H¶store(o) '0'¶+ 's' > set(o = '1') save(o) set(o = '2')¶+ 'r' > reset(o)¶if(o = '1') + 'a' > 'x' ⇒ 4 save
-H¶store(o) '0'¶+ 's' > set(o = '1') save(o) reset(o)¶if(o = '1') + 'a' > 'x' ⇒ 4 save
-H¶store(o) '0'¶+ 's' > set(o = '1') save(o)¶+ 't' > set(o = '2')¶+ 'r' > reset(o)¶if(o = '1') + 'a' > 'x' ⇒ 
-H¶store(o) '0'¶+ 's' > set(o = '1') save(o) use(t)¶+ 'r' > reset(o)¶if(o = '1') + 'a' > 'x'¶group(t)¶nomatch > set(o = '2') ⇒ 4 save
-H¶store(o) '0'¶+ 's' > set(o = '1') save(o)¶if(o = '1') + 'a' > 'x' return¶+ 'r' > reset(o) return¶match > set(o = '2') ⇒ 4 save
-H¶store(o) '0'¶store(p) '0'¶+ 's' > set(o = '1') save(o) set(p = '2')¶+ 'r' > reset(o)¶if(o = '1') + 'a' > 'x' ⇒ 
-H¶+ 'q' > dk(1)¶dk(1) + 'a' > 'x' ⇒ file marks
-H¶+ 'q' > 'z' dk(1)¶dk(1) + 'a' > 'x' ⇒ file marks
-H¶+ 'q' > dk(1) dk(1) dk(1) dk(1) dk(1) dk(1) dk(1) dk(1) dk(1) dk(1) dk(1) dk(1) dk(1) dk(1) dk(1) dk(1) dk(1) dk(1) dk(1) dk(1) dk(1) dk(1) ⇒ file marks
-H¶'aaaaaaaaaaaaaaaaaaaaaaaaaaaaaaaaaaaaaaaaaaaaaaaaaaaaaaaaaaaa' + 'x' > 'y' ⇒ 
-H¶'😀😀😀😀😀😀😀😀😀😀😀😀😀😀😀😀😀😀😀😀😀😀😀😀😀😀😀😀😀😀😀' + 'x' > 'y'¶'😀😀😀😀😀😀😀😀😀😀😀😀😀😀😀😀😀😀😀😀😀😀😀😀😀😀😀😀😀😀😀😀' + 'x' > 'y' ⇒ 4 long
-H¶nul '😀😀😀😀😀😀😀😀😀😀😀😀😀😀😀😀😀😀😀😀😀😀😀😀😀😀😀😀😀😀' + 'x' > 'y'¶nul '😀😀😀😀😀😀😀😀😀😀😀😀😀😀😀😀😀😀😀😀😀😀😀😀😀😀😀😀😀😀😀' + 'x' > 'y' ⇒ 4 long
-H¶'aaaaaaaaaaaaaaaaaaaaaaaaaaaaaaaaaaaaaaaa' + 'b' > use(t)¶group(t)¶'aaaaaaaaaaaaaaaaaaaaaaaaaaaaaa' > 'Y'¶nomatch > 'n' ⇒ 5 long
-H¶'aaaaaaaaaaaaaaaaaaaaaaaaaaaaaaaaaaaaaaaaaaaaaaaaaaaaaaaaaaa' + 'b' > use(t)¶group(t)¶nul 'aa' > 'Y'¶nomatch > 'n' ⇒ 
-H¶'aaaaaaaaaaaaaaaaaaaaaaaaaaaaaaaaaaaaaaaaaaaaaaaaaaaaaaaaaaaa' + 'b' > use(t)¶group(t)¶nul 'aaa' > 'Y'¶nomatch > 'n' ⇒ 5 long
-H¶+ 'a' > 'x' use(main) ⇒ file budget";
+§'a' + [U_00E1] > 'X' ⇒ file own
+§'a' + [T_x] > 'X' ⇒ file own
+§+ '5' > 'x'¶+ '+' > 'y' ⇒ 3 keypad,4 keypad
+§+ [K_NP5] > 'x' ⇒ 
+§+ 'r' > return¶+ 'a' > use(t) 'x'¶group(t)¶'q' > 'r' ⇒ 4 use
+§+ 'r' > return¶+ 'a' > 'x' use(t) nul¶group(t)¶'x' > 'y' ⇒ 
+§+ 'r' > return¶+ 'a' > 'x' use(t) return¶match > 'm'¶group(t)¶'x' > 'y' ⇒ 
+§+ 'a' > use(t) return 'x'¶group(t)¶'q' > 'r' ⇒ 
+§+ 'a' > 'x' use(t) use(u)¶group(t)¶'x' > 'y'¶group(u)¶'y' > 'z' ⇒ 3 use
+§+ 'a' > 'x' use(t)¶match > 'm'¶group(t)¶'x' > 'y' ⇒ 3 match
+§+ 'a' > 'x' use(t)¶match > nul¶group(t)¶'x' > 'y' ⇒ 
+§+ 'a' > 'x' use(t)¶match > return¶group(t)¶'x' > 'y' ⇒ 
+§+ 'r' > return¶+ 'a' > 'x'¶match > use(t) 'm'¶group(t)¶'x' > 'y' ⇒ group 0 use
+§+ 'a' > 'x'¶match > use(t)¶group(t)¶'x' > 'y' ⇒ 
+§+ 'a' > 'x'¶group(t)¶'x' > use(u) 'y'¶ > 'n'¶group(u)¶'p' > 'q' ⇒ 
+§store(o) '1'¶nul if(o = '1') + 'c' > 'd'¶+ 'x' > set(o = '1') ⇒ 
+§store(o) '1'¶store(v) 'ab'¶if(o = '1') any(v) context(2) + 'x' > 'y'¶+ 'z' > set(o = '1') ⇒ 5 offset
+§store(v) 'ab'¶any(v) context(1) + 'x' > 'y' ⇒ 
+§store(o) '1'¶if(o = '1') 'a' 'b' + 'x' > context(3) context(2)¶+ 'z' > set(o = '1') ⇒ 
+§store(v) 'ab'¶store(w) 'xy'¶nul any(v) + 'i' > index(w, 2) ⇒ 5 offset
+§store(o) '1'¶store(v) 'ab'¶store(w) 'xy'¶if(o = '1') any(v) + 'i' > index(w, 2)¶+ 'z' > set(o = '1') ⇒ 
+§nul 'a' + 'b' > context 'x' ⇒ 
+§+ 'a' > 'x' use(t)¶group(t)¶'q' > 'r'¶ > 'n'¶match > 'm' ⇒ 6 empty
+§+ 'd' > dk(1)¶dk(1) dk(1) dk(1) dk(1) dk(1) dk(1) dk(1) dk(1) dk(1) dk(1) dk(1) dk(1) dk(1) dk(1) dk(1) dk(1) dk(1) dk(1) dk(1) dk(1) dk(1) + 'x' > 'y' ⇒ file marks
+§+ 'd' > dk(1)¶dk(1) dk(1) dk(1) dk(1) dk(1) dk(1) dk(1) dk(1) dk(1) dk(1) dk(1) dk(1) dk(1) dk(1) dk(1) dk(1) dk(1) dk(1) dk(1) dk(1) dk(1) dk(1) + 'x' > 'y' ⇒ 4 long,file marks
+§store(o) '0'¶+ 's' > set(o = '1') save(o) set(o = '2')¶+ 'r' > reset(o)¶if(o = '1') + 'a' > 'x' ⇒ 4 save
+§store(o) '0'¶+ 's' > set(o = '1') save(o) reset(o)¶if(o = '1') + 'a' > 'x' ⇒ 4 save
+§store(o) '0'¶+ 's' > set(o = '1') save(o)¶+ 't' > set(o = '2')¶+ 'r' > reset(o)¶if(o = '1') + 'a' > 'x' ⇒ 
+§store(o) '0'¶+ 's' > set(o = '1') save(o) use(t)¶+ 'r' > reset(o)¶if(o = '1') + 'a' > 'x'¶group(t)¶nomatch > set(o = '2') ⇒ 4 save
+§store(o) '0'¶+ 's' > set(o = '1') save(o)¶if(o = '1') + 'a' > 'x' return¶+ 'r' > reset(o) return¶match > set(o = '2') ⇒ 4 save
+§store(o) '0'¶store(p) '0'¶+ 's' > set(o = '1') save(o) set(p = '2')¶+ 'r' > reset(o)¶if(o = '1') + 'a' > 'x' ⇒ 
+§+ 'q' > dk(1)¶dk(1) + 'a' > 'x' ⇒ file marks
+§+ 'q' > 'z' dk(1)¶dk(1) + 'a' > 'x' ⇒ file marks
+§+ 'q' > dk(1) dk(1) dk(1) dk(1) dk(1) dk(1) dk(1) dk(1) dk(1) dk(1) dk(1) dk(1) dk(1) dk(1) dk(1) dk(1) dk(1) dk(1) dk(1) dk(1) dk(1) dk(1) ⇒ file marks
+§'aaaaaaaaaaaaaaaaaaaaaaaaaaaaaaaaaaaaaaaaaaaaaaaaaaaaaaaaaaaa' + 'x' > 'y' ⇒ 
+§'😀😀😀😀😀😀😀😀😀😀😀😀😀😀😀😀😀😀😀😀😀😀😀😀😀😀😀😀😀😀😀' + 'x' > 'y'¶'😀😀😀😀😀😀😀😀😀😀😀😀😀😀😀😀😀😀😀😀😀😀😀😀😀😀😀😀😀😀😀😀' + 'x' > 'y' ⇒ 4 long
+§nul '😀😀😀😀😀😀😀😀😀😀😀😀😀😀😀😀😀😀😀😀😀😀😀😀😀😀😀😀😀😀' + 'x' > 'y'¶nul '😀😀😀😀😀😀😀😀😀😀😀😀😀😀😀😀😀😀😀😀😀😀😀😀😀😀😀😀😀😀😀' + 'x' > 'y' ⇒ 4 long
+§'aaaaaaaaaaaaaaaaaaaaaaaaaaaaaaaaaaaaaaaa' + 'b' > use(t)¶group(t)¶'aaaaaaaaaaaaaaaaaaaaaaaaaaaaaa' > 'Y'¶nomatch > 'n' ⇒ 5 long
+§'aaaaaaaaaaaaaaaaaaaaaaaaaaaaaaaaaaaaaaaaaaaaaaaaaaaaaaaaaaa' + 'b' > use(t)¶group(t)¶nul 'aa' > 'Y'¶nomatch > 'n' ⇒ 
+§'aaaaaaaaaaaaaaaaaaaaaaaaaaaaaaaaaaaaaaaaaaaaaaaaaaaaaaaaaaaa' + 'b' > use(t)¶group(t)¶nul 'aaa' > 'Y'¶nomatch > 'n' ⇒ 5 long
+§+ 'a' > 'x' use(main) ⇒ file budget";
 
 /// Returns the word of a construct of a record.
 fn line_word(construct: Construct) -> &'static str {
@@ -153,24 +150,10 @@ pub fn told_text(alloc: Global, told: &Told) -> Result<String, AllocError> {
     Ok(text)
 }
 
-/// Returns the source of these lines.
-fn source(alloc: Global, lines: &str) -> Result<String, AllocError> {
-    let mut text = String::new(alloc);
-    for line in lines.split("¶") {
-        if line == "H" {
-            text.push_str(HEAD)?;
-        } else {
-            text.push_str(line)?;
-            text.push_str("\n")?;
-        }
-    }
-    Ok(text)
-}
-
 /// Returns whether the row's keyboard is told as the row says.
 fn is_told(alloc: Global, row: &str) -> Result<bool, Fail> {
     let (lines, wanted) = parted(row)?;
-    let bytes = compiled(alloc, source(alloc, lines)?.as_str())?;
+    let bytes = compiled(alloc, source_of(alloc, lines)?.as_str())?;
     let file = verify(alloc, bytes.as_slice())?;
     let told = told(alloc, 0, &file.copied_tables(alloc)?)?;
     let text = told_text(alloc, &told)?;

@@ -2,8 +2,8 @@
 //! layer, `sets` from the file that sets the layer, and any other row from the file of one rule. `..` truncates the file to a
 //! length, `@` moves to a byte offset, and hexadecimal digits are the bytes from there on.
 
-use crate::fixtures::{ON_LAYER, SETS_LAYER, TWO_KEYS};
-use compile_tests::fixtures::ONE_RULE;
+use crate::fixtures::{ON_LAYER, SETS_LAYER};
+use compile_tests::fixtures::{ONE_RULE, TWO_KEYS};
 use std::alloc::{AllocError, Global};
 use std::str;
 use std::test::Fail;
@@ -74,12 +74,18 @@ fn change(file: &mut Vec<u8>, place: usize, word: &str) -> Result<usize, Fail> {
     }
 }
 
+/// Makes changes of a file one after the other.
+pub fn change_all(file: &mut Vec<u8>, changes: &str) -> Result<(), Fail> {
+    let mut place = 0;
+    for word in changes.split_whitespace() {
+        place = change(file, place, word)?;
+    }
+    Ok(())
+}
+
 /// Returns the file that changes describe.
 pub fn changed(alloc: Global, changes: &str) -> Result<Vec<u8>, Fail> {
     let mut file = Vec::from_slice(alloc, &ONE_RULE)?;
-    let mut place = 0;
-    for word in changes.split_whitespace() {
-        place = change(&mut file, place, word)?;
-    }
+    change_all(&mut file, changes)?;
     Ok(file)
 }

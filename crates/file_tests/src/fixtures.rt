@@ -1,11 +1,4 @@
-//! What several tests use: three files, and a rule.
-
-ghost use Rattle.std.specs.Prelude.{◌≡◌, IfOk};
-ghost use Rattle.kmx_format.specs.WorkedFiles.{plain_rule};
-
-use kmn_base::{Memory, RuleKey, Seq};
-use rule_model::{Out, Rule};
-use std::alloc::Global;
+//! Two files with the layer.
 
 /// The file of a rule with a condition on the layer `s`: a store with the value, and a record whose context is this condition.
 pub const ON_LAYER: [u8; 150] = [
@@ -75,16 +68,3 @@ pub const SETS_LAYER: [u8; 154] = [
     0xFF, 0xFF, 0x18, 0, 0x22, 0, 1, 0, // 144: output of the record: a set of the layer
     0, 0, // 152: end of the string
 ];
-
-/// Returns a rule without context that outputs one character.
-pub fn rule(alloc: Global, line: u32, key: RuleKey, c: char) -> Result<Rule, Memory>
-    ensures { IfOk result (λ rule. rule ≡ plain_rule line key c) }
-{
-    Ok(Rule {
-        line,
-        place: 0,
-        key,
-        context: Seq::new(alloc),
-        output: Seq::from_slice(alloc, &[Out::Char(c)])?,
-    })
-}
