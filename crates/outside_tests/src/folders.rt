@@ -1,7 +1,6 @@
-//! Tests calls over the folder and the sink in memory, and over real files.
+//! Tests calls over real files.
 
-use kmn_base::Seq;
-use kmn_outside::{DiskFolder, Folder, MemoryFolder, MemorySink, Sink, StreamSink};
+use kmn_outside::{DiskFolder, Folder, Sink, StreamSink};
 use std::alloc::Global;
 use std::fs::{self, File};
 use std::io::Read;
@@ -39,25 +38,6 @@ fn takes_two<S: Sink>(sink: &mut S) -> bool {
     sink.put(b"ab") == Ok(2)
 }
 
-/// Returns a folder with the file `a` of two bytes and the empty file `ab`. Its third call fails.
-fn small_folder(alloc: Global) -> Result<MemoryFolder, Fail> {
-    let mut files = Vec::new(alloc);
-    files.push((Seq::from_slice(alloc, b"ab")?, Seq::new(alloc)))?;
-    files.push((
-        Seq::from_slice(alloc, b"a")?,
-        Seq::from_slice(alloc, b"xy")?,
-    ))?;
-    let fails = Seq::from_vec(Vec::from_slice(alloc, &[3])?);
-    Ok(MemoryFolder::new(alloc, Seq::from_vec(files), fails))
-}
-
-const READS_IN_MEMORY: &[ReadRow] = &[
-    (b"a", 2, "xy"),
-    (b"a", 1, "the file has 2 bytes or more"),
-    (b"a", 2, "the file can't be read"),
-    (b"b", 2, "the file can't be read"),
-];
-
 const READS_ON_DISK: &[ReadRow] = &[
     (b"disk.tmp", 5, "12345"),
     (b"disk.tmp", usize::MAX, "12345"),
@@ -79,27 +59,6 @@ fn wrong_read<F: Folder>(
         }
     }
     Ok(None)
-}
-
-/// Returns the expected result of the first wrong call of the folder in memory.
-fn wrong_in_memory(alloc: Global) -> Result<Option<&'static str>, Fail> {
-    let mut folder = small_folder(alloc)?;
-    let wrong = wrong_read(alloc, &mut folder, READS_IN_MEMORY)?;
-    let is_written = is_written(alloc, &mut folder, b"b", "written")?;
-    Ok(if is_written { wrong } else { Some("written") })
-}
-
-/// Returns whether the sink in memory accepts two bytes in one call.
-fn memory_takes_two(alloc: Global) -> bool {
-    takes_two(&mut MemorySink::new(alloc, Seq::new(alloc)))
-}
-
-#[test]
-fn calls_in_memory(rt: HostRuntime) -> Result<(), Fail> {
-    let wrong = wrong_in_memory(rt.alloc())?;
-    assert!(rt; wrong.is_none(), "{}", wrong.unwrap_or(""));
-    assert!(rt; memory_takes_two(rt.alloc()));
-    Ok(())
 }
 
 /// Returns whether a file is written, and a write into a folder that does not exist fails.

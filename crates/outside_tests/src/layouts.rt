@@ -9,9 +9,8 @@ use std::test::Fail;
 use touch_layout::check_layout;
 
 /// Each line contains a layout and, after ` ⇒ `, the number of its keys or the rule that it breaks. In a layout, `⌖` is U+FEFF,
-/// `‹` begins a platform whose first layer is `a`, up to its rows, `«` and `»` enclose the keys of the only row of layer `a` of
-/// a tablet, and `①` to `④` are the parts of a layout of two layers. Between these parts are its custom key, the layer that
-/// shift leads to, and the id of the second layer.
+/// `‹` begins a platform whose first layer is `a`, up to its rows, and `«` and `»` enclose the keys of the only row of layer `a` of
+/// a tablet.
 const LAYOUTS: &str = r##"== texts that are no JSON object, and the empty one
  ⇒ refused T1 platform 0 layer 0 row 0 key 0
 ⌖{} ⇒ keys 0
@@ -40,12 +39,7 @@ const LAYOUTS: &str = r##"== texts that are no JSON object, and the empty one
 «{"id":"T_x","sp":9.0}» ⇒ refused T5 platform 2 layer 1 row 1 key 1
 «{"flick":{"n":{"id":"T_x"},"e":{"id":"x"}}}» ⇒ refused T5 platform 2 layer 1 row 1 key 1
 == custom keys that the keyboard has, or that need no rule
-«{"id":"t_FLIP","sk":[{"id":"T_x","sp":"9"}],"multitap":[{"id":"T_x","nextlayer":"a"}]}» ⇒ keys 3
-== a layout of two layers
-①T_flip②shift③shift④ ⇒ keys 7
-①T_flop②shift③shift④ ⇒ refused T5 platform 1 layer 1 row 1 key 2
-①T_flip②numeric③shift④ ⇒ refused T4 platform 1 layer 1 row 1 key 3
-①T_flip②shift③default④ ⇒ refused T6 platform 1 layer 2 row 0 key 0"##;
+«{"id":"t_FLIP","sk":[{"id":"T_x","sp":"9"}],"multitap":[{"id":"T_x","nextlayer":"a"}]}» ⇒ keys 3"##;
 
 /// A keyboard with a rule for the key T_flip.
 const FLIP: &[u8] = b"begin Unicode > use(main)\ngroup(main) using keys\n+ [T_flip] > 'x'\n";
@@ -57,14 +51,6 @@ fn text_of(sign: char) -> Option<&'static str> {
         '‹' => Some(r#"{"layer":[{"id":"a","row":["#),
         '«' => Some(r#"{"tablet":{"layer":[{"id":"a","row":[{"key":["#),
         '»' => Some("]}]}]}}"),
-        '①' => Some(
-            r#"{"phone":{"font":"Sans","layer":[{"id":"default","row":[{"id":"1","key":[{"id":"K_A","text":"a","sk":[{"id":"U_00E1","text":"x"}]},{"id":""#,
-        ),
-        '②' => Some(r#""},{"id":"K_SHIFT","sp":"1","nextlayer":""#),
-        '③' => Some(r#""}]}]},{"id":""#),
-        '④' => Some(
-            r#"","row":[{"id":"1","key":[{"id":"K_A","text":"A"},{"id":"K_SHIFT","sp":"2","nextlayer":"default"},{"id":"T_pad","sp":"10","width":"50"}]}]}]}}"#,
-        ),
         _ => None,
     }
 }
@@ -106,19 +92,9 @@ fn wrong_row(alloc: Global, tables: &Tables) -> Result<Option<&'static str>, Fai
     Ok(None)
 }
 
-/// Returns whether a layout that is one byte longer than its limit is refused.
-fn is_long_layout_refused(alloc: Global, tables: &Tables) -> Result<bool, Fail> {
-    let long = vec![in alloc; b' '; 4_194_305]?;
-    let answer = answered(alloc, long.as_slice(), tables)?;
-    Ok(answer.as_str() == "refused T7 platform 0 layer 0 row 0 key 0")
-}
-
 /// Returns the first layout that isn't right.
 fn wrong_layout(alloc: Global) -> Result<Option<&'static str>, Fail> {
     let tables = compile(alloc, FLIP, &[])?.tables;
-    if !is_long_layout_refused(alloc, &tables)? {
-        return Ok(Some("the long layout"));
-    }
     wrong_row(alloc, &tables)
 }
 
