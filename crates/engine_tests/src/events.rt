@@ -1,25 +1,12 @@
 //! Reads events from the steps of test tables.
 
-use crate::fixtures::press;
 use kmn_base::{Event, KeyPress, Memory, Seq};
 use std::alloc::Global;
+use virtual_keys::key_named;
 
 /// Returns the number of a table entry. A malformed number is larger than any position in a text.
 fn number(text: &str) -> u32 {
     text.parse().unwrap_or(u32::MAX)
-}
-
-/// Returns the key press of a step.
-fn press_of(word: &str) -> KeyPress {
-    let (mods, name) = word.split_once('+').unwrap_or(("0", word));
-    KeyPress {
-        code: if name.starts_with("T_") {
-            256
-        } else {
-            press(name.as_bytes()).code
-        },
-        mods: mods.parse().unwrap_or(u16::MAX),
-    }
 }
 
 fn chars(alloc: Global, text: &str) -> Result<Seq<char>, Memory> {
@@ -47,8 +34,7 @@ fn setting(alloc: Global, name: &str, value: &str) -> Result<Event, Memory> {
 }
 
 /// Returns the event of a step: `|` and a caret position; `-` and an edit; the name and the value of an option with `=` between
-/// them, where `_` is a space; or a key name, perhaps after its modifiers and `+`. A key `T_..` is the first custom key of the
-/// keyboard.
+/// them, where `_` is a space; or the name of a key.
 pub fn event(alloc: Global, word: &str) -> Result<Event, Memory> {
     if let Some(place) = word.strip_prefix('|') {
         return Ok(Event::Caret(number(place)));
@@ -58,6 +44,9 @@ pub fn event(alloc: Global, word: &str) -> Result<Event, Memory> {
     }
     match word.split_once('=') {
         Some((name, value)) => setting(alloc, name, value),
-        None => Ok(Event::Key(press_of(word))),
+        None => Ok(Event::Key(KeyPress {
+            code: key_named(word.as_bytes()).unwrap_or(0),
+            mods: 0,
+        })),
     }
 }

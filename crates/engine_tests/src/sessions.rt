@@ -1,25 +1,26 @@
 //! Tests sessions with compiled keyboards, event by event.
 
 use crate::events::event;
-use crate::fixtures::key;
-use compile_tests::fixtures::{ONE_RULE, compiled};
-use kmn_base::{Element, Event, Item, KeyPress, Memory, Seq};
+use compile_tests::fixtures::compiled;
+use kmn_base::{Element, Memory, Seq};
 use kmx_verifier::{Verified, verify};
 use play_session::{Change, Session, StepError};
 use source_tests::fixtures::{is_row, put_items};
-use std::alloc::{AllocError, Global};
+use std::alloc::Global;
 use std::str;
 use std::test::Fail;
 
-/// An option o with the value `0`, rules that test and change it, a rule that outputs a deadkey, and one that deletes it.
-const KEYBOARD: &str = "begin Unicode > use(main)\nstore(o) '0'\ngroup(main) using keys\n\
-    if(o = '1') + 'a' > 'x'\n+ 'a' > 'y'\n+ 's' > set(o = '1')\n+ 'v' > save(o)\n\
-    + 'r' > reset(o)\n+ 'z' > set(o = '0')\n+ '`' > dk(x)\ndk(x) + 'q' > U+00E0\n";
-
-/// Each line lists the steps of a session with that keyboard. A step is an event that `event` reads, a space, and the inserted
+/// Keyboards, each with the steps of sessions, one session in a line. A step is an event that `event` reads, a space, and the inserted
 /// text, the cached context and the changed values, with `!` before a saved one, or the refusal. `*` is a mark (a deadkey in
-/// the item list).
-const CASES: &str = "\
+/// the item list). The first keyboard has an option o with the value `0`, rules that test and change it, a rule that outputs a
+/// deadkey, and one that deletes it. The second has two rules with a deadkey. The others test the layer and the platform, and have
+/// stores with these names. The option `~layer` of the last gets the name `&layer`, which no source can express.
+const KEYBOARDS: &[(&str, &str)] = &[
+    (
+        "begin Unicode > use(main)\nstore(o) '0'\ngroup(main) using keys\n\
+        if(o = '1') + 'a' > 'x'\n+ 'a' > 'y'\n+ 's' > set(o = '1')\n+ 'v' > save(o)\n\
+        + 'r' > reset(o)\n+ 'z' > set(o = '0')\n+ '`' > dk(x)\ndk(x) + 'q' > U+00E0\n",
+        "\
 == rules and the host set, save and reset an option
 K_A y,y, ; K_S ,y,o1 ; K_A x,yx, ; K_R ,yx,o0 ; o=1 ,yx,o1!o1 ; K_Z ,yx,o0 ; K_R ,yx,o1 ; K_V ,yx,
 == names without ASCII case, and names that no option has
@@ -30,11 +31,12 @@ K_X x,x, ; K_BKQUOTE ,x*, ; -0,0,uu ,uux, ; |9 E1 ; -2,1, E1 ; -3,4, E1
 == a foreign edit after the caret keeps deadkeys
 K_X x,x, ; K_BKQUOTE ,x*, ; -1,1,u ,x*,
 == a rule uses a deadkey
-K_BKQUOTE ,*, ; K_Q à,à,";
-
-/// Keyboards that test the layer and the platform, each with the steps of sessions. They also have stores with these names. The
-/// option `~layer` of the second gets the name `&layer`, which no source can express.
-const ON_SYSTEM_OPTIONS: &[(&str, &str)] = &[
+K_BKQUOTE ,*, ; K_Q à,à,",
+    ),
+    (
+        "begin Unicode > use(main)\ngroup(main) using keys\n+ '`' > dk(g)\ndk(g) + 'a' > U+00E0\n",
+        "K_BKQUOTE ,*, ; K_A à,à,",
+    ),
     (
         "store(layer) 'l'\nstore(platform) 'p'\nstore(o) '0'\nbegin Unicode > use(main)\ngroup(main) using keys\n\
         if(&layer = 's') + 'a' > 'x'\nif(&platform = 'WEB') + 'a' > 'w'\nif(o = '1') + 'a' > 'o'\n+ 'a' > 'y'\n\
@@ -55,13 +57,6 @@ K_O ,,o1!o1&layers ; K_A x,x, ; K_D ,x,&layerdefault ; K_A o,xo, ; o=0 ,xo,o0!o0
         "\
 K_A d,d, ; &layer=1 ,d,&layer1!&layer1 ; K_A o,do, ; &Layer=s ,do,&layers!&layers ; K_A d,dod, ; K_S ,dod,&layers ; K_A y,dody,",
     ),
-];
-
-/// Store numbers of a file without stores, each with its name and its value before the first event.
-const NUMBERS: &[(u32, &str, &str)] = &[
-    (0, "&layer", "default"),
-    (1, "&platform", "windows desktop hardware native"),
-    (2, "", ""),
 ];
 
 /// Appends the characters of a value.
@@ -119,17 +114,12 @@ fn shown(alloc: Global, session: &Session) -> Result<String, Memory> {
     Ok(text)
 }
 
-/// Returns whether a session reports this about its last step.
-fn tells(alloc: Global, session: &Session, wanted: &str) -> Result<bool, Fail> {
-    Ok(shown(alloc, session)?.as_str() == wanted)
-}
-
 /// Performs one step and returns whether the result is the expected one.
 fn shows(alloc: Global, session: &mut Session, step: &str) -> Result<bool, Fail> {
     let (word, wanted) = step.split_once(' ').unwrap_or((step, ""));
     let event = event(alloc, word)?;
     match session.step(alloc, &event) {
-        Ok(_) => tells(alloc, session, wanted),
+        Ok(_) => Ok(shown(alloc, session)?.as_str() == wanted),
         Err(StepError::Place) => Ok(wanted == "E1"),
         Err(StepError::Length) => Ok(wanted == "E2"),
         Err(error) => Err(error.into()),
@@ -142,30 +132,9 @@ fn copy_shows(alloc: Global, session: &Session, step: &str) -> Result<bool, Fail
     shows(alloc, &mut copy, step)
 }
 
-/// Returns whether a preview of a press inserts this text.
-fn inserts(alloc: Global, session: &Session, press: KeyPress, wanted: &str) -> Result<bool, Fail> {
-    let mut inserted = String::new(alloc);
-    put_chars(
-        &mut inserted,
-        session.preview(alloc, press)?.inserted.as_slice(),
-    )?;
-    Ok(inserted.as_str() == wanted)
-}
-
-/// Returns whether a preview of a step inserts the expected text. An event that is not a press passes.
-fn preview_shows(alloc: Global, session: &Session, step: &str) -> Result<bool, Fail> {
-    let (word, wanted) = step.split_once(' ').unwrap_or((step, ""));
-    let (inserted, _) = wanted.split_once(',').unwrap_or((wanted, ""));
-    match event(alloc, word)? {
-        Event::Key(press) => inserts(alloc, session, press, inserted),
-        _ => Ok(true),
-    }
-}
-
-/// Returns whether a step of a session, the same step of a copy made before, and a preview made before have the expected
-/// results.
-fn all_show(alloc: Global, session: &mut Session, step: &str) -> Result<bool, Fail> {
-    if preview_shows(alloc, session, step)? && copy_shows(alloc, session, step)? {
+/// Returns whether a step of a session, and the same step of a copy made before, have the expected result.
+fn both_show(alloc: Global, session: &mut Session, step: &str) -> Result<bool, Fail> {
+    if copy_shows(alloc, session, step)? {
         return shows(alloc, session, step);
     }
     Ok(false)
@@ -178,7 +147,7 @@ fn wrong_step(
     case: &'static str,
 ) -> Result<Option<&'static str>, Fail> {
     for step in case.split(" ; ") {
-        if !all_show(alloc, session, step)? {
+        if !both_show(alloc, session, step)? {
             return Ok(Some(step));
         }
     }
@@ -219,19 +188,6 @@ fn wrong_in_file(
     wrong_in(alloc, &file, cases)
 }
 
-/// Returns the first wrong step of the cases with that keyboard.
-fn wrong_with_keyboard(alloc: Global) -> Result<Option<&'static str>, Fail> {
-    let bytes = compiled(alloc, KEYBOARD)?;
-    wrong_in_file(alloc, bytes.as_slice(), CASES)
-}
-
-#[test]
-fn events_of_every_kind(rt: HostRuntime) -> Result<(), Fail> {
-    let wrong = wrong_with_keyboard(rt.alloc())?;
-    assert!(rt; wrong.is_none(), "{}", wrong.unwrap_or(""));
-    Ok(())
-}
-
 /// Compiles a keyboard and replaces each `~` in the file with `&`.
 fn with_ampersands(alloc: Global, keyboard: &str) -> Result<Seq<u8>, Fail> {
     let mut bytes = compiled(alloc, keyboard)?;
@@ -244,7 +200,7 @@ fn with_ampersands(alloc: Global, keyboard: &str) -> Result<Seq<u8>, Fail> {
 }
 
 /// Returns the first wrong step of cases with such a keyboard.
-fn wrong_with_system_options(
+fn wrong_with(
     alloc: Global,
     keyboard: &str,
     cases: &'static str,
@@ -254,128 +210,11 @@ fn wrong_with_system_options(
 }
 
 #[test]
-fn events_with_system_options(rt: HostRuntime) -> Result<(), Fail> {
-    for &(keyboard, cases) in ON_SYSTEM_OPTIONS {
-        let wrong = wrong_with_system_options(rt.alloc(), keyboard, cases)?;
+fn events_of_every_kind(rt: HostRuntime) -> Result<(), Fail> {
+    for &(keyboard, cases) in KEYBOARDS {
+        let wrong = wrong_with(rt.alloc(), keyboard, cases)?;
         assert!(rt; wrong.is_none(), "{}", wrong.unwrap_or(""));
     }
-    Ok(())
-}
-
-/// Returns whether a store number has a name, a value and no saved value.
-fn has_value(
-    alloc: Global,
-    session: &Session,
-    number: u32,
-    name: &str,
-    value: &str,
-) -> Result<bool, Fail> {
-    let mut text = String::new(alloc);
-    if let Some(elements) = session.value(alloc, number, false)? {
-        show_value(&mut text, elements.as_slice())?;
-    }
-    Ok(
-        session.name(alloc, number)?.as_slice() == name.as_bytes()
-            && text.as_str() == value
-            && session.value(alloc, number, true)?.is_none(),
-    )
-}
-
-/// Returns the name of the first store number that is wrong before the first event on the file of one rule.
-fn wrong_number(alloc: Global) -> Result<Option<&'static str>, Fail> {
-    let file = verify(alloc, &ONE_RULE)?;
-    let session = Session::start(alloc, &file)?;
-    for &(number, name, value) in NUMBERS {
-        if !has_value(alloc, &session, number, name, value)? {
-            return Ok(Some(name));
-        }
-    }
-    Ok(None)
-}
-
-#[test]
-fn numbers_behind_the_stores(rt: HostRuntime) -> Result<(), Fail> {
-    let wrong = wrong_number(rt.alloc())?;
-    assert!(rt; wrong.is_none(), "{}", wrong.unwrap_or(""));
-    Ok(())
-}
-
-/// Returns whether the first press of a session inserts a b into the text.
-fn puts_b(alloc: Global, session: &mut Session) -> Result<bool, Fail> {
-    let step = session.step(alloc, &Event::Key(KeyPress { code: 65, mods: 0 }))?;
-    Ok(
-        step.number == 1
-            && session.inserted() == ['b'].as_slice()
-            && session.editor().left() == ['b'].as_slice()
-            && session.engine().context() == [Item::Char('b')].as_slice(),
-    )
-}
-
-/// Returns whether the first press of a fresh session on the same file does so too.
-fn fresh_puts_b(alloc: Global, session: &Session) -> Result<bool, Fail> {
-    let mut fresh = session.fresh(alloc)?;
-    puts_b(alloc, &mut fresh)
-}
-
-/// Returns whether the file of one rule inserts a b, in a session and then in a fresh one.
-fn one_rule_puts_b(alloc: Global) -> Result<bool, Fail> {
-    let file = verify(alloc, &ONE_RULE)?;
-    let mut session = Session::start(alloc, &file)?;
-    Ok(puts_b(alloc, &mut session)? && fresh_puts_b(alloc, &session)?)
-}
-
-#[test]
-fn one_press(rt: HostRuntime) -> Result<(), Fail> {
-    assert!(rt; one_rule_puts_b(rt.alloc())?);
-    Ok(())
-}
-
-/// Inserts a text of 991,232 characters before the caret.
-fn put_long_text(alloc: Global, session: &mut Session) -> Result<(), Fail> {
-    for _ in 0..242 {
-        let text = Seq::from_vec(vec![in alloc; 'x'; 4096]?);
-        let event = Event::Edit {
-            from: 0,
-            to: 0,
-            text,
-        };
-        session.step(alloc, &event)?;
-    }
-    session.step(alloc, &Event::Caret(991_232))?;
-    Ok(())
-}
-
-/// Returns whether the keyboard passes on each of `presses` presses of a key without a rule.
-fn passes(alloc: Global, session: &mut Session, presses: u32) -> Result<bool, Fail> {
-    let press = key(b"K_F5");
-    for _ in 0..presses {
-        if !session.step(alloc, &press)?.outcome.pass {
-            return Ok(false);
-        }
-    }
-    Ok(true)
-}
-
-/// Returns whether `presses` presses leave a long text unchanged, and the cached context has only 64 items.
-fn stays(alloc: Global, session: &mut Session, presses: u32) -> Result<bool, Fail> {
-    put_long_text(alloc, session)?;
-    Ok(
-        passes(alloc, session, presses)?
-            && session.engine().context().len() == 64
-            && session.editor().left().len() == 991_232,
-    )
-}
-
-/// Returns whether a session does so with the file of one rule.
-fn stays_far_along(alloc: Global, presses: u32) -> Result<bool, Fail> {
-    let file = verify(alloc, &ONE_RULE)?;
-    let mut session = Session::start(alloc, &file)?;
-    stays(alloc, &mut session, presses)
-}
-
-#[test]
-fn many_presses_in_a_long_text(rt: HostRuntime) -> Result<(), Fail> {
-    assert!(rt; stays_far_along(rt.alloc(), 99_000)?);
     Ok(())
 }
 
@@ -386,15 +225,11 @@ const PRINTED: &[(StepError, &str)] = &[
     (StepError::Memory, "out of memory"),
 ];
 
-/// Returns whether an error has this printed text.
-fn is_printed(alloc: Global, error: &StepError, wanted: &str) -> Result<bool, AllocError> {
-    Ok(format!(in alloc; "{error}")?.as_str() == wanted)
-}
-
 #[test]
 fn step_errors(rt: HostRuntime) -> Result<(), Fail> {
+    let alloc = rt.alloc();
     for (error, wanted) in PRINTED {
-        assert!(rt; is_printed(rt.alloc(), error, wanted)?, "{wanted}");
+        assert!(rt; format!(in alloc; "{error}")?.as_str() == *wanted, "{wanted}");
     }
     Ok(())
 }

@@ -11,17 +11,13 @@ use rule_model::Tables;
 use std::alloc::Global;
 
 /// The elements of the system options, which follow the stores.
-const SYSTEM_OPTIONS: &[&str] = &["default", "windows_desktop_hardware_native"];
+const SYSTEM_OPTIONS: &[&str] = &["default", "windows desktop hardware native"];
 
-/// Returns the elements of a value, in which `*` is a mark (a deadkey in the item list), and `_` a space.
-pub fn elements(alloc: Global, text: &str) -> Result<Seq<Element>, Memory> {
+/// Returns the characters of a text as elements.
+fn elements(alloc: Global, text: &str) -> Result<Seq<Element>, Memory> {
     let mut elements = Seq::new(alloc);
     for c in text.chars() {
-        elements.add(match c {
-            '*' => Element::Mark(1),
-            '_' => Element::Char(' '),
-            _ => Element::Char(c),
-        })?;
+        elements.add(Element::Char(c))?;
     }
     Ok(elements)
 }
