@@ -99,7 +99,9 @@ begin Unicode > use(main)¶group(main) using keys¶+ [B08 > 'x'¶ ⇒ refused S1
 == headers without quotes
 NAME My keyboard¶VERSION 6.0¶begin Unicode > use(main)¶group(main) using keys¶ ⇒ refused S01 line 1
 == mnemonic with cased keys
-store(&mnemoniclayout) '1'¶store(&casedkeys) [K_A] .. [K_C]¶begin Unicode > use(main)¶group(main) using keys¶ ⇒ refused C12 line 1"###;
+store(&mnemoniclayout) '1'¶store(&casedkeys) [K_A] .. [K_C]¶begin Unicode > use(main)¶group(main) using keys¶ ⇒ refused C12 line 1
+== a text over the limit: each of these ranges becomes 383,488 bytes
+⟨store(a) U+0200..U+D7FF¶×11⟩ ⇒ refused L05 line 1"###;
 
 /// Returns the word of a change.
 fn word(kind: ChangeKind) -> &'static str {
@@ -153,25 +155,5 @@ fn sources_are_imported(rt: HostRuntime) -> Result<(), Fail> {
             assert!(rt; is_right(rt.alloc(), row)?, "{row}");
         }
     }
-    Ok(())
-}
-
-/// A line whose range becomes 383,488 bytes.
-const LONG_RANGE: &str = "store(a) U+0200..U+D7FF\n";
-
-/// Returns a source with a line this many times.
-fn repeated(alloc: Global, line: &str, count: usize) -> Result<String, AllocError> {
-    let mut source = String::new(alloc);
-    for _ in 0..count {
-        source.push_str(line)?;
-    }
-    Ok(source)
-}
-
-#[test]
-fn a_text_over_the_limit_is_refused(rt: HostRuntime) -> Result<(), Fail> {
-    let long = repeated(rt.alloc(), LONG_RANGE, 11)?;
-    let answered = answer(rt.alloc(), long.as_str())?;
-    assert!(rt; answered.as_slice() == "refused L05 line 1".as_bytes());
     Ok(())
 }
