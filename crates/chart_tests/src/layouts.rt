@@ -1,11 +1,12 @@
-//! Tests the layers of a touch layout, and a drawing of one.
+//! Tests a drawing of the layer of a touch layout.
 
+use crate::pictures::place_of;
 use chart_board::{Cell, Chart, Layer};
 use chart_drawing::picture;
 use kmn_base::{Item, Memory, Seq};
 use std::alloc::Global;
 use std::test::Fail;
-use touch_board::{TouchLayer, layer_mods, touch_layers};
+use touch_board::{TouchLayer, touch_layers};
 use virtual_keys::KeyDictionary;
 
 /// A layout of a phone with one layer: a key with a long press, a flick, a multitap and another layer, a spacer, and a wide key.
@@ -45,31 +46,6 @@ fn taps(alloc: Global) -> Result<Seq<Layer>, Memory> {
 }
 
 #[test]
-fn lies(rt: HostRuntime) -> Result<(), Fail> {
-    let found = layers(rt.alloc())?;
-    assert!(rt; found.len() == 1);
-    let layer = &found.as_slice()[0];
-    assert!(rt; layer.height == 152 && layer.width == 9 + 60 + 9 + 30 + 18 + 120);
-    let keys = layer.keys.as_slice();
-    assert!(rt; keys.len() == 3);
-    let places = [(65, 9, 0, 60), (256, 126, 0, 120), (66, 9, 76, 60)];
-    for number in 0..3 {
-        let key = &keys[number].key;
-        let place = places[number];
-        assert!(rt;
-            key.code == place.0
-                && key.left == place.1
-                && key.top == place.2
-                && key.width == place.3,
-            "{}",
-            number
-        );
-    }
-    assert!(rt; keys[1].key.cap.as_slice() == b"T_hat".as_slice() && keys[1].more.is_empty());
-    Ok(())
-}
-
-#[test]
 fn draws(rt: HostRuntime) -> Result<(), Fail> {
     let alloc = rt.alloc();
     let chart = Chart {
@@ -82,24 +58,6 @@ fn draws(rt: HostRuntime) -> Result<(), Fail> {
     let taps = taps(alloc)?;
     let drawn = picture(alloc, &chart, layers.as_slice(), taps.as_slice())?;
     let text = drawn.as_slice();
-    assert!(rt; (0..text.len()).any(|place| text[place..].starts_with(BOARD.as_bytes())));
-    Ok(())
-}
-
-#[test]
-fn mods(rt: HostRuntime) -> Result<(), Fail> {
-    let rows: [(&str, u16); 8] = [
-        ("default", 0),
-        ("shift", 16),
-        ("rightalt-shift", 24),
-        ("caps", 256),
-        ("ctrl", 1),
-        ("rightctrl", 2),
-        ("leftalt-rightalt", 12),
-        ("alt-caps", 260),
-    ];
-    for row in &rows {
-        assert!(rt; layer_mods(row.0.as_bytes()) == row.1, "{}", row.0);
-    }
+    assert!(rt; place_of(text, BOARD.as_bytes()).is_some());
     Ok(())
 }

@@ -1,16 +1,15 @@
 //! Tests runs of `chart_run` over a folder and a sink in memory.
 
+use crate::pictures::place_of;
 use chart_run::chart_run;
 use compile_tests::fixtures::ONE_RULE;
-use kmn_base::Seq;
-use kmn_outside::{MemoryFolder, MemorySink};
-use run_tests::commands::words;
+use kmn_outside::{Folder, MemoryFolder};
+use run_tests::commands::{empty_folder, sink, words};
 use std::alloc::Global;
 use std::test::Fail;
 
-/// A run with command-line arguments over a folder that contains a file `in`, a script `keys`, a touch layout `x.json`, and a file `bad.json`
-/// that is not JSON. The folder call and the sink call
-/// with these numbers fail. If a number is 0, no call fails.
+/// A run with command-line arguments over a folder that contains a file `in`, a script `keys`, a touch layout `x.json`, and a file
+/// `bad.json` that is not JSON. The folder call and the sink call with these numbers fail. If a number is 0, no call fails.
 #[derive(Drop)]
 struct Run<'a> {
     words: &'a str,
@@ -46,44 +45,34 @@ fn one_rule() -> [u8; 122] {
     file
 }
 
-/// Returns whether a text has a part.
-fn has(text: &[u8], part: &[u8]) -> bool {
-    (0..text.len()).any(|place| text[place..].starts_with(part))
+/// The number of files that `write_files` writes.
+const FILES: u32 = 4;
+
+/// Writes the files of a run.
+fn write_files(alloc: Global, folder: &mut MemoryFolder, run: &Run) -> Result<(), Fail> {
+    folder.write(alloc, b"in", run.file)?;
+    folder.write(alloc, b"keys", run.keys.as_bytes())?;
+    folder.write(alloc, b"x.json", LAYOUT)?;
+    folder.write(alloc, b"bad.json", b"{")?;
+    Ok(())
 }
 
-/// Returns whether a run ends like this. A run that ends with status 0 writes a drawing, which has the key A, and also the key A of the touch
-/// layout if the last argument is one. If the write of the
-/// drawing or the printing fails, the status is 4, and the folder has at least the first half of the drawing, with this key.
+/// Returns whether a run ends like this. A run that ends with status 0 writes a drawing, which has the key A, and also the key A of the
+/// touch layout if the last argument is one. If the write of the drawing or the printing fails, the status is 4, and the folder has at
+/// least the first half of the drawing, with this key.
 fn ends(alloc: Global, run: &Run, end: &End) -> Result<bool, Fail> {
     let words = words(alloc, run.words)?;
-    let mut files = Vec::new(alloc);
-    files.push((
-        Seq::from_slice(alloc, b"in")?,
-        Seq::from_slice(alloc, run.file)?,
-    ))?;
-    files.push((
-        Seq::from_slice(alloc, b"keys")?,
-        Seq::from_slice(alloc, run.keys.as_bytes())?,
-    ))?;
-    files.push((
-        Seq::from_slice(alloc, b"x.json")?,
-        Seq::from_slice(alloc, LAYOUT)?,
-    ))?;
-    files.push((
-        Seq::from_slice(alloc, b"bad.json")?,
-        Seq::from_slice(alloc, b"{")?,
-    ))?;
-    let folder_fails = Vec::from_slice(alloc, &[run.folder_call])?;
-    let mut folder = MemoryFolder::new(alloc, Seq::from_vec(files), Seq::from_vec(folder_fails));
-    let sink_fails = Vec::from_slice(alloc, &[run.sink_call])?;
-    let mut sink = MemorySink::new(alloc, Seq::from_vec(sink_fails));
+    let mut folder = empty_folder(alloc, run.folder_call, FILES)?;
+    write_files(alloc, &mut folder, run)?;
+    let mut sink = sink(alloc, run.sink_call)?;
     let status = chart_run(alloc, words.as_slice(), &mut folder, &mut sink);
     let drawn = folder.file(b"out").unwrap_or(&[]);
     Ok(
         status.number() == end.status
             && sink.written().starts_with(end.printed.as_bytes())
-            && has(drawn, KEY_A.as_bytes()) == (end.status == 0 || end.status == 4)
-            && has(drawn, TAP_A.as_bytes()) == (end.status == 0 && run.words.ends_with("json")),
+            && place_of(drawn, KEY_A.as_bytes()).is_some() == (end.status == 0 || end.status == 4)
+            && place_of(drawn, TAP_A.as_bytes()).is_some()
+                == (end.status == 0 && run.words.ends_with("json")),
     )
 }
 

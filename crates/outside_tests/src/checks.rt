@@ -1,9 +1,8 @@
 //! Tests what a check prints for small sources, and its exit status.
 
 use check_run::check_run;
-use kmn_base::Seq;
-use kmn_outside::{MemoryFolder, MemorySink};
-use run_tests::commands::words;
+use kmn_outside::Folder;
+use run_tests::commands::{empty_folder, sink, words};
 use source_tests::fixtures::{is_row, parted, source_of};
 use std::alloc::Global;
 use std::test::Fail;
@@ -46,14 +45,10 @@ fn is_checked(alloc: Global, row: &str) -> Result<bool, Fail> {
     let (status, printed) = wanted.split_once(' ').ok_or("a row without a status")?;
     let source = source_of(alloc, source)?;
     let printed = source_of(alloc, printed)?;
-    let mut files = Vec::new(alloc);
-    files.push((
-        Seq::from_slice(alloc, b"in")?,
-        Seq::from_slice(alloc, source.as_bytes())?,
-    ))?;
-    let mut folder = MemoryFolder::new(alloc, Seq::from_vec(files), Seq::new(alloc));
-    let mut sink = MemorySink::new(alloc, Seq::new(alloc));
     let words = words(alloc, "in")?;
+    let mut folder = empty_folder(alloc, 0, 0)?;
+    folder.write(alloc, b"in", source.as_bytes())?;
+    let mut sink = sink(alloc, 0)?;
     let ended = check_run(alloc, words.as_slice(), &mut folder, &mut sink);
     Ok(status.parse::<u8>().ok() == Some(ended.number()) && sink.written() == printed.as_bytes())
 }

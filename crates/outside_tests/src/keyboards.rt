@@ -4,8 +4,8 @@
 use compile_tests::fixtures::compiled;
 use export_run::export_run;
 use kmn_base::Seq;
-use kmn_outside::{MemoryFolder, MemorySink};
-use run_tests::commands::words;
+use kmn_outside::Folder;
+use run_tests::commands::{empty_folder, sink, words};
 use source_tests::fixtures::{parted, source_of};
 use std::alloc::Global;
 use std::str;
@@ -56,12 +56,11 @@ store(o) '1'¶§+ 'a' > save(o) save(o) U+0010 ⇒ refused K01 line 4
 store(v) 'b' U+0010¶§any(v) + 'a' > 'b' ⇒ refused K03";
 
 /// Returns the text that a run with the arguments `in out` prints over a folder in which `in` is that file.
-fn printed(alloc: Global, file: Seq<u8>) -> Result<Seq<u8>, Fail> {
+fn printed(alloc: Global, file: &[u8]) -> Result<Seq<u8>, Fail> {
     let words = words(alloc, "in out")?;
-    let mut files = Vec::new(alloc);
-    files.push((Seq::from_slice(alloc, b"in")?, file))?;
-    let mut folder = MemoryFolder::new(alloc, Seq::from_vec(files), Seq::new(alloc));
-    let mut sink = MemorySink::new(alloc, Seq::new(alloc));
+    let mut folder = empty_folder(alloc, 0, 0)?;
+    folder.write(alloc, b"in", file)?;
+    let mut sink = sink(alloc, 0)?;
     export_run(alloc, words.as_slice(), &mut folder, &mut sink);
     Ok(Seq::from_slice(alloc, sink.written())?)
 }
@@ -85,7 +84,7 @@ fn is_printed(printed: &str, wanted: &str) -> bool {
 fn is_right(alloc: Global, row: &str) -> Result<bool, Fail> {
     let (source, wanted) = parted(row)?;
     let file = compiled(alloc, source_of(alloc, source)?.as_str())?;
-    let printed = printed(alloc, file)?;
+    let printed = printed(alloc, file.as_slice())?;
     Ok(is_printed(str::from_utf8(printed.as_slice()).unwrap_or(""), wanted))
 }
 
