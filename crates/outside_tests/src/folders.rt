@@ -47,20 +47,6 @@ const READS_ON_DISK: &[ReadRow] = &[
     (b"disk.tmp\0", 9, "the file can't be read"),
 ];
 
-/// Returns the expected result of the first read with a different one.
-fn wrong_read<F: Folder>(
-    alloc: Global,
-    folder: &mut F,
-    rows: &'static [ReadRow],
-) -> Result<Option<&'static str>, Fail> {
-    for &row in rows {
-        if !is_read(alloc, folder, row)? {
-            return Ok(Some(row.2));
-        }
-    }
-    Ok(None)
-}
-
 /// Returns whether a file is written, and a write into a folder that does not exist fails.
 fn are_written<F: Folder>(alloc: Global, folder: &mut F) -> Result<bool, Fail> {
     let unwritten = "the bytes can't be written";
@@ -74,8 +60,9 @@ fn are_written<F: Folder>(alloc: Global, folder: &mut F) -> Result<bool, Fail> {
 fn real_files(rt: HostRuntime) -> Result<(), Fail> {
     let mut folder = DiskFolder::new(&rt);
     assert!(rt; are_written(rt.alloc(), &mut folder)?);
-    let wrong = wrong_read(rt.alloc(), &mut folder, READS_ON_DISK)?;
-    assert!(rt; wrong.is_none(), "{}", wrong.unwrap_or(""));
+    for &row in READS_ON_DISK {
+        assert!(rt; is_read(rt.alloc(), &mut folder, row)?, "{}", row.2);
+    }
     assert!(rt; takes_two(&mut StreamSink::new(fs::create(&rt, "disk.tmp")?)));
     fs::remove_file(&rt, "disk.tmp")?;
     Ok(())

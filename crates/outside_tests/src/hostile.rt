@@ -91,25 +91,6 @@ fn is_fault(alloc: Global, calls: (u32, u32), wanted: Ending) -> Result<bool, Fa
     )
 }
 
-/// Returns what fails in the first row of `FAULTS` that isn't right.
-fn wrong_fault(alloc: Global) -> Result<Option<&'static str>, Fail> {
-    for &(what, calls, status, printed, size) in FAULTS {
-        let out = match size {
-            Some(size) => ONE_RULE.get(..size),
-            None => None,
-        };
-        let wanted = Ending {
-            status,
-            printed,
-            out,
-        };
-        if !is_fault(alloc, calls, wanted)? {
-            return Ok(Some(what));
-        }
-    }
-    Ok(None)
-}
-
 /// Returns whether that play prints exactly this text if the sink call with this number fails. No call fails for 0.
 fn is_begun(alloc: Global, failing: u32, printed: &str) -> Result<bool, Fail> {
     let printed = source_of(alloc, printed)?;
@@ -169,20 +150,20 @@ fn is_size_refused(
     is_refused(alloc, command, &mut folder, line)
 }
 
-/// Returns the line of the first row of `SIZES` that isn't right.
-fn wrong_size(alloc: Global) -> Result<Option<&'static str>, Fail> {
-    for &(command, byte, size, line) in SIZES {
-        if !is_size_refused(alloc, command, byte, size, line)? {
-            return Ok(Some(line));
-        }
-    }
-    Ok(None)
-}
-
 #[test]
 fn faults(rt: HostRuntime) -> Result<(), Fail> {
-    let wrong = wrong_fault(rt.alloc())?;
-    assert!(rt; wrong.is_none(), "{}", wrong.unwrap_or(""));
+    for &(what, calls, status, printed, size) in FAULTS {
+        let out = match size {
+            Some(size) => ONE_RULE.get(..size),
+            None => None,
+        };
+        let wanted = Ending {
+            status,
+            printed,
+            out,
+        };
+        assert!(rt; is_fault(rt.alloc(), calls, wanted)?, "{what}");
+    }
     Ok(())
 }
 
@@ -195,8 +176,9 @@ fn whole_lines(rt: HostRuntime) -> Result<(), Fail> {
 
 #[test]
 fn sizes(rt: HostRuntime) -> Result<(), Fail> {
-    let wrong = wrong_size(rt.alloc())?;
-    assert!(rt; wrong.is_none(), "{}", wrong.unwrap_or(""));
+    for &(command, byte, size, line) in SIZES {
+        assert!(rt; is_size_refused(rt.alloc(), command, byte, size, line)?, "{line}");
+    }
     Ok(())
 }
 

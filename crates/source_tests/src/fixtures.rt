@@ -30,7 +30,7 @@ pub fn is_row(line: &&str) -> bool {
 
 /// Returns the character that a character of a table represents: `¶` is a line feed, `␍` a carriage return, `␉` a tab, `␀` U+0000,
 /// `␡` U+FFFF, `⌖` U+FEFF and `·` U+00A0. Any other character represents itself.
-pub fn character(c: char) -> char {
+fn character(c: char) -> char {
     match c {
         '¶' => '\n',
         '␍' => '\r',
@@ -99,7 +99,7 @@ pub fn is_refusal(refusal: Refusal, wanted: &str) -> bool {
 }
 
 /// Returns the symbol of an item in a table: a character is its own symbol, and `*` is the symbol of each mark.
-pub fn sign(item: Item) -> char {
+fn sign(item: Item) -> char {
     match item {
         Item::Char(c) => c,
         Item::Mark(_) => '*',

@@ -1,5 +1,5 @@
 //! Sources, each with its first refusal or with what it states. The text before the first `:` of a row selects the first lines of
-//! the source (see `opening`). Then comes the source's text, whose symbols `character` replaces, and, after ` ⇒ `, the expected
+//! the source (see `opening`). Then comes the source's text, as `source_of` reads it, and, after ` ⇒ `, the expected
 //! result. What a source states is written without its opening lines, each statement with its line. Characters are hexadecimal
 //! numbers, and a system option is `&` followed by its id.
 

@@ -123,6 +123,11 @@ test a.kmn out a.keys
 1 0
 refused C01 line 1¶
 compile a.kmn out
+
+
+1 0
+refused C01 line 1¶
+compile a.kmn out
 §+ 'a' > call(d)¶any(q) + 'b' > 'c'¶
 
 1 0
@@ -194,6 +199,11 @@ expect ""¶[K_A] [K_A]¶caret 1¶edit 1 2 'yz'¶expect 'byz'¶caret 3¶option o 
 4 del=0 ins=- pass=0 beep=0 ent=0 ctx=0062¶5 del=0 ins=- pass=0 beep=0 ent=0 ctx=0062.0079.007A¶\
 6 del=0 ins=- pass=0 beep=0 ent=0 ctx=0062.0079.007A¶text 0062.0079.007A|-¶end events=6 failed=0¶
 == refused events: the lines before are printed
+test a.kmn out a.keys
+§+ 'a' > 'b'¶
+caret 5
+1 122
+refused E1 event 1¶
 test a.kmn out a.keys
 §+ 'a' > 'b'¶
 expect 'x'¶caret 5¶
@@ -800,7 +810,13 @@ layout a.kmn a.keys
 "##;
 
 /// Runs on long inputs, and runs of loads.
-pub const LONG_RUNS: &str = r##"== a script and a layout that are too long
+pub const LONG_RUNS: &str = r##"== a text that presses make too long
+test a.kmn out a.keys
+§+ 'a' > '⟨z×1000⟩'
+⟨[K_A]¶×997⟩
+1 2120
+?996 del=0 ins=⟨007A.×999⟩007A pass=0 beep=0 ent=1 ctx=⟨007A.×63⟩007A¶refused E2 event 997¶
+== a script and a layout that are too long
 test a.kmn out a.keys
 §+ 'a' > 'b'
 ⟨[K_F5]¶×100001⟩
