@@ -1,7 +1,8 @@
-//! Runs of the commands over a folder and a sink in memory: the tables of `rows`, `trace_rows`, `shadow_rows` and `host_rows`,
-//! and runs that are too long for a table.
+//! Runs of the commands over a folder and a sink in memory: the tables of `rows`, `long_rows`, `trace_rows`, `shadow_rows` and
+//! `host_rows`, and runs whose scripts are too long for a table.
 
 mod host_rows;
+mod long_rows;
 mod rows;
 mod shadow_rows;
 mod trace_rows;
@@ -11,7 +12,8 @@ use compile_tests::fixtures::{ONE_RULE, TWO_KEYS};
 use host_rows::HOST_RUNS;
 use kmn_base::Seq;
 use kmn_outside::MemoryFolder;
-use rows::{FILE_RUNS, LAYOUT_RUNS, LONG_RUNS, RUNS, TEXT};
+use long_rows::LONG_RUNS;
+use rows::{FILE_RUNS, LAYOUT_RUNS, RUNS, TEXT};
 use shadow_rows::SHADOW_RUNS;
 use source_tests::fixtures::{is_row, source_of};
 use source_tests::sample::SAMPLE;

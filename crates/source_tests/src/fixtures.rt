@@ -78,8 +78,8 @@ fn write_piece(out: &mut String, piece: &str) -> Result<(), Fail> {
     }
 }
 
-/// Returns the text that a text of a table represents. In it, `⟨TEXT×COUNT⟩` is a text repeated count times, in which `№` is the number
-/// of the copy, counted from 0.
+/// Returns the text that a text of a table represents. In it, `⟨TEXT×COUNT⟩` is a text repeated count times, in which `№` is the
+/// number of the copy, counted from 0.
 pub fn source_of(alloc: Global, text: &str) -> Result<String, Fail> {
     let mut source = String::new(alloc);
     for piece in text.split('⟩') {
