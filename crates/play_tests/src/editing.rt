@@ -2,6 +2,7 @@
 
 use editor_model::{EditError, Editor};
 use kmn_base::{KeyPress, Memory};
+use source_tests::fixtures::source_of;
 use std::alloc::Global;
 use std::test::Fail;
 
@@ -95,33 +96,24 @@ fn editor_of(alloc: Global, left: &str, right: &str) -> Result<Editor, Memory> {
     Ok(editor)
 }
 
-/// Returns a character in the notation of the table.
-fn written(c: char) -> char {
-    match c {
-        '\n' => '¶',
-        '\t' => '␉',
-        other => other,
-    }
-}
-
-/// Appends characters in the notation of the table.
-fn put_written(text: &mut String, chars: &[char]) -> Result<(), Memory> {
+/// Appends characters.
+fn put_chars(text: &mut String, chars: &[char]) -> Result<(), Memory> {
     for c in chars {
-        text.push(written(*c))?;
+        text.push(*c)?;
     }
     Ok(())
 }
 
-/// Returns a text with its caret in the notation of the table.
+/// Returns a text with its caret.
 fn shown(alloc: Global, editor: &Editor) -> Result<String, Memory> {
     let mut text = String::new(alloc);
-    put_written(&mut text, editor.left())?;
+    put_chars(&mut text, editor.left())?;
     text.push('|')?;
-    put_written(&mut text, editor.right())?;
+    put_chars(&mut text, editor.right())?;
     Ok(text)
 }
 
-/// Returns the result of a change of an editor in the notation of the table.
+/// Returns the result of a change of an editor, as `source_of` reads the result of a row.
 fn answered(
     alloc: Global,
     editor: &Editor,
@@ -161,11 +153,12 @@ fn make(
 }
 
 /// Returns whether a row is right.
-fn is_right(alloc: Global, row: &ChangeRow) -> Result<bool, Memory> {
+fn is_right(alloc: Global, row: &ChangeRow) -> Result<bool, Fail> {
     let (left, right, change, wanted) = row;
+    let wanted = source_of(alloc, wanted)?;
     let mut editor = editor_of(alloc, left, right)?;
     let answer = make(alloc, &mut editor, change)?;
-    Ok(answered(alloc, &editor, answer)?.as_str() == *wanted)
+    Ok(answered(alloc, &editor, answer)?.as_str() == wanted.as_str())
 }
 
 #[test]

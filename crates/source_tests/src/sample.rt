@@ -1,4 +1,4 @@
-//! The keyboard that several crates of tests read, compile and play.
+//! The keyboard that runs compile and play.
 
 /// A keyboard with every kind of statement: the lines of `examples/sample.kmn`. Its script is `examples/sample.keys`.
 pub const SAMPLE: &str = r##"c Acute and grave vowels
