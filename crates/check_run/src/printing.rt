@@ -36,7 +36,6 @@ pub(crate) fn print_findings<S: Sink>(
 }
 
 /// Prints the warnings of a source that is not refused.
-#[tactic(auto, using(keyman_words::proofs::Printed::tells_made))]
 fn print_accepted<S: Sink>(alloc: Global, file: &[u8], warnings: &[Warning], out: &mut S) -> Status
     ensures { Tells Status.Done (accepted_text file.now warnings.now) S.Sink out.old out.new result }
 {
@@ -44,7 +43,6 @@ fn print_accepted<S: Sink>(alloc: Global, file: &[u8], warnings: &[Warning], out
 }
 
 /// Prints the errors of a source.
-#[tactic(auto, using(keyman_words::proofs::Printed::tells_made))]
 fn print_refused<S: Sink>(
     alloc: Global,
     file: &[u8],
