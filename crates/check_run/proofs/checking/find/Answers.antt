@@ -22,7 +22,7 @@ returns-in_err-refused_lines-in-len1-up g c =
     gives_handed itself (bytes_check_work c.args.source.now c.args.bytes.now) g.F.Folder _ _ stop.Memory c.from_residual-in_err-refused_lines-in-len1-up.result c.from_residual-in_err-refused_lines-in-len1-up.ensures.1
     (gives_no_memory itself (bytes_check_work c.args.source.now c.args.bytes.now) g.F.Folder c.args.folder.now)
 
-pub returns-in_ok-refused_lines-in-len1-up : goal.returns-in_ok-refused_lines-in-len1-up
-returns-in_ok-refused_lines-in-len1-up g c =
+pub returns : goal.returns
+returns g c =
     refuses_lines c.args.source.now c.args.bytes.now g.F.Folder _ c.in_ok-refusals.refusals c.in_ok-refusals.ensures c.as_slice.result.now _
     c.in_ok-refused_lines-in-len1-up.field-0 c.as_slice.ensures c.in-len1-up.len_at_least c.in_ok-refused_lines-in-len1-up.ensures
