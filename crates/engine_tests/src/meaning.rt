@@ -48,7 +48,12 @@ fn shown(alloc: Global, state: &PlainState) -> Result<String, Memory> {
     for c in state.right.as_slice() {
         text.push(*c)?;
     }
-    write!(text, " {},{},", state.last.delete, u8::from(state.last.pass))?;
+    write!(
+        text,
+        " {},{},",
+        state.last.delete,
+        u8::from(state.last.pass)
+    )?;
     write!(text, "{},{}", state.last.beeps, state.last.entered)?;
     Ok(text)
 }

@@ -229,7 +229,10 @@ const PRINTED: &[(StepError, &str)] = &[
 fn step_errors(rt: HostRuntime) -> Result<(), Fail> {
     let alloc = rt.alloc();
     for (error, wanted) in PRINTED {
-        assert!(rt; format!(in alloc; "{error}")?.as_str() == *wanted, "{wanted}");
+        assert!(rt;
+            format!(in alloc; "{error}")?.as_str() == *wanted,
+            "{wanted}"
+        );
     }
     Ok(())
 }

@@ -31,7 +31,10 @@ const OF_DECOMPILING: &[(DecompileError, &str)] = &[
 fn verify_errors(rt: HostRuntime) -> Result<(), Fail> {
     let alloc = rt.alloc();
     for (error, wanted) in OF_VERIFYING {
-        assert!(rt; format!(in alloc; "{error}")?.as_str() == *wanted, "{wanted}");
+        assert!(rt;
+            format!(in alloc; "{error}")?.as_str() == *wanted,
+            "{wanted}"
+        );
     }
     Ok(())
 }
@@ -40,7 +43,10 @@ fn verify_errors(rt: HostRuntime) -> Result<(), Fail> {
 fn decompile_errors(rt: HostRuntime) -> Result<(), Fail> {
     let alloc = rt.alloc();
     for (error, wanted) in OF_DECOMPILING {
-        assert!(rt; format!(in alloc; "{error}")?.as_str() == *wanted, "{wanted}");
+        assert!(rt;
+            format!(in alloc; "{error}")?.as_str() == *wanted,
+            "{wanted}"
+        );
     }
     Ok(())
 }

@@ -177,7 +177,10 @@ fn whole_lines(rt: HostRuntime) -> Result<(), Fail> {
 #[test]
 fn sizes(rt: HostRuntime) -> Result<(), Fail> {
     for &(command, byte, size, line) in SIZES {
-        assert!(rt; is_size_refused(rt.alloc(), command, byte, size, line)?, "{line}");
+        assert!(rt;
+            is_size_refused(rt.alloc(), command, byte, size, line)?,
+            "{line}"
+        );
     }
     Ok(())
 }

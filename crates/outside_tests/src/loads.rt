@@ -13,7 +13,10 @@ const PRINTED: &[(LoadError, &str)] = &[
 fn load_errors(rt: HostRuntime) -> Result<(), Fail> {
     let alloc = rt.alloc();
     for (error, wanted) in PRINTED {
-        assert!(rt; format!(in alloc; "{error}")?.as_str() == *wanted, "{wanted}");
+        assert!(rt;
+            format!(in alloc; "{error}")?.as_str() == *wanted,
+            "{wanted}"
+        );
     }
     Ok(())
 }

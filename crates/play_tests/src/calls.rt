@@ -16,7 +16,10 @@ const PRINTED: &[(CallError, &str)] = &[
 fn call_errors(rt: HostRuntime) -> Result<(), Fail> {
     let alloc = rt.alloc();
     for (error, wanted) in PRINTED {
-        assert!(rt; format!(in alloc; "{error}")?.as_str() == *wanted, "{wanted}");
+        assert!(rt;
+            format!(in alloc; "{error}")?.as_str() == *wanted,
+            "{wanted}"
+        );
     }
     Ok(())
 }

@@ -69,7 +69,10 @@ const PRINTED: &[(HostError, &str)] = &[
 fn host_errors(rt: HostRuntime) -> Result<(), Fail> {
     let alloc = rt.alloc();
     for (error, wanted) in PRINTED {
-        assert!(rt; format!(in alloc; "{error}")?.as_str() == *wanted, "{wanted}");
+        assert!(rt;
+            format!(in alloc; "{error}")?.as_str() == *wanted,
+            "{wanted}"
+        );
     }
     Ok(())
 }
