@@ -1,4 +1,4 @@
--- The file with nomatch outputs of its groups without keys set in place.
+-- The file with the nomatch outputs of its groups without keys set in place.
 use Rattle.std.specs.Prelude.{ℕ, ◌+◌, ◌*◌, nat_lt, if◌then◌else◌, List, [], ◌∷◌, Option, Some, None}
 use Rattle.rule_model.specs.declared.tables.Group.{Group}
 use Rattle.kmx_format.specs.declared.places.TheConstants.{GROUPS_AT, GROUP_NOMATCH_AT, GROUP_RULES_AT, GROUP_RULE_COUNT_AT, RULE_OUTPUT_AT}
@@ -7,17 +7,17 @@ use Rattle.kmx_format.specs.TablesOf.{word_at, tables_of}
 use Rattle.core_conversions.specs.Conversions.{nomatch_rule}
 use Rattle.file_conversions.specs.Words.{with_word}
 
--- the offset of the output of a key record of the group at a position
+-- the offset of the output of the key record with a number, in the group at a position
 abbrev pub output_word : List ℕ → ℕ → ℕ → ℕ
 output_word bytes place rule = word_at bytes (word_at bytes (place + GROUP_RULES_AT) + RULE_BYTES * rule + RULE_OUTPUT_AT)
 
--- bytes in which the nomatch output of the group at a position is the output of one of its key records, if it is given one
+-- bytes in which the nomatch output of the group at a position is the output of the key record with a number, if there is a number
 abbrev pub nomatch_from : List ℕ → ℕ → Option ℕ → List ℕ → List ℕ
 nomatch_from bytes place None out = out
 nomatch_from bytes place (Some rule) out =
     if nat_lt rule (word_at bytes (place + GROUP_RULE_COUNT_AT)) then with_word (place + GROUP_NOMATCH_AT) (output_word bytes place rule) out else out
 
--- bytes in which the nomatch outputs of groups are those of their rules that give one
+-- bytes in which the nomatch outputs of groups are the outputs of the rules that `nomatch_rule` returns
 abbrev pub nomatch_groups : List ℕ → ℕ → List Group → List ℕ → List ℕ
 nomatch_groups bytes place [] out = out
 nomatch_groups bytes place (group ∷ groups) out = nomatch_groups bytes (place + GROUP_BYTES) groups (nomatch_from bytes place (nomatch_rule group) out)

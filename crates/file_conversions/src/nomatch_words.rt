@@ -34,7 +34,7 @@ pub(crate) fn nomatch_bytes(alloc: Global, file: &Verified<'_>) -> Result<Seq<u8
     Ok(out)
 }
 
-/// Sets the nomatch outputs of groups whose records follow one another.
+/// Sets the nomatch outputs of groups. Their records in the file follow one another from a position on.
 fn set_groups(bytes: &[u8], place: u32, groups: &[Group], out: &mut [u8])
     requires { length groups.now ≤ GROUPS }
     ensures { out.new ≡ nomatch_groups bytes.now place groups.now out.old }
@@ -49,7 +49,7 @@ fn set_groups(bytes: &[u8], place: u32, groups: &[Group], out: &mut [u8])
     }
 }
 
-/// Sets the nomatch output of the group at a position to the output of one of its key records, if it is given one.
+/// Sets the nomatch output of the group at a position to the output of the key record with a number, if there is a number.
 fn set_nomatch(bytes: &[u8], place: usize, rule: Option<usize>, out: &mut [u8])
     requires { place < 2 ^ 61 }
     ensures { out.new ≡ nomatch_from bytes.now place rule out.old }
@@ -65,7 +65,7 @@ fn set_nomatch(bytes: &[u8], place: usize, rule: Option<usize>, out: &mut [u8])
     }
 }
 
-/// Returns the offset of the output of a key record of the group at a position.
+/// Returns the offset of the output of the key record with a number, in the group at a position.
 fn output_word(bytes: &[u8], place: usize, rule: usize) -> u32
     requires near { place < 2 ^ 61 }
     requires few { rule < 2 ^ 32 }
