@@ -1,15 +1,11 @@
 -- Zero units of records, as a loop visits the records.
-use Rattle.std.proofs.Common.{◌≡◌, ◌≢◌, ℕ, ◌+◌, ◌*◌, true, false, not, nat_eq, List, length, Option, Some, None, ne_eqb, refl, sym, ◌∙◌, ap}
+use Rattle.std.proofs.Common.{◌≡◌, ◌≢◌, ℕ, ◌+◌, ◌*◌, true, false, nat_eq, List, length, Option, Some, None, ne_eqb, refl, sym, ◌∙◌, ap}
 use Rattle.std.specs.Option.{is_some, option_or}
 use Rattle.std.proofs.lemmas.Bool.{cond-false}
 use Rattle.kmn_base.specs.Spelling.{unit_bytes}
 use Rattle.kmx_format.specs.TablesOf.{string_at}
 use Rattle.kmx_format.proofs.FileSize.{length-unit_bytes}
 use Rattle.core_export.specs.Export.{end_of}
-
--- if a number isn't 0, it passes the test
-pub some : (n m : ℕ) → n ≡ m → n ≢ 0 → not (nat_eq m 0) ≡ true
-some n m is nonzero = ap not (ap (λ k. nat_eq k 0) (sym is) ∙ ne_eqb n 0 nonzero)
 
 -- if there is no first value, the result is the one after it
 pub none_first : (first found after : Option ℕ) → found ≡ first → is_some found ≡ false → option_or first after ≡ after

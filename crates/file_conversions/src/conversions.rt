@@ -5,7 +5,7 @@ ghost use Rattle.kmx_verifier.specs.FaultOf.{IsValid};
 ghost use Rattle.file_conversions.specs.NomatchWords.{nomatch_bytes};
 ghost use Rattle.file_conversions.specs.Conversions.{converted_bytes, converted_tables};
 
-use crate::nomatch_words::nomatch_bytes;
+use crate::nomatch_words::{all_use_keys, nomatch_bytes};
 use crate::nul_words::nul_first_bytes;
 use crate::plain_flags::plain_bytes;
 use core_conversions::{empty_as_nomatch, nul_first, plain_sides};
@@ -35,11 +35,25 @@ pub fn converted_bytes(alloc: Global, how: Conversion, bytes: &[u8]) -> Result<S
     match how {
         Conversion::NulFirst => nul_first_bytes(alloc, bytes),
         Conversion::PlainSides => plain_bytes(alloc, bytes),
-        Conversion::EmptyAsNomatch => opened_nomatch(alloc, bytes),
+        Conversion::EmptyAsNomatch => nomatch_copy(alloc, bytes),
     }
 }
 
-/// Returns a copy of the bytes of a valid file with the nomatch outputs of its groups converted.
+/// Returns a copy of the bytes of a valid file with the nomatch outputs of its groups converted. Opens the file only if a group does
+/// not use keys, since no other group is converted.
+#[tactic(auto, using(crate::proofs::NomatchWords::keyed_copy))]
+fn nomatch_copy(alloc: Global, bytes: &[u8]) -> Result<Seq<u8>, Memory>
+    requires { IsValid bytes.now }
+    ensures { IfOk result (λ out. out ≡ nomatch_bytes bytes.now) }
+{
+    if !all_use_keys(bytes) {
+        return opened_nomatch(alloc, bytes);
+    }
+    let copy = Seq::from_slice(alloc, bytes)?;
+    Ok(copy)
+}
+
+/// Opens a valid file, and returns a copy of its bytes with the nomatch outputs of its groups converted.
 #[tactic(auto, using(crate::proofs::NomatchWords::never_refused))]
 fn opened_nomatch(alloc: Global, bytes: &[u8]) -> Result<Seq<u8>, Memory>
     requires { IsValid bytes.now }

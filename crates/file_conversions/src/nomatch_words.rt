@@ -2,13 +2,14 @@
 
 ghost use Rattle.std.specs.Prelude.{◌≡◌, ◌≤◌, ◌<◌, ◌^◌, length, IfOk};
 ghost use Rattle.kmn_base.specs.declared.limits.TheConstants.{GROUPS};
-ghost use Rattle.file_conversions.specs.NomatchWords.{output_word, nomatch_from, nomatch_groups, nomatch_bytes};
+ghost use Rattle.file_conversions.specs.NomatchWords.{output_word, nomatch_from, nomatch_groups, nomatch_bytes, groups_use_keys, all_use_keys};
 
 use crate::words::put_word;
 use core_conversions::nomatch_rule;
 use kmn_base::{Memory, Seq};
 use kmx_format::places::{
-    GROUP_NOMATCH_AT, GROUP_RULE_COUNT_AT, GROUP_RULES_AT, GROUPS_AT, RULE_OUTPUT_AT,
+    GROUP_COUNT_AT, GROUP_NOMATCH_AT, GROUP_RULE_COUNT_AT, GROUP_RULES_AT, GROUP_USING_KEYS_AT,
+    GROUPS_AT, RULE_OUTPUT_AT,
 };
 use kmx_format::sizes::{GROUP_BYTES, RULE_BYTES};
 use kmx_verifier::Verified;
@@ -73,4 +74,27 @@ fn output_word(bytes: &[u8], place: usize, rule: usize) -> u32
 {
     let records = word_at(bytes, place + GROUP_RULES_AT) as usize;
     word_at(bytes, records + RULE_BYTES * rule + RULE_OUTPUT_AT)
+}
+
+/// Returns whether all groups of a file use keys. No nomatch output is set then.
+pub(crate) fn all_use_keys(bytes: &[u8]) -> bool
+    ensures { result ≡ all_use_keys bytes.now }
+{
+    groups_use_keys(
+        bytes,
+        word_at(bytes, GROUPS_AT),
+        word_at(bytes, GROUP_COUNT_AT),
+    )
+}
+
+/// Returns whether all of `count` groups use keys.
+fn groups_use_keys(bytes: &[u8], place: u32, count: u32) -> bool
+    ensures { result ≡ groups_use_keys bytes.now place count }
+{
+    for i in 0..count as usize {
+        if word_at(bytes, place as usize + GROUP_BYTES * i + GROUP_USING_KEYS_AT) == 0 {
+            return false;
+        }
+    }
+    true
 }
