@@ -22,7 +22,7 @@ from_is_drop (rule ∷ rules) = by (has_empty_context rule) (from_is_drop rules)
         let next : suc (position_or_len has_empty_context rules) ≡ 1 + position_or_len has_empty_context rules = omega arith in
         rest ∙ ap (λ (k : ℕ). drop k (rule ∷ rules)) next
 
--- the first of the rules that give a nomatch output
+-- the first of these rules, and that the nomatch output is its output
 record Gives (group : Group) (rest : List Rule) : Type 0 where
   rule : Rule
   later : List Rule

@@ -113,7 +113,7 @@ nomatch_with group [] = group.on_nomatch
 nomatch_with group (rule ∷ rules) =
     if list_all has_empty_context rules && can_be_nomatch group.on_match rule.output then rule.output else group.on_nomatch
 
--- whether the first of these rules can give its output, and no later rule has a context
+-- whether the output of the first of these rules can be a nomatch output, and no later rule has a context
 abbrev pub can_have_nomatch : List Out → List Rule → Bool
 can_have_nomatch on_match [] = false
 can_have_nomatch on_match (rule ∷ rules) = list_all has_empty_context rules && can_be_nomatch on_match rule.output

@@ -1,4 +1,4 @@
-//! The conversion of groups without keys: the output of the first rule with an empty context also becomes the nomatch output.
+//! The conversion of groups without keys: the output of the first rule with an empty context becomes the nomatch output too.
 
 ghost use Rattle.std.specs.Prelude.{◌≡◌, map, OnOk};
 ghost use Rattle.std.specs.List.{list_all, list_any, position_or_len};
@@ -9,8 +9,8 @@ use kmn_base::{Memory, Seq};
 use rule_model::{Group, Out, Rule, Tables};
 use std::alloc::Global;
 
-/// Gives each group without keys and without a nomatch output the output of its first rule with an empty context as its nomatch
-/// output, if this means the same.
+/// In each group without keys and without a nomatch output, sets the nomatch output to the output of the first rule with an empty
+/// context, if this means the same.
 ///
 /// Errors: `Memory` if an allocation fails; some groups may be converted then.
 pub fn empty_as_nomatch(alloc: Global, tables: &mut Tables) -> Result<(), Memory>
