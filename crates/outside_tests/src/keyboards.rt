@@ -24,7 +24,8 @@ store(v) 'ab'¶H¶nul any(v) + 'a' > index(v,2)¶any(v) + 'b' > index(v,1) ⇒ d
 H¶nul 'b' + 'a' > context(2) ⇒ differs 3 offset
 H¶nul 'b' context(2) + 'a' > 'c' ⇒ differs 3 offset
 H¶nul 'b' + 'a' > context ⇒ 
-H¶+ 'a' > use(g)¶group(g)¶'' > 'b'¶'c' > 'd' ⇒ differs 5 empty
+H¶+ 'a' > use(g)¶group(g)¶'' > 'b'¶'c' > 'd' ⇒ 
+H¶+ 'a' > use(g)¶group(g)¶'' > context 'b'¶'c' > 'd' ⇒ differs 5 empty
 H¶+ [CTRL LCTRL K_A] > 'b'¶+ [ALT LCTRL K_A] > 'b'¶+ [ALT RALT K_B] > 'b' ⇒ differs 4 sides,differs file both
 H¶+ [LCTRL RALT K_A] > 'b'¶+ [LCTRL LALT K_A] > 'b'¶+ [CTRL RALT K_A] > 'b' ⇒ differs 3 right,differs 5 sides
 H¶dk*21 + 'a' > 'b' dk(1)¶dk*21 'b' + 'a' > 'b' ⇒ differs 4 long,differs file marks
