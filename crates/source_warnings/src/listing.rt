@@ -9,7 +9,7 @@ use crate::keys::add_never_pressed;
 use crate::patterns::add_empty_patterns;
 use crate::same_keys::add_same_keys;
 use crate::sorting::sort_warnings;
-use kmn_base::{Memory, Seq, Text};
+use kmn_base::{Memory, Text};
 use name_warnings::{
     Warning, add_mark_warnings, add_never_asked, add_never_entered, add_never_set,
     add_saved_never_set, add_second_systems, add_unused_stores, add_values_never_set,
@@ -23,12 +23,12 @@ use store_table::NameTable;
 /// among `aside` are known to other programs, so no warning says that a statement lacks for them. Errors: `Memory` if an allocation
 /// fails.
 #[tactic(auto, unfolding(crate::specs::Warnings::warnings))]
-pub fn warnings(alloc: Global, program: &Program, aside: &[Text]) -> Result<Seq<Warning>, Memory>
-    ensures { IfOk result (λ found. found ≡ warnings program.now aside.now) }
+pub fn warnings(alloc: Global, program: &Program, aside: &[Text]) -> Result<Vec<Warning>, Memory>
+    ensures { IfOk result (λ found. found.items ≡ warnings program.now aside.now) }
 {
     let found = all_warnings(alloc, program, aside)?;
     let sorted = sort_warnings(found)?;
-    Ok(Seq::from_vec(sorted))
+    Ok(sorted)
 }
 
 /// Returns all warnings of a program, in the order of codes.
