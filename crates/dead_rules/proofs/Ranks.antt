@@ -3,9 +3,9 @@ use Rattle.std.proofs.Common.{◌≡◌, ℕ, zero, suc, ◌+◌, ◌*◌, ◌/�
 use Rattle.name_warnings.specs.declared.warning.Warning.{Warning}
 use Rattle.name_warnings.specs.declared.warning.WarningKind.{WarningKind}
 use Rattle.name_warnings.specs.declared.warning.WarningKind.TheVariants as kind
-use Rattle.dead_rules.specs.DeadRules.{is_behind, rank}
+use Rattle.dead_rules.specs.DeadRules.{is_later, rank}
 
--- a kind whose code is before W07, and one whose code is behind it
+-- a kind whose code is before W07, and one whose code is after it
 abbrev kind_of : ℕ → WarningKind
 kind_of zero = kind.UnusedStore []
 kind_of (suc n) = kind.KeyNeverPressed
@@ -17,7 +17,7 @@ abbrev pub ranked : ℕ → Warning
 ranked n = warning_at (n / 2) (n % 2)
 
 rank_at : (line rest : ℕ) → rest < 2 → rank (warning_at line rest) ≡ 2 * line + rest
-unfolding rank is_behind
+unfolding rank is_later
 rank_at line zero few = omega arith
 rank_at line (suc zero) few = refl
 rank_at line (suc (suc rest)) few = absurd (omega (arith, few))

@@ -1,4 +1,4 @@
--- W07: rules that never come first.
+-- W07: rules that never take precedence.
 use Rattle.std.specs.Prelude.{ℕ, ◌+◌, ◌*◌, nat_eq, nat_lt, Bool, true, false, ◌&&◌, if◌then◌else◌, List, [], ◌∷◌, ◌++◌, length, flat_map}
 use Rattle.std.specs.List.{list_any}
 use Rattle.kmn_base.specs.declared.limits.TheConstants.{SHADOW_RECORDS}
@@ -41,27 +41,27 @@ unexplained found rules = flat_map (dead_rule_warning found) rules
 abbrev pub not_sought : ℕ → Warning
 not_sought records = record { line = 1; kind = kind.NeverFirstNotSought records }
 
--- W07 for tables, beside the warnings found: rules with a certificate for each of their records, or a note if there are too many records
+-- W07 for tables, in addition to the warnings found: the rules found to be dead, or a note if there are too many records
 unfoldable pub dead_warnings : Tables → List Warning → List Warning
 dead_warnings tables found =
     if nat_lt SHADOW_RECORDS (length (all_rules tables)) then not_sought (length (all_rules tables)) ∷ []
     else unexplained found (found_dead tables)
 
--- whether the code of a warning is behind W07
-unfoldable pub is_behind : WarningKind → Bool
-is_behind (kind.UnusedStore store) = false
-is_behind (kind.MarkNeverSought mark) = false
-is_behind (kind.MarkNeverPut mark) = false
-is_behind (kind.GroupNeverEntered group) = false
-is_behind (kind.ShorterIndex index elements any any_elements) = false
-is_behind (kind.RepeatedElement place any index) = false
-is_behind (kind.NeverFirst lines) = false
-is_behind (kind.NeverFirstNotSought records) = false
-is_behind other = true
+-- whether the code of a warning is after W07
+unfoldable pub is_later : WarningKind → Bool
+is_later (kind.UnusedStore store) = false
+is_later (kind.MarkNeverSought mark) = false
+is_later (kind.MarkNeverPut mark) = false
+is_later (kind.GroupNeverEntered group) = false
+is_later (kind.ShorterIndex index elements any any_elements) = false
+is_later (kind.RepeatedElement place any index) = false
+is_later (kind.NeverFirst lines) = false
+is_later (kind.NeverFirstNotSought records) = false
+is_later other = true
 
--- the place of a warning in the order of lines, in which those behind W07 are the last of a line
+-- the place of a warning in the order of lines, in which those after W07 are the last of a line
 unfoldable pub rank : Warning → ℕ
-rank found = if is_behind found.kind then 2 * found.line + 1 else 2 * found.line
+rank found = if is_later found.kind then 2 * found.line + 1 else 2 * found.line
 
 -- the warnings of a program with W07 of its tables, in the order of lines, and at a line in the order of codes if they had this order
 unfoldable pub with_dead_rules : Tables → List Warning → List Warning

@@ -13,7 +13,7 @@ use Rattle.dead_rules.specs.DeadRules.{unexplained}
 abbrev pub WarnsOfDead : Program → Warning → Type 0
 WarnsOfDead program found = IsDeadLine program found.line
 
--- if a program compiles to tables, each warning at a rule that never comes first is at a rule that is dead in the program
+-- if a program compiles to tables, each rule that W07 reports is dead in the program
 abbrev pub WarnedRulesAreDead : Type 0
 WarnedRulesAreDead =
     (program : Program) (tables : Tables) (found : List Warning) → IsWellNamed program → Compiles program tables → IsWritable tables

@@ -1,4 +1,4 @@
-//! Finds the rules of a compiled keyboard that never come first, as warnings at their lines.
+//! Finds the rules of a compiled keyboard that never take precedence, as warnings at their lines.
 //!
 //! Depends on `shadow_text`, which finds the rules all of whose records have a certificate; `kmx_format`, which counts the records;
 //! `name_warnings` for the warnings; `source_uses` for the order of lines; and `compile_laws` and `rule_model`. The layer above calls

@@ -1,8 +1,8 @@
-//! Sorts warnings by line, and at a line those behind W07 to the end.
+//! Sorts warnings by line, and at a line those after W07 to the end.
 
 ghost use Rattle.std.specs.Prelude.{◌≡◌, IfOk};
 ghost use Rattle.source_uses.specs.Lines.{in_lines};
-ghost use Rattle.dead_rules.specs.DeadRules.{is_behind, rank};
+ghost use Rattle.dead_rules.specs.DeadRules.{is_later, rank};
 
 use kmn_base::Memory;
 use name_warnings::{Warning, WarningKind};
@@ -20,23 +20,23 @@ pub(crate) fn sort_by_rank(found: Vec<Warning>) -> Result<Vec<Warning>, Memory>
     Ok(sorted)
 }
 
-/// Returns the rank of a warning: twice its line, and one more if its code is behind W07.
+/// Returns the rank of a warning: twice its line, and one more if its code is after W07.
 #[tactic(auto, unfolding(crate::specs::DeadRules::rank))]
 fn rank(warning: &Warning) -> u64
     ensures { result ≡ rank warning.now }
 {
     let line = u64::from(warning.line);
-    if is_behind(&warning.kind) {
+    if is_later(&warning.kind) {
         2 * line + 1
     } else {
         2 * line
     }
 }
 
-/// Returns whether the code of a warning is behind W07.
-#[tactic(auto, unfolding(crate::specs::DeadRules::is_behind))]
-fn is_behind(kind: &WarningKind) -> bool
-    ensures { result ≡ is_behind kind.now }
+/// Returns whether the code of a warning is after W07.
+#[tactic(auto, unfolding(crate::specs::DeadRules::is_later))]
+fn is_later(kind: &WarningKind) -> bool
+    ensures { result ≡ is_later kind.now }
 {
     match kind {
         WarningKind::UnusedStore { .. } => false,

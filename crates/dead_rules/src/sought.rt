@@ -1,4 +1,4 @@
-//! W07: rules that never come first.
+//! W07: rules that never take precedence.
 
 ghost use Rattle.std.specs.Prelude.{◌≡◌, ◌++◌, [], ◌∷◌, IfOk, OnOk};
 ghost use Rattle.kmx_format.specs.Writable.{IsWritable};
@@ -12,8 +12,8 @@ use rule_model::Tables;
 use shadow_text::{DeadRule, found_dead};
 use std::alloc::Global;
 
-/// Returns W07 for tables, beside the warnings found: a warning at each rule that never comes first and that none of these explains, or a
-/// note if there are too many records to search. Errors: `Memory` if an allocation fails.
+/// Returns W07 for tables, in addition to the warnings found: a warning at each dead rule that none of these explains, or a note if there
+/// are too many records to search. Errors: `Memory` if an allocation fails.
 #[tactic(auto, using(crate::proofs::Searched::many_noted, crate::proofs::Searched::few_searched))]
 pub(crate) fn dead_warnings(
     alloc: Global,

@@ -39,7 +39,7 @@ pub enum WarningKind {
     NeverFirst {
         lines: Seq<u32>,
     },
-    /// W07, a note: there are too many key records to look for rules that never come first. At line 1.
+    /// W07, a note: there are too many key records to look for rules that never take precedence. At line 1.
     NeverFirstNotSought {
         records: u64,
     },
