@@ -1,12 +1,13 @@
 //! The warnings of a program.
 
 ghost use Rattle.std.specs.Prelude.{◌≡◌, ◌++◌, IfOk, OnOk};
-ghost use Rattle.source_warnings.specs.Warnings.{all_warnings, condition_warnings, named_warnings, option_names, store_warnings, warnings, warnings_with};
+ghost use Rattle.source_warnings.specs.Warnings.{all_warnings, condition_warnings, index_warnings, named_warnings, option_names, store_warnings, warnings, warnings_with};
 
 use crate::conditions::add_contradictions;
 use crate::indexes::{add_longer_indexes, add_shorter_indexes};
 use crate::keys::add_never_pressed;
 use crate::patterns::add_empty_patterns;
+use crate::repeated::add_repeated_elements;
 use crate::same_keys::add_same_keys;
 use crate::sorting::sort_warnings;
 use kmn_base::{Memory, Text};
@@ -57,7 +58,7 @@ fn warnings_with(
 {
     let mut found = Vec::new(alloc);
     add_name_warnings(alloc, &mut found, contents, program, aside)?;
-    add_shorter_indexes(alloc, &mut found, contents, pairs)?;
+    add_index_warnings(alloc, &mut found, contents, pairs, program)?;
     add_condition_warnings(alloc, &mut found, contents, program, aside)?;
     add_store_warnings(alloc, &mut found, contents, options, pairs, program)?;
     Ok(found)
@@ -86,6 +87,20 @@ fn option_names(alloc: Global, program: &Program) -> Result<NameTable, Memory>
     let uses = rule_uses(alloc, Role::OptionStore, Part::Whole, program)?;
     add_names(&mut names, uses.as_slice())?;
     Ok(names)
+}
+
+/// Appends the warnings of `index` and its `any`, W05 and W06.
+fn add_index_warnings(
+    alloc: Global,
+    found: &mut Vec<Warning>,
+    contents: &Contents,
+    pairs: &[Pair],
+    program: &Program,
+) -> Result<(), Memory>
+    ensures { OnOk result (found.new.items ≡ found.old.items ++ index_warnings contents.now pairs.now program.now) }
+{
+    add_shorter_indexes(alloc, found, contents, pairs)?;
+    add_repeated_elements(alloc, found, contents, program.stores.as_slice(), pairs)
 }
 
 /// Appends the warnings of options and conditions, W08 to W12.
