@@ -28,6 +28,7 @@ store(a) 'x'¶store(b) outs(a)¶begin Unicode > use(main)¶group(main) using key
 begin Unicode > use(main)¶group(main) using keys¶+ '^' > dk(hat)¶dk(hta) + 'a' > 'â' ⇒ 0 in:3: warning W02: deadkey 'hat' is put and never looked for¶in:4: warning W03: deadkey 'hta' is looked for and never put¶checked warnings=2 notes=0¶
 begin Unicode > use(main)¶group(main) using keys¶+ 'a' > 'b'¶group(late)¶'b' > 'c' ⇒ 0 in:4: warning W04: group 'late' is never entered¶checked warnings=1 notes=0¶
 store(v) 'aeiou'¶store(w) 'AEIO'¶begin Unicode > use(main)¶group(main) using keys¶any(v) + '^' > index(w, 1) ⇒ 0 in:5: warning W05: index('w') has 4 elements, any('v') 5¶checked warnings=1 notes=0¶
+store(v) 'aeiaou'¶store(w) 'AEIÄOU'¶begin Unicode > use(main)¶group(main) using keys¶any(v) + '^' > index(w, 1) ⇒ 0 in:1: warning W06: element 4 of 'v' stands there before, so element 4 of 'w' never comes¶checked warnings=1 notes=0¶
 store(o) '0'¶begin Unicode > use(main)¶group(main) using keys¶if(o = '1') if(o = '2') + 'a' > 'b'¶+ 'e' > set(o = '1') set(o = '2') ⇒ 0 in:4: warning W09: these conditions are never true together¶checked warnings=1 notes=0¶
 store(k) 'aé'¶begin Unicode > use(main)¶group(main) using keys¶+ 'é' > 'x'¶+ any(k) > 'y' ⇒ 0 in:4: warning W13: no press gives this key¶in:5: warning W13: 1 of 2 keys of 'k' are given by no press¶checked warnings=2 notes=0¶
 store(k) [K_A]¶begin Unicode > use(main)¶group(main) using keys¶any(k) + 'a' > 'x' ⇒ 0 in:4: warning W14: store 'k' has no character and no deadkey¶checked warnings=1 notes=0¶

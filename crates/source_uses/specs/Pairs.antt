@@ -1,7 +1,6 @@
 -- Each `index` with the `any` whose place it takes.
 use Rattle.std.specs.Prelude.{ℕ, zero, suc, nat_eq, ◌||◌, if◌then◌else◌, List, [], ◌∷◌, ◌++◌, length, flat_map, slice_get, codes, Option, Some, None}
 use Rattle.std.specs.List.{concat}
-use Rattle.virtual_keys.specs.Dictionary.{with_name}
 use Rattle.rule_model.specs.declared.program.SrcItem.{SrcItem}
 use Rattle.rule_model.specs.declared.program.SrcItem.TheVariants as source
 use Rattle.rule_model.specs.declared.program.RuleDef.{RuleDef}
@@ -54,12 +53,9 @@ new_pairs known (pair ∷ pairs) =
 unfoldable pub pair_name : Pair → List ℕ
 pair_name pair = concat (pair.index ∷ codes "," ∷ pair.any ∷ [])
 
--- a pair with such a name, unless it is known
-abbrev pub unknown_pair : List (List ℕ) → List ℕ → Pair → List Pair
-unknown_pair known name pair = if is_named known name then [] else pair ∷ []
-
 -- the pairs whose two stores are not known, of each two stores the first
 abbrev pub distinct_pairs : List (List ℕ) → List Pair → List Pair
 distinct_pairs known [] = []
 distinct_pairs known (pair ∷ pairs) =
-    unknown_pair known (pair_name pair) pair ++ distinct_pairs (with_name known (pair_name pair)) pairs
+    if is_named known (pair_name pair) then distinct_pairs known pairs
+    else pair ∷ distinct_pairs (known ++ pair_name pair ∷ []) pairs

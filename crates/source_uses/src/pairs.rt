@@ -2,7 +2,7 @@
 
 ghost use Rattle.std.specs.Prelude.{◌≡◌, ◌++◌, [], flat_map, IfOk, OnOk};
 ghost use Rattle.std.specs.Option.{option_copied};
-ghost use Rattle.source_uses.specs.Pairs.{any_named, distinct_pairs, item_pairs, items_pairs, new_pairs, pair_name, paired, pointed, program_pairs, rule_pairs, unknown_pair};
+ghost use Rattle.source_uses.specs.Pairs.{any_named, distinct_pairs, item_pairs, items_pairs, new_pairs, pair_name, paired, pointed, program_pairs, rule_pairs};
 
 use kmn_base::{Memory, Text};
 use rule_model::{GroupDef, Program, RuleDef, SrcItem};
@@ -181,8 +181,10 @@ pub fn distinct_pairs(alloc: Global, pairs: &[Pair]) -> Result<Vec<Pair>, Memory
     let mut new = Vec::new(alloc);
     for pair in pairs {
         let name = pair_name(alloc, pair)?;
-        add_unknown(alloc, &mut new, &known, name.as_slice(), pair)?;
-        known.add_new(name.as_slice())?;
+        if !known.has(name.as_slice()) {
+            known.push(name.as_slice())?;
+            new.push(pair.copy(alloc)?)?;
+        }
     }
     Ok(new)
 }
@@ -196,21 +198,4 @@ fn pair_name(alloc: Global, pair: &Pair) -> Result<Text, Memory>
     name.extend_from_slice(b",")?;
     name.extend_from_slice(pair.any.as_slice())?;
     Ok(name)
-}
-
-/// Appends a pair with this name, unless the name is in a table.
-fn add_unknown(
-    alloc: Global,
-    new: &mut Vec<Pair>,
-    known: &NameTable,
-    name: &[u8],
-    pair: &Pair,
-) -> Result<(), Memory>
-    ensures { OnOk result (new.new.items ≡ new.old.items ++ unknown_pair known.now name.now pair.now) }
-{
-    if known.has(name) {
-        return Ok(());
-    }
-    new.push(pair.copy(alloc)?)?;
-    Ok(())
 }

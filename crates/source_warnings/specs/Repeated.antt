@@ -41,20 +41,20 @@ element_name (element.Key key) = key_name key
 abbrev pub are_different : StoreElement → StoreElement → Bool
 are_different one other = not (same_name (element_name one) (element_name other))
 
--- whether an element is there and is not the same as another one, which may be missing too
+-- whether there are two elements that are not the same
 abbrev pub is_other : StoreElement → Option StoreElement → Bool
 is_other one None = false
 is_other one (Some other) = are_different one other
 
-abbrev pub is_other_at : List StoreElement → ℕ → Option StoreElement → Bool
-is_other_at partners place None = false
-is_other_at partners place (Some first) = is_other first (slice_get partners place)
+abbrev pub differ_at : List StoreElement → ℕ → Option StoreElement → Bool
+differ_at partners place None = false
+differ_at partners place (Some first) = is_other first (slice_get partners place)
 
 -- whether the partner of an element at a place is another one than the partner at the first place of this element; partners are the
 -- elements of the store of `index`, and a place past their end has none
 unfoldable pub is_hidden_from : List StoreElement → ℕ → Option ℕ → Bool
 is_hidden_from partners place None = false
-is_hidden_from partners place (Some first) = is_other_at partners place (slice_get partners first)
+is_hidden_from partners place (Some first) = differ_at partners place (slice_get partners first)
 
 unfoldable pub is_hidden : List (List ℕ) → List StoreElement → ℕ → StoreElement → Bool
 is_hidden names partners place found = is_hidden_from partners place (place_in names (element_name found))

@@ -26,7 +26,8 @@ use Rattle.name_warnings.specs.Values.{values_never_set}
 abbrev pub option_names : Program → List (List ℕ)
 option_names program = names_of (rule_uses role.OptionStore part.Whole program)
 
--- the warnings of names that are used nowhere, of `index` and its `any`, of options and conditions, and of stores and their elements
+-- the warnings of names that are used nowhere, of the stores of `index` and `any`, of options and conditions, and of stores and their
+-- elements
 abbrev pub named_warnings : Contents → Program → List (List ℕ) → List Warning
 named_warnings contents program aside =
     unused_stores program aside ++ (mark_warnings contents program aside ++ groups_never_entered program aside)

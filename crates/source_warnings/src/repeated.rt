@@ -1,7 +1,7 @@
 //! W06: elements of the store of `any` that are in it before.
 
 ghost use Rattle.std.specs.Prelude.{◌≡◌, ◌++◌, flat_map, map, slice_get, IfOk, OnOk};
-ghost use Rattle.source_warnings.specs.Repeated.{are_different, character_name, deadkey_name, element_name, first_hidden, hidden_number, is_hidden, is_hidden_from, is_other, is_other_at, key_name, key_numbers, line_at, repeated_at, repeated_element, repeated_elements, store_line};
+ghost use Rattle.source_warnings.specs.Repeated.{are_different, character_name, deadkey_name, differ_at, element_name, first_hidden, hidden_number, is_hidden, is_hidden_from, is_other, key_name, key_numbers, line_at, repeated_at, repeated_element, repeated_elements, store_line};
 
 use kmn_base::names::same_name;
 use kmn_base::slices::before;
@@ -155,8 +155,8 @@ fn first_hidden(
 ) -> Result<Option<usize>, Memory>
     ensures { IfOk result (λ number. number ≡ first_hidden names.now partners.now 0 elements.now) }
 {
-    for (place, element) in elements.iter().enumerate() {
-        if is_hidden(alloc, names, partners, place, element)? {
+    for place in 0..elements.len() {
+        if is_hidden(alloc, names, partners, place, &elements[place])? {
             return Ok(Some(place + 1));
         }
     }
@@ -203,20 +203,20 @@ fn differ_at(
     place: usize,
     first: usize,
 ) -> Result<bool, Memory>
-    ensures { IfOk result (λ different. different ≡ is_other_at partners.now place (slice_get partners.now first)) }
+    ensures { IfOk result (λ different. different ≡ differ_at partners.now place (slice_get partners.now first)) }
 {
     match partners.get(first) {
-        Some(one) => is_other_at(alloc, partners, place, one),
+        Some(one) => is_other(alloc, one, partners, place),
         None => Ok(false),
     }
 }
 
 /// Returns whether the partner at a place is there and is not this one.
-fn is_other_at(
+fn is_other(
     alloc: Global,
+    one: &StoreElement,
     partners: &[StoreElement],
     place: usize,
-    one: &StoreElement,
 ) -> Result<bool, Memory>
     ensures { IfOk result (λ different. different ≡ is_other one.now (slice_get partners.now place)) }
 {
