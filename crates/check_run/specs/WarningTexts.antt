@@ -81,10 +81,10 @@ several_lines line = concat (codes "lines " ∷ decimal line ∷ [])
 unfoldable pub next_line : ℕ → List ℕ
 next_line line = concat (codes ", " ∷ decimal line ∷ [])
 
-abbrev pub first_line : ℕ → ℕ → List ℕ
+unfoldable pub first_line : ℕ → ℕ → List ℕ
 first_line more line = if nat_eq more 0 then one_line line else several_lines line
 
-abbrev pub listed_lines : List ℕ → List ℕ
+unfoldable pub listed_lines : List ℕ → List ℕ
 listed_lines [] = []
 listed_lines (line ∷ lines) = first_line (length lines) line ++ flat_map next_line lines
 

@@ -16,6 +16,7 @@ pub(crate) fn put_never_first(alloc: Global, text: &mut Text, lines: &[u32]) -> 
 }
 
 /// Appends lines with commas between them.
+#[tactic(auto, unfolding(crate::specs::WarningTexts::listed_lines))]
 fn put_listed(alloc: Global, text: &mut Text, lines: &[u32]) -> Result<(), Memory>
     ensures { OnOk result (text.new ≡ text.old ++ listed_lines lines.now) }
 {
@@ -44,6 +45,7 @@ fn put_more(alloc: Global, text: &mut Text, lines: &[u32]) -> Result<(), Memory>
 }
 
 /// Returns the first of several lines, before this many more.
+#[tactic(auto, unfolding(crate::specs::WarningTexts::first_line))]
 fn first_line(alloc: Global, more: usize, line: u32) -> Result<Text, Memory>
     ensures { IfOk result (λ text. text ≡ first_line more line) }
 {

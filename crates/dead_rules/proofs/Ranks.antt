@@ -18,8 +18,14 @@ ranked n = warning_at (n / 2) (n % 2)
 
 rank_at : (line rest : ℕ) → rest < 2 → rank (warning_at line rest) ≡ 2 * line + rest
 unfolding rank is_later
-rank_at line zero few = omega arith
-rank_at line (suc zero) few = refl
+rank_at line zero few =
+    let early : rank (warning_at line zero) ≡ 2 * line = refl in
+    let same : 2 * line ≡ 2 * line + zero = omega arith in
+    early ∙ same
+rank_at line (suc zero) few =
+    let late : rank (warning_at line (suc zero)) ≡ 2 * line + 1 = refl in
+    let same : 2 * line + 1 ≡ 2 * line + suc zero = omega arith in
+    late ∙ same
 rank_at line (suc (suc rest)) few = absurd (omega (arith, few))
 
 pub rank_of_ranked : (n : ℕ) → rank (ranked n) ≡ n
