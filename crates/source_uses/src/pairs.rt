@@ -32,7 +32,8 @@ impl Pair {
     }
 }
 
-/// Returns each `index` of a program with its `any`, in the order of the statements, without the stores that are options. Errors: `Memory` if an allocation fails.
+/// Returns each `index` of a program with its `any`, in the order of the statements, without the stores that are options. Errors: `Memory`
+/// if an allocation fails.
 pub fn index_pairs(
     alloc: Global,
     options: &NameTable,

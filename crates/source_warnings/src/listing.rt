@@ -20,9 +20,9 @@ use source_uses::{Contents, Pair, Part, Role, add_names, index_pairs, rule_uses}
 use std::alloc::Global;
 use store_table::NameTable;
 
-/// Returns what compiles but is probably a mistake in an accepted program, in the order of lines, and at a line in the order of codes. Names
-/// among `aside` are known to other programs, so no warning says that a statement lacks for them. Errors: `Memory` if an allocation
-/// fails.
+/// Returns what compiles but is probably a mistake in an accepted program, in the order of lines, and at a line in the order of codes.
+/// Names among `aside` are known to other programs, so no warning says that a statement lacks for them. Errors: `Memory` if an
+/// allocation fails.
 #[tactic(auto, unfolding(crate::specs::Warnings::warnings))]
 pub fn warnings(alloc: Global, program: &Program, aside: &[Text]) -> Result<Vec<Warning>, Memory>
     ensures { IfOk result (λ found. found.items ≡ warnings program.now aside.now) }
