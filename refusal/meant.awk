@@ -1,10 +1,10 @@
-# Explains a refusal in the file that it refers to, with the functions of the other files. The variables are `code`, `line`, `rest` (the
-# rest of the refusal after the code), `bytes` (the size of the file) and `importing` (1 after `--import`). The first printed line states
-# what the refusal means there, or is empty if the code says enough. For a feature that is not supported, this line ends with a tab and
-# the name of the feature in docs/CODES.md or docs/FROM-KEYMAN.md. After another tab comes another name, if the row that states what
-# `--import` writes has one, or `-` if `--import` keeps the line. The line ends with a tab and `=` if it is a whole explanation. The second
-# line is a hint or empty. The third is the number of the line that has the error, or 0 if no line has it. Then come the beginning of
-# that line and a full stop.
+# Explains a refusal in the file that it refers to, with the functions of the other files. The variables are `code`, `line`, `column` (empty
+# if it is not known), `rest` (the rest of the refusal after the code), `bytes` (the size of the file) and `importing` (1 after `--import`).
+# The first printed line states what the refusal means there, or is empty if the code says enough. For a feature that is not supported,
+# this line ends with a tab and the name of the feature in docs/CODES.md or docs/FROM-KEYMAN.md. After another tab comes another name, if
+# the row that states what `--import` writes has one, or `-` if `--import` keeps the line. The line ends with a tab and `=` if it is a whole
+# explanation. The second line is a hint or empty. The third is the number of the line that has the error, or 0 if no line has it. Then come
+# the beginning of that line, a line with a caret below the column if it is known, and a full stop.
 BEGIN {
     split("C16 C17 C18 C19 C20 C21 C22 P07 H2", codes, " ")
     split("items:items:elements:store 20,001:group 1,001:deadkey 5,001:record 100,001:event 100,001:field 65", words, ":")
@@ -23,6 +23,7 @@ END {
     print hint
     print (code ~ /^(C01|L05|P06)$/ || utf16 ? 0 : line)
     print printable(text)
+    if (caret != "") print caret
     print "."
 }
 
@@ -43,6 +44,17 @@ function beginning(s) {
     s = substr(s, 1, 300)
     sub(/[\300-\377][\200-\277]*$/, "", s)
     return s "..."
+}
+
+# Returns a line with a caret below the column, or an empty text if the printed beginning of the line is too short. It keeps tabs, since
+# their widths differ.
+function caret_below(s) {
+    s = substr(s, 1, 300)
+    gsub(/[\200-\277]/, "", s)
+    if (column > length(s)) return ""
+    s = substr(s, 1, column - 1)
+    gsub(/[^\t]/, " ", s)
+    return s "^"
 }
 
 # Returns a text in which a terminal finds nothing to obey and no broken character.
@@ -78,6 +90,7 @@ function take(s) {
     if (code ~ /^E/ && !line) count_events(s)
     if (row == line && !of_layout) {
         text = beginning(s)
+        if (column) caret = caret_below(s)
         if (hint == "") hint = hint_of(s)
         if (code == "P03" && press_fault(s) != "") meaning = press_fault(s) "\t="
     }

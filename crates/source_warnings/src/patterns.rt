@@ -1,6 +1,6 @@
 //! W14: `any` and `index` with a store that has no character and no deadkey.
 
-ghost use Rattle.std.specs.Prelude.{◌≡◌, ◌++◌, flat_map, true, IfOk, OnOk};
+ghost use Rattle.std.specs.Prelude.{◌≡◌, ◌++◌, flat_map, false, true, IfOk, OnOk};
 ghost use Rattle.std.specs.List.{list_any};
 ghost use Rattle.source_uses.specs.Uses.{rule_uses};
 ghost use Rattle.source_uses.specs.declared.used.Part.TheVariants as part;
@@ -25,10 +25,23 @@ pub(crate) fn add_empty_patterns(
 ) -> Result<(), Memory>
     ensures { OnOk result (found.new.items ≡ found.old.items ++ empty_patterns contents.now options.now program.now) }
 {
+    add_matched_patterns(alloc, found, contents, options, program)?;
+    add_keyed_patterns(alloc, found, contents, options, program)
+}
+
+/// Appends the warnings at each `any` or `index` of a context.
+fn add_matched_patterns(
+    alloc: Global,
+    found: &mut Vec<Warning>,
+    contents: &Contents,
+    options: &NameTable,
+    program: &Program,
+) -> Result<(), Memory>
+    ensures { OnOk result (found.new.items ≡ found.old.items ++ flat_map (empty_pattern (bare_names contents.now options.now false program.now.stores)) (rule_uses role.Matched part.Context program.now)) }
+{
     let matched = rule_uses(alloc, Role::Matched, Part::Context, program)?;
     let bare = bare_names(alloc, contents, options, false, program.stores.as_slice())?;
-    add_among(alloc, found, &bare, matched.as_slice())?;
-    add_keyed_patterns(alloc, found, contents, options, program)
+    add_among(alloc, found, &bare, matched.as_slice())
 }
 
 /// Appends the warnings at each `index` of an output.
