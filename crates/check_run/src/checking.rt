@@ -1,6 +1,8 @@
 //! Reads a source by name and finds its refusals or its warnings.
 
 ghost use Rattle.std.specs.Prelude.{◌≡◌, IfOk};
+ghost use Rattle.source_warnings.specs.Aside.{aside_words};
+ghost use Rattle.source_warnings.specs.Warnings.{warnings};
 ghost use Rattle.check_run.specs.Orders.{bytes_check_work, file_check_work, findings_work, program_check_work, text_work, warnings_in};
 ghost use Rattle.keyman_run.specs.Steps.{Gives, IsCompiled, itself};
 
@@ -101,8 +103,15 @@ fn find_warnings(
     requires { IsCompiled compiled.now }
     ensures { IfOk result (λ found. found ≡ warnings_in bytes.now program.now compiled.now.tables) }
 {
-    let aside = aside_words(alloc, bytes)?;
-    let found = warnings(alloc, program, aside.as_slice())?;
+    let found = program_warnings(alloc, bytes, program)?;
     let all = with_dead_rules(alloc, &compiled.tables, found)?;
     Ok(all)
+}
+
+/// Finds the warnings of a program, except those of its dead rules. The bytes are those of its source.
+fn program_warnings(alloc: Global, bytes: &[u8], program: &Program) -> Result<Vec<Warning>, Memory>
+    ensures { IfOk result (λ found. found.items ≡ warnings program.now (aside_words bytes.now)) }
+{
+    let aside = aside_words(alloc, bytes)?;
+    warnings(alloc, program, aside.as_slice())
 }

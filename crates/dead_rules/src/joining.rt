@@ -2,7 +2,7 @@
 
 ghost use Rattle.std.specs.Prelude.{◌≡◌, ◌++◌, IfOk};
 ghost use Rattle.kmx_format.specs.Writable.{IsWritable};
-ghost use Rattle.dead_rules.specs.DeadRules.{with_dead_rules};
+ghost use Rattle.dead_rules.specs.DeadRules.{dead_warnings, with_dead_rules};
 
 use crate::sorting::sort_by_rank;
 use crate::sought::dead_warnings;
@@ -22,18 +22,18 @@ pub fn with_dead_rules(
     requires { IsWritable tables.now }
     ensures { IfOk result (λ all. all ≡ with_dead_rules tables.now found.items) }
 {
-    let dead = dead_warnings(alloc, tables, found.as_slice())?;
-    let all = joined(found, dead)?;
+    let all = joined(alloc, tables, found)?;
     let sorted = sort_by_rank(all)?;
     Ok(Seq::from_vec(sorted))
 }
 
-/// Returns the warnings of two lists.
-fn joined(found: Vec<Warning>, dead: Vec<Warning>) -> Result<Vec<Warning>, Memory>
-    ensures { IfOk result (λ all. all.items ≡ found.items ++ dead.items) }
+/// Returns the warnings of a program, and then W07 of its tables.
+fn joined(alloc: Global, tables: &Tables, found: Vec<Warning>) -> Result<Vec<Warning>, Memory>
+    requires { IsWritable tables.now }
+    ensures { IfOk result (λ all. all.items ≡ found.items ++ dead_warnings tables.now found.items) }
 {
     let mut all = found;
-    let mut more = dead;
-    all.append(&mut more)?;
+    let mut dead = dead_warnings(alloc, tables, all.as_slice())?;
+    all.append(&mut dead)?;
     Ok(all)
 }

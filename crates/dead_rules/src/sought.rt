@@ -46,11 +46,7 @@ fn not_sought(alloc: Global, records: u64) -> Result<Vec<Warning>, Memory>
 }
 
 /// Returns a warning at each of these dead rules that none of the warnings found explains.
-fn unexplained(
-    alloc: Global,
-    found: &[Warning],
-    rules: &[DeadRule],
-) -> Result<Vec<Warning>, Memory>
+fn unexplained(alloc: Global, found: &[Warning], rules: &[DeadRule]) -> Result<Vec<Warning>, Memory>
     ensures { IfOk result (λ dead. dead.items ≡ unexplained found.now rules.now) }
 {
     let mut dead = Vec::new(alloc);

@@ -50,8 +50,11 @@ abbrev pub dead_rule : List Verdict → ℕ → DeadRule
 dead_rule all line = record { line = line; before = lines_before all line }
 
 -- the rules that have something found for each of their records, in the order of lines
+unfoldable pub dead_list : List Verdict → List DeadRule
+dead_list all = map (dead_rule all) (dead_among all)
+
 unfoldable pub found_dead : Tables → List DeadRule
-found_dead tables = map (dead_rule (verdicts tables)) (dead_among (verdicts tables))
+found_dead tables = dead_list (verdicts tables)
 
 -- the printed line of a dead rule
 abbrev pub dead_line : List Verdict → ℕ → List ℕ

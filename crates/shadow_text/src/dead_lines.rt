@@ -2,7 +2,7 @@
 
 ghost use Rattle.std.specs.Prelude.{◌≡◌, ◌++◌, [], filter, map, unwrap_or, IfOk, OnOk};
 ghost use Rattle.kmx_format.specs.Writable.{IsWritable};
-ghost use Rattle.shadow_text.specs.DeadLines.{dead_rule, found_dead, is_dead, lines_before, rule_lines};
+ghost use Rattle.shadow_text.specs.DeadLines.{dead_list, dead_rule, found_dead, is_dead, lines_before, rule_lines};
 
 use crate::verdicts::{Verdict, verdicts};
 use kmn_base::{Memory, Seq, rising_lines};
@@ -25,14 +25,23 @@ pub fn found_dead(alloc: Global, tables: &Tables) -> Result<Vec<DeadRule>, Memor
     ensures { IfOk result (λ rules. rules.items ≡ found_dead tables.now) }
 {
     let all = verdicts(alloc, tables)?;
-    let lines = rule_lines(alloc, all.as_slice())?;
-    let dead = dead_among(alloc, all.as_slice(), lines.as_slice())?;
-    let rules = list_dead(alloc, all.as_slice(), dead.as_slice())?;
+    let rules = dead_list(alloc, all.as_slice())?;
+    Ok(rules)
+}
+
+/// Returns the rules that have something found for each of their records, in the order of lines.
+#[tactic(auto, unfolding(crate::specs::DeadLines::dead_list))]
+fn dead_list(alloc: Global, all: &[Verdict]) -> Result<Vec<DeadRule>, Memory>
+    ensures { IfOk result (λ rules. rules.items ≡ dead_list all.now) }
+{
+    let lines = rule_lines(alloc, all)?;
+    let dead = dead_among(alloc, all, lines.as_slice())?;
+    let rules = rules_at(alloc, all, dead.as_slice())?;
     Ok(rules)
 }
 
 /// Returns the dead rules of lines.
-fn list_dead(alloc: Global, all: &[Verdict], dead: &[u32]) -> Result<Vec<DeadRule>, Memory>
+fn rules_at(alloc: Global, all: &[Verdict], dead: &[u32]) -> Result<Vec<DeadRule>, Memory>
     ensures { IfOk result (λ rules. rules.items ≡ map (dead_rule all.now) dead.now) }
 {
     let mut rules = Vec::new(alloc);

@@ -65,10 +65,17 @@ first_hidden names partners place [] = None
 first_hidden names partners place (found ∷ elements) =
     if is_hidden names partners place found then Some (place + 1) else first_hidden names partners (place + 1) elements
 
--- the same for all elements that have a partner
+-- the same for all elements
+unfoldable pub hidden_among : List StoreElement → List StoreElement → Option ℕ
+hidden_among elements partners = first_hidden (map element_name elements) partners 0 elements
+
+-- the same for the elements that have a partner
 unfoldable pub hidden_number : List StoreElement → List StoreElement → Option ℕ
-hidden_number elements partners =
-    first_hidden (map element_name (take (length partners) elements)) partners 0 (take (length partners) elements)
+hidden_number elements partners = hidden_among (take (length partners) elements) partners
+
+-- the same for the elements of the store of an `any`, with the elements of the store of `index` as partners
+unfoldable pub pair_number : Contents → Pair → Option ℕ
+pair_number contents pair = hidden_number (elements_named contents pair.any) (elements_named contents pair.index)
 
 -- the line of the store with a name, among stores with these names
 abbrev pub line_at : List Use → Option ℕ → Option ℕ
@@ -84,12 +91,14 @@ repeated_at pair None number = []
 repeated_at pair (Some line) None = []
 repeated_at pair (Some line) (Some number) = record { line = line; kind = kind.RepeatedElement number pair.any pair.index } ∷ []
 
+-- the warning of a pair at the line of the store of its `any`, among stores with these names
 unfoldable pub repeated_element : Contents → List (List ℕ) → List Use → Pair → List Warning
-repeated_element contents names stated pair =
-    repeated_at pair (store_line names stated pair.any) (hidden_number (elements_named contents pair.any) (elements_named contents pair.index))
+repeated_element contents names stated pair = repeated_at pair (store_line names stated pair.any) (pair_number contents pair)
+
+unfoldable pub repeated_among : Contents → List Use → List Pair → List Warning
+repeated_among contents stated pairs = flat_map (repeated_element contents (names_of stated) stated) pairs
 
 -- W06: for each two stores of an `index` and its `any`, at the store of `any`, its first element that is in it before, at a place where the
 -- store of `index` has another element. So the element of `index` at the same place is never put
 unfoldable pub repeated_elements : Contents → List StoreDef → List Pair → List Warning
-repeated_elements contents stores pairs =
-    flat_map (repeated_element contents (names_of (stated_stores stores)) (stated_stores stores)) (distinct_pairs [] pairs)
+repeated_elements contents stores pairs = repeated_among contents (stated_stores stores) (distinct_pairs [] pairs)

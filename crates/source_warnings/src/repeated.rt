@@ -1,7 +1,7 @@
 //! W06: elements of the store of `any` that are in it before.
 
 ghost use Rattle.std.specs.Prelude.{◌≡◌, ◌++◌, flat_map, map, slice_get, IfOk, OnOk};
-ghost use Rattle.source_warnings.specs.Repeated.{are_different, character_name, deadkey_name, differ_at, element_name, first_hidden, hidden_number, is_hidden, is_hidden_from, is_other, key_name, key_numbers, line_at, repeated_at, repeated_element, repeated_elements, store_line};
+ghost use Rattle.source_warnings.specs.Repeated.{are_different, character_name, deadkey_name, differ_at, element_name, first_hidden, hidden_among, hidden_number, is_hidden, is_hidden_from, is_other, key_name, key_numbers, line_at, pair_number, repeated_among, repeated_at, repeated_element, repeated_elements, store_line};
 
 use kmn_base::names::same_name;
 use kmn_base::slices::before;
@@ -25,20 +25,33 @@ pub(crate) fn add_repeated_elements(
     ensures { OnOk result (found.new.items ≡ found.old.items ++ repeated_elements contents.now stores.now pairs.now) }
 {
     let stated = stated_stores(alloc, stores)?;
-    let mut names = NameTable::new(alloc);
-    add_names(&mut names, stated.as_slice())?;
     let distinct = distinct_pairs(alloc, pairs)?;
-    add_repeated(
+    add_among(
         alloc,
         found,
         contents,
-        &names,
         stated.as_slice(),
         distinct.as_slice(),
     )
 }
 
-/// Appends the warnings of pairs of stores, whose statements are among these with these names.
+/// Appends the warnings of pairs of stores, which are among these stores.
+#[tactic(auto, unfolding(crate::specs::Repeated::repeated_among))]
+fn add_among(
+    alloc: Global,
+    found: &mut Vec<Warning>,
+    contents: &Contents,
+    stated: &[Use],
+    pairs: &[Pair],
+) -> Result<(), Memory>
+    ensures { OnOk result (found.new.items ≡ found.old.items ++ repeated_among contents.now stated.now pairs.now) }
+{
+    let mut names = NameTable::new(alloc);
+    add_names(&mut names, stated)?;
+    add_repeated(alloc, found, contents, &names, stated, pairs)
+}
+
+/// Appends the warnings of pairs of stores, which are among these stores with these names.
 fn add_repeated(
     alloc: Global,
     found: &mut Vec<Warning>,
@@ -67,11 +80,20 @@ fn add_repeated_element(
 ) -> Result<(), Memory>
     ensures { OnOk result (found.new.items ≡ found.old.items ++ repeated_element contents.now names.now stated.now pair.now) }
 {
+    let number = pair_number(alloc, contents, pair)?;
+    let line = store_line(names, stated, pair.any.as_slice());
+    add_at(alloc, found, pair, line, number)
+}
+
+/// Returns the number of the first hidden element of the store of an `any`.
+#[tactic(auto, unfolding(crate::specs::Repeated::pair_number))]
+fn pair_number(alloc: Global, contents: &Contents, pair: &Pair) -> Result<Option<usize>, Memory>
+    ensures { IfOk result (λ number. number ≡ pair_number contents.now pair.now) }
+{
     let elements = contents.named(pair.any.as_slice());
     let partners = contents.named(pair.index.as_slice());
     let number = hidden_number(alloc, elements, partners)?;
-    let line = store_line(names, stated, pair.any.as_slice());
-    add_at(alloc, found, pair, line, number)
+    Ok(number)
 }
 
 /// Appends the warning of a pair of stores at a line about the element with a number, if there are both.
@@ -127,9 +149,21 @@ fn hidden_number(
 ) -> Result<Option<usize>, Memory>
     ensures { IfOk result (λ number. number ≡ hidden_number elements.now partners.now) }
 {
-    let common = before(elements, partners.len());
-    let names = element_names(alloc, common)?;
-    let number = first_hidden(alloc, &names, partners, common)?;
+    let number = hidden_among(alloc, before(elements, partners.len()), partners)?;
+    Ok(number)
+}
+
+/// Returns the number, from 1, of the first such element, if each element has a partner.
+#[tactic(auto, unfolding(crate::specs::Repeated::hidden_among))]
+fn hidden_among(
+    alloc: Global,
+    elements: &[StoreElement],
+    partners: &[StoreElement],
+) -> Result<Option<usize>, Memory>
+    ensures { IfOk result (λ number. number ≡ hidden_among elements.now partners.now) }
+{
+    let names = element_names(alloc, elements)?;
+    let number = first_hidden(alloc, &names, partners, elements)?;
     Ok(number)
 }
 
