@@ -27,7 +27,7 @@ warning_code kind.KeyGivesTheSame = codes "W15"
 warning_code kind.SecondSystemStore = codes "W16"
 warning_code (kind.LongerIndex index any) = codes "W18"
 
--- whether a warning is only a note: the application may put it right, it is often intended, or it is not about a mistake
+-- whether a warning is only a note: the application may put it right, it is often intended, or it is about a search that was not made
 unfoldable pub is_note : WarningKind → Bool
 is_note (kind.NeverFirstNotSought records) = true
 is_note (kind.OptionNeverSet option) = true
@@ -90,7 +90,7 @@ listed_lines (line ∷ lines) = first_line (length lines) line ++ flat_map next_
 
 -- the text of the note that this many records are too many
 unfoldable pub too_many_text : ℕ → List ℕ
-too_many_text records = concat (decimal records ∷ codes " records are too many to look for rules that never come first" ∷ [])
+too_many_text records = concat (decimal records ∷ codes " records are too many to look for dead rules" ∷ [])
 
 -- the text of a warning about several names or numbers; other warnings have none here
 abbrev pub joined_text : WarningKind → List ℕ

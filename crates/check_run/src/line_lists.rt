@@ -95,6 +95,6 @@ pub(crate) fn put_too_many(alloc: Global, text: &mut Text, records: u64) -> Resu
 fn too_many_text(alloc: Global, records: u64) -> Result<Text, Memory>
     ensures { IfOk result (λ text. text ≡ too_many_text records) }
 {
-    let text = format!(in alloc; "{records} records are too many to look for rules that never come first")?;
+    let text = format!(in alloc; "{records} records are too many to look for dead rules")?;
     Ok(Text::from_string(text))
 }
