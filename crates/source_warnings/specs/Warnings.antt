@@ -32,7 +32,7 @@ abbrev pub named_warnings : Contents → Program → List (List ℕ) → List Wa
 named_warnings contents program aside =
     unused_stores program aside ++ (mark_warnings contents program aside ++ groups_never_entered program aside)
 
-abbrev pub index_warnings : Contents → List Pair → Program → List Warning
+unfoldable pub index_warnings : Contents → List Pair → Program → List Warning
 index_warnings contents pairs program = shorter_indexes contents pairs ++ repeated_elements contents program.stores pairs
 
 abbrev pub condition_warnings : Contents → Program → List (List ℕ) → List Warning

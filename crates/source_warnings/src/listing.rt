@@ -89,7 +89,8 @@ fn option_names(alloc: Global, program: &Program) -> Result<NameTable, Memory>
     Ok(names)
 }
 
-/// Appends the warnings of `index` and its `any`, W05 and W06.
+/// Appends the warnings of the stores of `index` and `any`, W05 and W06.
+#[tactic(auto, unfolding(crate::specs::Warnings::index_warnings))]
 fn add_index_warnings(
     alloc: Global,
     found: &mut Vec<Warning>,
