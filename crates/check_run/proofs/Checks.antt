@@ -2,21 +2,19 @@
 use Rattle.std.proofs.Common.{◌≡◌, ℕ, ◌<◌, ◌≤◌, List, [], ◌∷◌, length, get_or, Result, Ok, Err, refl, sym, ap, ◌∙◌, subst, arith}
 use Rattle.kmn_base.specs.declared.refusals.Refusal.{Refusal}
 use Rattle.rule_model.specs.declared.program.Program.{Program}
+use Rattle.kmn_compiler.specs.declared.compiling.Compiled.{Compiled}
 use Rattle.source_faults.specs.Faults.{faults}
-use Rattle.source_warnings.specs.Aside.{aside_words}
-use Rattle.source_warnings.specs.Warnings.{warnings}
 use Rattle.name_warnings.specs.declared.warning.Warning.{Warning}
 use Rattle.keyman_words.specs.Seen.{FolderView}
 use Rattle.keyman_words.specs.declared.reason.Reason.{Reason}
 use Rattle.keyman_run.specs.Steps.{Gives, States, itself}
 use Rattle.keyman_run.specs.Work.{given}
-use Rattle.keyman_run.specs.Work.Work.{Give}
 use Rattle.keyman_run.specs.declared.preparing.Stop.{Stop}
 use Rattle.keyman_run.specs.declared.preparing.Stop.TheVariants as stop
 use Rattle.keyman_run.proofs.RunLaws.{gives_as, gives_no_memory, gives_refused, gives_value}
 use Rattle.check_run.specs.declared.findings.Findings.{Findings}
 use Rattle.check_run.specs.declared.findings.Findings.TheVariants as findings
-use Rattle.check_run.specs.Orders.{bytes_check_work, file_check_work, further_work, warnings_found}
+use Rattle.check_run.specs.Orders.{bytes_check_work, compiled_check_work, file_check_work, further_work, warnings_in}
 use Rattle.check_run.specs.Shown.{refused_lines}
 
 none_if_short : (refusals : List Refusal) → length refusals < 1 → refusals ≡ []
@@ -46,12 +44,13 @@ module _ {F : Type 0} (source bytes : List ℕ) (folders : FolderView F) (folder
       (subst (λ (list : List Refusal). Gives itself (further_work source bytes refusals) folders folder folder (Ok (refused_lines bytes (get_or list 0 other) refusals))) (sym same)
       (more_given other refusals (subst (λ (list : List Refusal). 1 ≤ length list) same some))))
 
--- the warnings of a program are what is found
-pub warnings_given : {F : Type 0} (bytes : List ℕ) (program : Program) (folders : FolderView F) (folder : F) (found : List Warning) → found ≡ warnings program (aside_words bytes)
-    → Gives itself (Give (warnings_found bytes program)) folders folder folder (Ok (findings.Accepted found))
-warnings_given bytes program folders folder found is =
-    subst (λ (list : List Warning). Gives itself (Give (warnings_found bytes program)) folders folder folder (Ok (findings.Accepted list))) (sym is)
-    (gives_value itself folders folder (warnings_found bytes program))
+-- the warnings of a program and its tables are what is found
+pub warnings_given : {F : Type 0} (bytes : List ℕ) (program : Program) (compiled : Compiled) (folders : FolderView F) (folder : F) (found : List Warning)
+    → found ≡ warnings_in bytes program compiled.tables
+    → Gives itself (compiled_check_work bytes program compiled) folders folder folder (Ok (findings.Accepted found))
+warnings_given bytes program compiled folders folder found is =
+    subst (λ (list : List Warning). Gives itself (compiled_check_work bytes program compiled) folders folder folder (Ok (findings.Accepted list))) (sym is)
+    (gives_value itself folders folder (findings.Accepted (warnings_in bytes program compiled.tables)))
 
 -- the specified result of a step that makes no call is the result of its work
 pub states_given : {F A : Type 0} (read : Result A Reason) (folders : FolderView F) (folder : F) (result : Result A Stop) → States itself read result

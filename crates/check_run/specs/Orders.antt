@@ -4,10 +4,14 @@ use Rattle.kmn_base.specs.declared.codes.Code.TheVariants.{L05}
 use Rattle.kmn_base.specs.declared.limits.TheConstants.{TEXT_BYTES}
 use Rattle.kmn_base.specs.declared.refusals.Refusal.{Refusal}
 use Rattle.rule_model.specs.declared.program.Program.{Program}
+use Rattle.rule_model.specs.declared.tables.Tables.{Tables}
 use Rattle.rule_checker.specs.Refused.{checked}
+use Rattle.kmn_compiler.specs.declared.compiling.Compiled.{Compiled}
 use Rattle.source_faults.specs.Faults.{faults}
+use Rattle.name_warnings.specs.declared.warning.Warning.{Warning}
 use Rattle.source_warnings.specs.Aside.{aside_words}
 use Rattle.source_warnings.specs.Warnings.{warnings}
+use Rattle.dead_rules.specs.DeadRules.{with_dead_rules}
 use Rattle.keyman_words.specs.declared.reason.Reason.{Reason}
 use Rattle.keyman_run.specs.Endings.{Ending}
 use Rattle.keyman_run.specs.Inputs.{by_line}
@@ -30,13 +34,17 @@ bytes_in (Over size) = Err (at_line_one L05)
 abbrev pub text_work : (source : List ℕ) → Work (List ℕ)
 text_work source = Read source TEXT_BYTES (λ reading. given (bytes_in reading))
 
--- what is found in bytes whose program compiles: its warnings, except those that lines for other programs may explain
-abbrev pub warnings_found : (bytes : List ℕ) → Program → Findings
-warnings_found bytes program = findings.Accepted (warnings program (aside_words bytes))
+-- the warnings of the program of bytes and of the tables that it compiles to, except those that lines for other programs may explain
+unfoldable pub warnings_in : (bytes : List ℕ) → Program → Tables → List Warning
+warnings_in bytes program tables = with_dead_rules tables (warnings program (aside_words bytes))
+
+-- find the warnings of a compiled program
+abbrev pub compiled_check_work : (bytes : List ℕ) → Program → Compiled → Work Findings
+compiled_check_work bytes program compiled = Give (findings.Accepted (warnings_in bytes program compiled.tables))
 
 -- check the program of the bytes of a source that has this name: read its picture, check that the file keeps its limits, find its warnings
 abbrev pub program_check_work : (source bytes : List ℕ) → Program → Work Findings
-program_check_work source bytes program = and_then (file_work source program) (λ compiled. Give (warnings_found bytes program))
+program_check_work source bytes program = and_then (file_work source program) (compiled_check_work bytes program)
 
 -- check the bytes of a source without a refused line
 abbrev pub file_check_work : (source bytes : List ℕ) → Work Findings

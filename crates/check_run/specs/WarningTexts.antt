@@ -1,5 +1,5 @@
 -- The codes and the texts of warnings and notes. Names are printed as they are in the source.
-use Rattle.std.specs.Prelude.{ℕ, Bool, true, false, List, [], ◌∷◌, ◌++◌, codes, encode_utf8_all}
+use Rattle.std.specs.Prelude.{ℕ, nat_eq, Bool, true, false, if◌then◌else◌, List, [], ◌∷◌, ◌++◌, length, flat_map, codes, encode_utf8_all}
 use Rattle.std.specs.List.{concat}
 use Rattle.std.specs.Fmt.{decimal}
 use Rattle.name_warnings.specs.declared.warning.WarningKind.{WarningKind}
@@ -13,6 +13,8 @@ warning_code (kind.MarkNeverPut mark) = codes "W03"
 warning_code (kind.GroupNeverEntered group) = codes "W04"
 warning_code (kind.ShorterIndex index elements any any_elements) = codes "W05"
 warning_code (kind.RepeatedElement place any index) = codes "W06"
+warning_code (kind.NeverFirst lines) = codes "W07"
+warning_code (kind.NeverFirstNotSought records) = codes "W07"
 warning_code (kind.OptionNeverAsked option) = codes "W08"
 warning_code kind.ContradictoryConditions = codes "W09"
 warning_code (kind.OptionNeverSet option) = codes "W10"
@@ -25,8 +27,9 @@ warning_code kind.KeyGivesTheSame = codes "W15"
 warning_code kind.SecondSystemStore = codes "W16"
 warning_code (kind.LongerIndex index any) = codes "W18"
 
--- whether a warning is only a note: the application may put it right, or it is often intended
+-- whether a warning is only a note: the application may put it right, it is often intended, or it is about a search that was not made
 unfoldable pub is_note : WarningKind → Bool
+is_note (kind.NeverFirstNotSought records) = true
 is_note (kind.OptionNeverSet option) = true
 is_note (kind.ValueNeverSet option value) = true
 is_note kind.KeyGivesTheSame = true
@@ -68,12 +71,35 @@ element_between place = concat (codes "' stands there before, so element " ∷ d
 unfoldable pub keys_before : ℕ → ℕ → List ℕ
 keys_before count keys = concat (decimal count ∷ codes " of " ∷ decimal keys ∷ codes " keys of '" ∷ [])
 
+-- the lines of rules: one line, or several with commas between them
+unfoldable pub one_line : ℕ → List ℕ
+one_line line = concat (codes "line " ∷ decimal line ∷ [])
+
+unfoldable pub several_lines : ℕ → List ℕ
+several_lines line = concat (codes "lines " ∷ decimal line ∷ [])
+
+unfoldable pub next_line : ℕ → List ℕ
+next_line line = concat (codes ", " ∷ decimal line ∷ [])
+
+unfoldable pub first_line : ℕ → ℕ → List ℕ
+first_line more line = if nat_eq more 0 then one_line line else several_lines line
+
+unfoldable pub listed_lines : List ℕ → List ℕ
+listed_lines [] = []
+listed_lines (line ∷ lines) = first_line (length lines) line ++ flat_map next_line lines
+
+-- the text of the note that this many records are too many
+unfoldable pub too_many_text : ℕ → List ℕ
+too_many_text records = concat (decimal records ∷ codes " records are too many to look for dead rules" ∷ [])
+
 -- the text of a warning about several names or numbers; other warnings have none here
 abbrev pub joined_text : WarningKind → List ℕ
 joined_text (kind.ShorterIndex index elements any any_elements) =
     around_two (codes "index('") index (size_between elements) any (size_after any_elements)
 joined_text (kind.RepeatedElement place any index) =
     around_two (element_before place) any (element_between place) index (codes "' never comes")
+joined_text (kind.NeverFirst lines) = codes "this rule never comes first, behind " ++ listed_lines lines
+joined_text (kind.NeverFirstNotSought records) = too_many_text records
 joined_text (kind.ValueNeverSet option value) =
     around_two (codes "option '") option (codes "' is never '") (encode_utf8_all value) (codes "'")
 joined_text (kind.KeysNeverPressed store count keys) = around (keys_before count keys) store (codes "' are given by no press")

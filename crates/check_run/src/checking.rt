@@ -3,16 +3,17 @@
 ghost use Rattle.std.specs.Prelude.{◌≡◌, IfOk};
 ghost use Rattle.source_warnings.specs.Aside.{aside_words};
 ghost use Rattle.source_warnings.specs.Warnings.{warnings};
-ghost use Rattle.check_run.specs.Orders.{bytes_check_work, file_check_work, findings_work, program_check_work, text_work};
-ghost use Rattle.keyman_run.specs.Steps.{Gives, itself};
+ghost use Rattle.check_run.specs.Orders.{bytes_check_work, file_check_work, findings_work, program_check_work, text_work, warnings_in};
+ghost use Rattle.keyman_run.specs.Steps.{Gives, IsCompiled, itself};
 
 use crate::findings::Findings;
 use crate::shown::refused_lines;
+use dead_rules::with_dead_rules;
 use keyman_run::{Stop, at_line_one, compile_beside, read_stop};
 use keyman_words::{FileName, read};
 use kmn_base::limits::TEXT_BYTES;
 use kmn_base::{Code, Memory, Seq};
-use kmn_compiler::front;
+use kmn_compiler::{Compiled, front};
 use kmn_outside::Folder;
 use rule_checker::Checked;
 use rule_model::Program;
@@ -86,14 +87,30 @@ fn check_program<F: Folder>(
 ) -> Result<Findings, Stop>
     ensures { Gives itself (program_check_work source.now bytes.now checked.now) F.Folder folder.old folder.new result }
 {
-    compile_beside(alloc, source, checked, folder)?;
-    let warnings = find_warnings(alloc, bytes, checked.program())?;
+    let compiled = compile_beside(alloc, source, checked, folder)?;
+    let warnings = find_warnings(alloc, bytes, checked.program(), &compiled)?;
     Ok(Findings::Accepted { warnings })
 }
 
-/// Finds the warnings of a program. The bytes are those of its source.
-fn find_warnings(alloc: Global, bytes: &[u8], program: &Program) -> Result<Seq<Warning>, Memory>
-    ensures { IfOk result (λ found. found ≡ warnings program.now (aside_words bytes.now)) }
+/// Finds the warnings of a program that compiles to these tables. The bytes are those of its source.
+#[tactic(auto, unfolding(crate::specs::Orders::warnings_in))]
+fn find_warnings(
+    alloc: Global,
+    bytes: &[u8],
+    program: &Program,
+    compiled: &Compiled,
+) -> Result<Seq<Warning>, Memory>
+    requires { IsCompiled compiled.now }
+    ensures { IfOk result (λ found. found ≡ warnings_in bytes.now program.now compiled.now.tables) }
+{
+    let found = program_warnings(alloc, bytes, program)?;
+    let all = with_dead_rules(alloc, &compiled.tables, found)?;
+    Ok(all)
+}
+
+/// Finds the warnings of a program, except those of its dead rules. The bytes are those of its source.
+fn program_warnings(alloc: Global, bytes: &[u8], program: &Program) -> Result<Vec<Warning>, Memory>
+    ensures { IfOk result (λ found. found.items ≡ warnings program.now (aside_words bytes.now)) }
 {
     let aside = aside_words(alloc, bytes)?;
     warnings(alloc, program, aside.as_slice())

@@ -3,6 +3,7 @@
 ghost use Rattle.std.specs.Prelude.{◌≡◌, ◌++◌, encode_utf8_all, IfOk, OnOk};
 ghost use Rattle.check_run.specs.WarningTexts.{around, around_two, element_before, element_between, fixed_text, is_note, joined_text, keys_before, named_text, size_after, size_between, warning_code, warning_text};
 
+use crate::line_lists::{put_never_first, put_too_many};
 use kmn_base::{Memory, Text};
 use source_warnings::WarningKind;
 use std::alloc::Global;
@@ -18,6 +19,8 @@ pub(crate) fn warning_code(kind: &WarningKind) -> &'static str
         WarningKind::GroupNeverEntered { .. } => "W04",
         WarningKind::ShorterIndex { .. } => "W05",
         WarningKind::RepeatedElement { .. } => "W06",
+        WarningKind::NeverFirst { .. } => "W07",
+        WarningKind::NeverFirstNotSought { .. } => "W07",
         WarningKind::OptionNeverAsked { .. } => "W08",
         WarningKind::ContradictoryConditions => "W09",
         WarningKind::OptionNeverSet { .. } => "W10",
@@ -38,6 +41,7 @@ pub(crate) fn is_note(kind: &WarningKind) -> bool
     ensures { result ≡ is_note kind.now }
 {
     match kind {
+        WarningKind::NeverFirstNotSought { .. } => true,
         WarningKind::OptionNeverSet { .. } => true,
         WarningKind::ValueNeverSet { .. } => true,
         WarningKind::KeyGivesTheSame => true,
@@ -148,6 +152,8 @@ fn put_joined_text(alloc: Global, line: &mut Text, kind: &WarningKind) -> Result
         WarningKind::RepeatedElement { place, any, index } => {
             put_repeated(alloc, line, *place, any, index)
         }
+        WarningKind::NeverFirst { lines } => put_never_first(alloc, line, lines.as_slice()),
+        WarningKind::NeverFirstNotSought { records } => put_too_many(alloc, line, *records),
         WarningKind::ValueNeverSet { option, value } => {
             put_value(alloc, line, option, value.as_slice())
         }

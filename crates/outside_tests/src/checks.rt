@@ -28,6 +28,7 @@ store(a) 'x'¶store(b) outs(a)¶begin Unicode > use(main)¶group(main) using key
 begin Unicode > use(main)¶group(main) using keys¶+ '^' > dk(hat)¶dk(hta) + 'a' > 'â' ⇒ 0 in:3: warning W02: deadkey 'hat' is put and never looked for¶in:4: warning W03: deadkey 'hta' is looked for and never put¶checked warnings=2 notes=0¶
 begin Unicode > use(main)¶group(main) using keys¶+ 'a' > 'b'¶group(late)¶'b' > 'c' ⇒ 0 in:4: warning W04: group 'late' is never entered¶checked warnings=1 notes=0¶
 store(v) 'aeiou'¶store(w) 'AEIO'¶begin Unicode > use(main)¶group(main) using keys¶any(v) + '^' > index(w, 1) ⇒ 0 in:5: warning W05: index('w') has 4 elements, any('v') 5¶checked warnings=1 notes=0¶
+store(v) 'aeiaou'¶store(w) 'AEIÄOU'¶begin Unicode > use(main)¶group(main) using keys¶any(v) + '^' > index(w, 1) ⇒ 0 in:1: warning W06: element 4 of 'v' stands there before, so element 4 of 'w' never comes¶checked warnings=1 notes=0¶
 store(o) '0'¶begin Unicode > use(main)¶group(main) using keys¶if(o = '1') if(o = '2') + 'a' > 'b'¶+ 'e' > set(o = '1') set(o = '2') ⇒ 0 in:4: warning W09: these conditions are never true together¶checked warnings=1 notes=0¶
 store(k) 'aé'¶begin Unicode > use(main)¶group(main) using keys¶+ 'é' > 'x'¶+ any(k) > 'y' ⇒ 0 in:4: warning W13: no press gives this key¶in:5: warning W13: 1 of 2 keys of 'k' are given by no press¶checked warnings=2 notes=0¶
 store(k) [K_A]¶begin Unicode > use(main)¶group(main) using keys¶any(k) + 'a' > 'x' ⇒ 0 in:4: warning W14: store 'k' has no character and no deadkey¶checked warnings=1 notes=0¶
@@ -37,6 +38,20 @@ store(o) '0'¶store(p) '0'¶begin Unicode > use(main)¶group(main) using keys¶+
 store(p) '0'¶begin Unicode > use(main)¶group(main) using keys¶if(p = 'öne') + 'c' > 'd'¶+ 'e' > set(p = '1')¶if(p = '1') + 'f' > 'g' ⇒ 0 in:4: note W11: option 'p' is never 'öne'¶checked warnings=0 notes=1¶
 begin Unicode > use(main)¶group(main) using keys¶+ 'a' > 'a'¶+ 'b' > 'B' ⇒ 0 in:3: note W15: the key gives this without a rule¶checked warnings=0 notes=1¶
 store(v) 'aeio'¶store(w) 'AEIOU'¶begin Unicode > use(main)¶group(main) using keys¶any(v) + '^' > index(w, 1) ⇒ 0 in:5: note W18: index('w') has more elements than any('v')¶checked warnings=0 notes=1¶
+== W07: a rule behind another one, and a rule behind several
+store(v) 'ab'¶begin Unicode > use(main)¶group(main) using keys¶any(v) + 'x' > 'y'¶'a' + 'x' > 'z'¶'a' + 'X' > 'Z' ⇒ 0 in:5: warning W07: this rule never comes first, behind line 4¶checked warnings=1 notes=0¶
+store(v) 'ab'¶begin Unicode > use(main)¶group(main) using keys¶'a' + 'x' > 'y'¶'b' + 'x' > 'y'¶any(v) + 'x' > 'z' ⇒ 0 in:6: warning W07: this rule never comes first, behind lines 4, 5¶checked warnings=1 notes=0¶
+== W07: a rule with a key store, all of whose keys are behind others, and one with another key
+store(k) 'ab'¶store(l) 'bc'¶begin Unicode > use(main)¶group(main) using keys¶+ 'a' > 'x'¶+ 'b' > 'y'¶+ any(k) > 'z'¶+ any(l) > 'z' ⇒ 0 in:7: warning W07: this rule never comes first, behind lines 5, 6¶checked warnings=1 notes=0¶
+== W07: not where W03, W09, W13 or W14 says why the rule never fires
+store(s) 'a'¶begin Unicode > use(main)¶group(main) using keys¶notany(s) + 'd' > 'x'¶dk(two) + 'd' > 'y' ⇒ 0 in:5: warning W03: deadkey 'two' is looked for and never put¶checked warnings=1 notes=0¶
+store(o) '0'¶begin Unicode > use(main)¶group(main) using keys¶if(o = '1') if(o = '2') + 'a' > 'b'¶if(o = '1') if(o = '2') + 'a' > 'c'¶+ 'e' > set(o = '1') set(o = '2') ⇒ 0 in:4: warning W09: these conditions are never true together¶in:5: warning W09: these conditions are never true together¶checked warnings=2 notes=0¶
+begin Unicode > use(main)¶group(main) using keys¶+ 'a' > 'x'¶+ [CAPS NCAPS K_B] > 'y' ⇒ 0 in:4: warning W13: no press gives this key¶checked warnings=1 notes=0¶
+== W07: between the other codes of a line
+store(v) 'ab'¶store(w) 'A'¶store(o) '0'¶begin Unicode > use(main)¶group(main) using keys¶any(v) + 'x' > 'y'¶any(v) + 'x' > index(w, 1) set(o = '1') ⇒ 0 in:7: warning W05: index('w') has 1 elements, any('v') 2¶in:7: warning W07: this rule never comes first, behind line 6¶in:7: warning W08: option 'o' is set and never asked for¶checked warnings=3 notes=0¶
+== W07: 2,000 records are searched, and one more is too many
+store(a) '0123456789'¶store(b) outs(a) outs(a) outs(a) outs(a) outs(a) outs(a) outs(a) outs(a) outs(a) outs(a)¶store(c) outs(b) outs(b) outs(b) outs(b) outs(b) outs(b) outs(b) outs(b) outs(b) outs(b)¶begin Unicode > use(main)¶group(main) using keys¶+ any(c) > 'x'¶+ any(c) > 'y' ⇒ 0 in:7: warning W07: this rule never comes first, behind line 6¶checked warnings=1 notes=0¶
+store(a) '0123456789'¶store(b) outs(a) outs(a) outs(a) outs(a) outs(a) outs(a) outs(a) outs(a) outs(a) outs(a)¶store(c) outs(b) outs(b) outs(b) outs(b) outs(b) outs(b) outs(b) outs(b) outs(b) outs(b)¶begin Unicode > use(main)¶group(main) using keys¶+ any(c) > 'x'¶+ any(c) > 'y'¶+ 'q' > 'z' ⇒ 0 in:1: note W07: 2001 records are too many to look for dead rules¶checked warnings=0 notes=1¶
 == a line for another program may use what others do not
 store(a) 'x'¶begin Unicode > use(main)¶group(main) using keys¶$keymanweb: + 'q' > outs(a)¶+ 'a' > 'b' ⇒ 0 checked warnings=0 notes=0¶";
 

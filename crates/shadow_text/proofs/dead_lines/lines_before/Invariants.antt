@@ -1,7 +1,7 @@
 use Rattle.std.proofs.Common.{◌≡◌, ◌++◌, [], drop, flat_map, unwrap_or}
 use Rattle.shadow_text.specs.declared.verdicts.Verdict.{Verdict}
 use Rattle.shadow_text.specs.DeadLines.{of_line}
-use Rattle.shadow_text.proofs.printing.lines_before.Given as goal
+use Rattle.shadow_text.proofs.dead_lines.lines_before.Given as goal
 
 abbrev pub invariant-loop-verdict : goal.invariant-loop-verdict
 invariant-loop-verdict l =
