@@ -20,6 +20,8 @@ mod refused_lines;
 mod stubs;
 mod words;
 
+pub use found::Found;
 pub use in_lines::sort_by_line;
 pub use listing::{faults, name_faults};
+pub use reading::read_all;
 pub use words::{add_words, words_of};
