@@ -1,0 +1,2 @@
+pub mod ExplainedBytes
+pub mod MeantKeys

@@ -1,0 +1,53 @@
+-- The word at which reading a line stops.
+use Rattle.std.specs.Prelude.{ℕ, nat_eq, nat_lt, ◌==◌, Bool, true, ◌||◌, if◌then◌else◌, List, [], ◌∷◌, length, codes, Result, Ok, Err}
+use Rattle.kmn_base.specs.Names.{same_name}
+use Rattle.kmn_base.specs.declared.codes.Code.{Code}
+use Rattle.kmn_base.specs.declared.codes.Code.TheVariants.{S06}
+use Rattle.kmn_base.specs.declared.refusals.Refusal.{Refusal}
+use Rattle.kmn_lines.specs.Lines.{logicals}
+use Rattle.kmn_lines.specs.declared.logical.Logical.{Logical}
+use Rattle.kmn_lines.specs.declared.token.Token.{Token}
+use Rattle.kmn_tokens.specs.Scanning.{scanned_line}
+use Rattle.kmn_items.specs.TokenTexts.{LineToken, text_at, with_texts}
+use Rattle.refusal_places.specs.Spots.{stop_place}
+use Rattle.refusal_details.specs.declared.detail.Detail.{Detail}
+use Rattle.refusal_details.specs.declared.detail.Detail.TheVariants as detail
+
+-- whether a text is not told: it is empty, or the > before which something is missing
+unfoldable pub is_wordless : List ℕ → Bool
+is_wordless text = (length text == 0) || same_name (codes ">") text
+
+-- a word with the names that it may mean, or nothing for a text that is not told
+unfoldable pub worded : List ℕ → List (List ℕ) → Detail
+worded word near = if is_wordless word then detail.Nothing else detail.Word word near
+
+-- whether the token at which reading a line stops is told: an output without items is refused at the first token, which is not wrong
+unfoldable pub is_told : Code → ℕ → Bool
+is_told S06 place = nat_lt 0 place
+is_told other place = true
+
+-- the text of the token at an index, or no text if it is not told
+abbrev pub told_text : Code → ℕ → List LineToken → List ℕ
+told_text code place tokens = if is_told code place then text_at place tokens else []
+
+-- the text of the token at which reading a line stops, among the tokens of the line
+unfoldable pub tokens_text : ℕ → Code → List LineToken → List ℕ
+tokens_text line code tokens = told_text code (stop_place line code tokens) tokens
+
+-- the text of the token at which reading a line stops, for its tokens or their refusal, which has none
+abbrev pub scan_text : List ℕ → ℕ → Code → Result (List Token) Refusal → List ℕ
+scan_text source line code (Ok tokens) = tokens_text line code (with_texts source tokens)
+scan_text source line code (Err found) = []
+
+abbrev pub line_text : List ℕ → Logical → Code → List ℕ
+line_text source line code = scan_text source line.first_line code (scanned_line source line)
+
+-- the text of the token at which reading the one of these lines stops that has a number
+abbrev pub text_among : List ℕ → ℕ → Code → List Logical → List ℕ
+text_among source number code [] = []
+text_among source number code (line ∷ lines) =
+    if nat_eq line.first_line number then line_text source line code else text_among source number code lines
+
+-- the text of the token at which reading the line of a source stops that has a number
+unfoldable pub source_text : List ℕ → ℕ → Code → List ℕ
+source_text source number code = text_among source number code (logicals source)

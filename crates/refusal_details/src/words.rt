@@ -1,0 +1,129 @@
+//! The word at which reading a line stops.
+
+ghost use Rattle.std.specs.Prelude.{◌≡◌, ◌<◌, ◌^◌, ◌≤◌, length, IfOk};
+ghost use Rattle.kmn_base.specs.declared.limits.TheConstants.{TEXT_BYTES};
+ghost use Rattle.kmn_items.specs.TokenTexts.{texts, with_texts};
+ghost use Rattle.kmn_lines.specs.Lines.{logicals};
+ghost use Rattle.kmn_lines.specs.Places.{IsPlaced};
+ghost use Rattle.refusal_details.specs.Words.{is_told, is_wordless, line_text, source_text, text_among, told_text, tokens_text, worded};
+
+use crate::detail::Detail;
+use kmn_base::names::same_name;
+use kmn_base::{Code, CompileError, Memory, Seq, Text};
+use kmn_items::LineTokens;
+use kmn_lines::{Logical, Token, lines};
+use kmn_tokens::tokens;
+use refusal_places::stop_place;
+use std::alloc::Global;
+
+/// Returns a word with the names that it may mean, or nothing for a text that is not told.
+#[tactic(auto, unfolding(crate::specs::Words::worded))]
+pub(crate) fn worded(word: Text, near: Seq<Text>) -> Detail
+    ensures { result ≡ worded word near }
+{
+    if is_wordless(word.as_slice()) {
+        Detail::Nothing
+    } else {
+        Detail::Word { word, near }
+    }
+}
+
+/// Returns whether a text is not told: it is empty, or the `>` before which something is missing.
+#[tactic(auto, unfolding(crate::specs::Words::is_wordless))]
+fn is_wordless(text: &[u8]) -> bool
+    ensures { result ≡ is_wordless text.now }
+{
+    text.is_empty() || same_name(b">", text)
+}
+
+/// Returns the text of the token at which reading the line with a number stops, for a refusal of the line with this code. The text is empty
+/// if there is no such token or it is not told. Errors: `Memory` if an allocation fails.
+#[tactic(auto, unfolding(crate::specs::Words::source_text))]
+pub(crate) fn source_text(
+    alloc: Global,
+    source: &str,
+    number: u32,
+    code: Code,
+) -> Result<Text, Memory>
+    requires { length source.now ≤ TEXT_BYTES }
+    ensures { IfOk result (λ text. text ≡ source_text source.now number code) }
+{
+    text_among(alloc, source, number, code)
+}
+
+/// Returns the text of the token at which reading the line with a number stops.
+#[tactic(auto, using(kmn_parser::proofs::LineLemmas::by_recursion))]
+fn text_among(alloc: Global, source: &str, number: u32, code: Code) -> Result<Text, Memory>
+    requires { length source.now ≤ TEXT_BYTES }
+    ensures { IfOk result (λ text. text ≡ text_among source.now number code (logicals source.now)) }
+{
+    for logical in lines(source) {
+        if logical.first_line == number {
+            return line_text(alloc, source, logical, code);
+        }
+    }
+    Ok(Seq::new(alloc))
+}
+
+/// Returns the text of the token at which reading a logical line stops.
+fn line_text(alloc: Global, source: &str, logical: Logical, code: Code) -> Result<Text, Memory>
+    requires few { length source.now ≤ TEXT_BYTES }
+    requires placed { IsPlaced source.now logical }
+    ensures { IfOk result (λ text. text ≡ line_text source.now logical code) }
+{
+    match tokens(alloc, source, logical) {
+        Ok(tokens) => tokens_text(
+            alloc,
+            source.as_bytes(),
+            logical.first_line,
+            code,
+            tokens.as_slice(),
+        ),
+        Err(CompileError::Refused(_)) => Ok(Seq::new(alloc)),
+        Err(_) => Err(Memory),
+    }
+}
+
+/// Returns the text of the token at which reading a line stops, among the tokens of the line.
+#[tactic(auto, unfolding(crate::specs::Words::tokens_text))]
+fn tokens_text(
+    alloc: Global,
+    source: &[u8],
+    line: u32,
+    code: Code,
+    tokens: &[Token],
+) -> Result<Text, Memory>
+    requires { length tokens.now < 2 ^ 59 }
+    ensures { IfOk result (λ text. text ≡ tokens_text line code (with_texts source.now tokens.now)) }
+{
+    let line_tokens = LineTokens { source, tokens };
+    let place = stop_place(alloc, line, code, line_tokens)?;
+    told_text(alloc, code, place, line_tokens)
+}
+
+/// Returns the text of the token at an index, or no text if it is not told.
+fn told_text(
+    alloc: Global,
+    code: Code,
+    place: usize,
+    tokens: LineTokens<'_>,
+) -> Result<Text, Memory>
+    ensures { IfOk result (λ text. text ≡ told_text code place (texts tokens.entry)) }
+{
+    if is_told(code, place) {
+        tokens.name(alloc, place)
+    } else {
+        Ok(Seq::new(alloc))
+    }
+}
+
+/// Returns whether the token at which reading a line stops is told. An output without items (`S06`) is refused at the first token.
+#[tactic(auto, unfolding(crate::specs::Words::is_told))]
+fn is_told(code: Code, place: usize) -> bool
+    ensures { result ≡ is_told code place }
+{
+    match code {
+        Code::S06 => 0 < place,
+        _ => true,
+    }
+}
