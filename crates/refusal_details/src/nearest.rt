@@ -1,6 +1,6 @@
 //! The names that a word is like.
 
-ghost use Rattle.std.specs.Prelude.{◌≡◌, ◌++◌, flat_map, length, nat_lt, IfOk, OnOk};
+ghost use Rattle.std.specs.Prelude.{◌≡◌, ◌++◌, flat_map, IfOk, OnOk};
 ghost use Rattle.refusal_details.specs.Nearest.{are_many, few, is_like, lacked, like_definition, like_name};
 
 use crate::definitions::Definition;
