@@ -13,13 +13,18 @@ use Rattle.refusal_places.specs.Spots.{stop_place}
 use Rattle.refusal_details.specs.declared.detail.Detail.{Detail}
 use Rattle.refusal_details.specs.declared.detail.Detail.TheVariants as detail
 
--- whether a text is not told: it is empty, or the > before which something is missing
-unfoldable pub is_wordless : List ℕ → Bool
-is_wordless text = (length text == 0) || same_name (codes ">") text
-
--- a word with the names that it may mean, or nothing for a text that is not told
+-- a word with the names that it may mean, or nothing for an empty word
 unfoldable pub worded : List ℕ → List (List ℕ) → Detail
-worded word near = if is_wordless word then detail.Nothing else detail.Word word near
+worded word near = if length word == 0 then detail.Nothing else detail.Word word near
+
+-- whether the text of a token is not told: it is the > before which something is missing, or the word of a statement that has another form
+unfoldable pub is_untold : List ℕ → Bool
+is_untold text =
+    same_name (codes ">") text || same_name (codes "begin") text || same_name (codes "group") text || same_name (codes "store") text
+
+-- the text of a token, or no text if it is not told
+unfoldable pub told_word : List ℕ → List ℕ
+told_word text = if is_untold text then [] else text
 
 -- whether the token at which reading a line stops is told: an output without items is refused at the first token, which is not wrong
 unfoldable pub is_told : Code → ℕ → Bool
@@ -28,7 +33,7 @@ is_told other place = true
 
 -- the text of the token at an index, or no text if it is not told
 abbrev pub told_text : Code → ℕ → List LineToken → List ℕ
-told_text code place tokens = if is_told code place then text_at place tokens else []
+told_text code place tokens = if is_told code place then told_word (text_at place tokens) else []
 
 -- the text of the token at which reading a line stops, among the tokens of the line
 unfoldable pub tokens_text : ℕ → Code → List LineToken → List ℕ

@@ -5,7 +5,7 @@ ghost use Rattle.kmn_base.specs.declared.limits.TheConstants.{TEXT_BYTES};
 ghost use Rattle.kmn_items.specs.TokenTexts.{texts, with_texts};
 ghost use Rattle.kmn_lines.specs.Lines.{logicals};
 ghost use Rattle.kmn_lines.specs.Places.{IsPlaced};
-ghost use Rattle.refusal_details.specs.Words.{is_told, is_wordless, line_text, source_text, text_among, told_text, tokens_text, worded};
+ghost use Rattle.refusal_details.specs.Words.{is_told, is_untold, line_text, source_text, text_among, told_text, told_word, tokens_text, worded};
 
 use crate::detail::Detail;
 use kmn_base::names::same_name;
@@ -16,24 +16,16 @@ use kmn_tokens::tokens;
 use refusal_places::stop_place;
 use std::alloc::Global;
 
-/// Returns a word with the names that it may mean, or nothing for a text that is not told.
+/// Returns a word with the names that it may mean, or nothing for an empty word.
 #[tactic(auto, unfolding(crate::specs::Words::worded))]
 pub(crate) fn worded(word: Text, near: Seq<Text>) -> Detail
     ensures { result ≡ worded word near }
 {
-    if is_wordless(word.as_slice()) {
+    if word.is_empty() {
         Detail::Nothing
     } else {
         Detail::Word { word, near }
     }
-}
-
-/// Returns whether a text is not told: it is empty, or the `>` before which something is missing.
-#[tactic(auto, unfolding(crate::specs::Words::is_wordless))]
-fn is_wordless(text: &[u8]) -> bool
-    ensures { result ≡ is_wordless text.now }
-{
-    text.is_empty() || same_name(b">", text)
 }
 
 /// Returns the text of the token at which reading the line with a number stops, for a refusal of the line with this code. The text is empty
@@ -110,11 +102,35 @@ fn told_text(
 ) -> Result<Text, Memory>
     ensures { IfOk result (λ text. text ≡ told_text code place (texts tokens.entry)) }
 {
-    if is_told(code, place) {
-        tokens.name(alloc, place)
-    } else {
-        Ok(Seq::new(alloc))
+    if !is_told(code, place) {
+        return Ok(Seq::new(alloc));
     }
+    let text = tokens.name(alloc, place)?;
+    Ok(told_word(alloc, text))
+}
+
+/// Returns the text of a token, or no text if it is not told.
+#[tactic(auto, unfolding(crate::specs::Words::told_word))]
+fn told_word(alloc: Global, text: Text) -> Text
+    ensures { result ≡ told_word text }
+{
+    if is_untold(text.as_slice()) {
+        Seq::new(alloc)
+    } else {
+        text
+    }
+}
+
+/// Returns whether the text of a token is not told: it is the `>` before which something is missing, or the word of a statement that has
+/// another form.
+#[tactic(auto, unfolding(crate::specs::Words::is_untold))]
+fn is_untold(text: &[u8]) -> bool
+    ensures { result ≡ is_untold text.now }
+{
+    same_name(b">", text)
+        || same_name(b"begin", text)
+        || same_name(b"group", text)
+        || same_name(b"store", text)
 }
 
 /// Returns whether the token at which reading a line stops is told. An output without items (`S06`) is refused at the first token.
