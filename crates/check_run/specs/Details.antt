@@ -1,4 +1,4 @@
--- What is printed of the detail of a refusal, behind the meaning of its code.
+-- What is printed of the detail of a refusal, after the meaning of its code.
 use Rattle.std.specs.Prelude.{ℕ, ◌+◌, ◌-◌, nat_eq, nat_lt, nat_le, Bool, false, ◌&&◌, ◌||◌, if◌then◌else◌, List, [], ◌∷◌, ◌++◌, length, take, flat_map, codes}
 use Rattle.std.specs.List.{concat}
 use Rattle.std.specs.Fmt.{decimal}

@@ -1,4 +1,4 @@
--- Which refusals of a source are printed, where they stand, and what they are about.
+-- Which refusals of a source are printed, with their places and details.
 use Rattle.std.specs.Prelude.{ℕ, ◌-◌, nat_eq, List, ◌++◌, length, take, drop, find, option_to_list, Option, Some, None}
 use Rattle.kmn_base.specs.declared.refusals.Refusal.{Refusal}
 use Rattle.source_faults.specs.Faults.{in_lines}

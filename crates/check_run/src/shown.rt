@@ -1,4 +1,4 @@
-//! Which refusals of a source are printed, where they stand, and what they are about.
+//! Which refusals of a source are printed, with their places and details.
 
 ghost use Rattle.std.specs.Prelude.{◌≡◌, ◌++◌, option_to_list, IfOk};
 ghost use Rattle.check_run.specs.Shown.{late, refused_lines, rest_count, sorted_lines};

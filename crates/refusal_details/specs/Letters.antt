@@ -18,7 +18,7 @@ unfoldable pub is_changed : List ℕ → List ℕ → Bool
 is_changed left right =
     same_name (drop 1 left) (drop 1 right) || same_name (drop 1 left) right || same_name left (drop 1 right) || is_exchanged left right
 
--- whether two words differ in one letter: behind equal letters they are equal with one change
+-- whether two words differ in one letter: after equal letters they are equal with one change
 abbrev pub is_near : List ℕ → List ℕ → Bool
 is_near [] right = length right == 1
 is_near (first ∷ rest) [] = length rest == 0

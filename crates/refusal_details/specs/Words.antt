@@ -17,27 +17,28 @@ use Rattle.refusal_details.specs.declared.detail.Detail.TheVariants as detail
 unfoldable pub worded : List ℕ → List (List ℕ) → Detail
 worded word near = if length word == 0 then detail.Nothing else detail.Word word near
 
--- whether the text of a token is not told: it is the > before which something is missing, or the word of a statement that has another form
-unfoldable pub is_untold : List ℕ → Bool
-is_untold text =
+-- whether the text of a token says no more than the code: it is the > before which something is missing, or the word of a statement that has
+-- another form
+unfoldable pub is_general : List ℕ → Bool
+is_general text =
     same_name (codes ">") text || same_name (codes "begin") text || same_name (codes "group") text || same_name (codes "store") text
 
--- the text of a token, or no text if it is not told
-unfoldable pub told_word : List ℕ → List ℕ
-told_word text = if is_untold text then [] else text
+-- the text of a token, or no text if it says no more than the code
+unfoldable pub kept_word : List ℕ → List ℕ
+kept_word text = if is_general text then [] else text
 
--- whether the token at which reading a line stops is told: an output without items is refused at the first token, which is not wrong
-unfoldable pub is_told : Code → ℕ → Bool
-is_told S06 place = nat_lt 0 place
-is_told other place = true
+-- whether the token at which reading a line stops is wrong: an output without items is refused at the first token of its line, which is not
+unfoldable pub is_wrong : Code → ℕ → Bool
+is_wrong S06 place = nat_lt 0 place
+is_wrong other place = true
 
--- the text of the token at an index, or no text if it is not told
-abbrev pub told_text : Code → ℕ → List LineToken → List ℕ
-told_text code place tokens = if is_told code place then told_word (text_at place tokens) else []
+-- the text of the token at an index, or no text if it is not wrong or says no more than the code
+abbrev pub wrong_text : Code → ℕ → List LineToken → List ℕ
+wrong_text code place tokens = if is_wrong code place then kept_word (text_at place tokens) else []
 
 -- the text of the token at which reading a line stops, among the tokens of the line
 unfoldable pub tokens_text : ℕ → Code → List LineToken → List ℕ
-tokens_text line code tokens = told_text code (stop_place line code tokens) tokens
+tokens_text line code tokens = wrong_text code (stop_place line code tokens) tokens
 
 -- the text of the token at which reading a line stops, for its tokens or their refusal, which has none
 abbrev pub scan_text : List ℕ → ℕ → Code → Result (List Token) Refusal → List ℕ

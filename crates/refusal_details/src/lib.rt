@@ -1,6 +1,6 @@
 //! Finds what each refusal of a source is about: a word of its line, with the names that are like it, or the line that defines a name first.
 //!
-//! Depends on `refusal_places`, which finds where a refusal stands; on `source_faults` and `source_names` for the names that a source defines
+//! Depends on `refusal_places`, which finds the place of a refusal; on `source_faults` and `source_names` for the names that a source defines
 //! and lacks; on the crates that read a line (`kmn_lines`, `kmn_tokens`, `kmn_items`, `kmn_parser`); and on `virtual_keys` and `rule_model`.
 //! The layer above calls `explained` for the refusals that it prints, which returns exactly the list that `specs/Explained` defines: each
 //! refusal with its place and its `Detail`. `specs/Details` has the subject of each code and the detail of each subject. The word of a

@@ -5,7 +5,7 @@ ghost use Rattle.kmn_base.specs.declared.limits.TheConstants.{TEXT_BYTES};
 ghost use Rattle.kmn_items.specs.TokenTexts.{texts, with_texts};
 ghost use Rattle.kmn_lines.specs.Lines.{logicals};
 ghost use Rattle.kmn_lines.specs.Places.{IsPlaced};
-ghost use Rattle.refusal_details.specs.Words.{is_told, is_untold, line_text, source_text, text_among, told_text, told_word, tokens_text, worded};
+ghost use Rattle.refusal_details.specs.Words.{is_wrong, is_general, line_text, source_text, text_among, wrong_text, kept_word, tokens_text, worded};
 
 use crate::detail::Detail;
 use kmn_base::names::same_name;
@@ -29,7 +29,7 @@ pub(crate) fn worded(word: Text, near: Seq<Text>) -> Detail
 }
 
 /// Returns the text of the token at which reading the line with a number stops, for a refusal of the line with this code. The text is empty
-/// if there is no such token or it is not told. Errors: `Memory` if an allocation fails.
+/// if there is no such token, if it is not wrong, or if it says no more than the code. Errors: `Memory` if an allocation fails.
 #[tactic(auto, unfolding(crate::specs::Words::source_text))]
 pub(crate) fn source_text(
     alloc: Global,
@@ -90,42 +90,42 @@ fn tokens_text(
 {
     let line_tokens = LineTokens { source, tokens };
     let place = stop_place(alloc, line, code, line_tokens)?;
-    told_text(alloc, code, place, line_tokens)
+    wrong_text(alloc, code, place, line_tokens)
 }
 
-/// Returns the text of the token at an index, or no text if it is not told.
-fn told_text(
+/// Returns the text of the token at an index, or no text if it is not wrong or says no more than the code.
+fn wrong_text(
     alloc: Global,
     code: Code,
     place: usize,
     tokens: LineTokens<'_>,
 ) -> Result<Text, Memory>
-    ensures { IfOk result (λ text. text ≡ told_text code place (texts tokens.entry)) }
+    ensures { IfOk result (λ text. text ≡ wrong_text code place (texts tokens.entry)) }
 {
-    if !is_told(code, place) {
+    if !is_wrong(code, place) {
         return Ok(Seq::new(alloc));
     }
     let text = tokens.name(alloc, place)?;
-    Ok(told_word(alloc, text))
+    Ok(kept_word(alloc, text))
 }
 
-/// Returns the text of a token, or no text if it is not told.
-#[tactic(auto, unfolding(crate::specs::Words::told_word))]
-fn told_word(alloc: Global, text: Text) -> Text
-    ensures { result ≡ told_word text }
+/// Returns the text of a token, or no text if it says no more than the code.
+#[tactic(auto, unfolding(crate::specs::Words::kept_word))]
+fn kept_word(alloc: Global, text: Text) -> Text
+    ensures { result ≡ kept_word text }
 {
-    if is_untold(text.as_slice()) {
+    if is_general(text.as_slice()) {
         Seq::new(alloc)
     } else {
         text
     }
 }
 
-/// Returns whether the text of a token is not told: it is the `>` before which something is missing, or the word of a statement that has
-/// another form.
-#[tactic(auto, unfolding(crate::specs::Words::is_untold))]
-fn is_untold(text: &[u8]) -> bool
-    ensures { result ≡ is_untold text.now }
+/// Returns whether the text of a token says no more than the code: it is the `>` before which something is missing, or the word of a
+/// statement that has another form.
+#[tactic(auto, unfolding(crate::specs::Words::is_general))]
+fn is_general(text: &[u8]) -> bool
+    ensures { result ≡ is_general text.now }
 {
     same_name(b">", text)
         || same_name(b"begin", text)
@@ -133,10 +133,11 @@ fn is_untold(text: &[u8]) -> bool
         || same_name(b"store", text)
 }
 
-/// Returns whether the token at which reading a line stops is told. An output without items (`S06`) is refused at the first token.
-#[tactic(auto, unfolding(crate::specs::Words::is_told))]
-fn is_told(code: Code, place: usize) -> bool
-    ensures { result ≡ is_told code place }
+/// Returns whether the token at which reading a line stops is wrong. An output without items (`S06`) is refused at the first token of its
+/// line.
+#[tactic(auto, unfolding(crate::specs::Words::is_wrong))]
+fn is_wrong(code: Code, place: usize) -> bool
+    ensures { result ≡ is_wrong code place }
 {
     match code {
         Code::S06 => 0 < place,
