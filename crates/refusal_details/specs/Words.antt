@@ -17,8 +17,8 @@ use Rattle.refusal_details.specs.declared.detail.Detail.TheVariants as detail
 unfoldable pub worded : List ℕ → List (List ℕ) → Detail
 worded word near = if length word == 0 then detail.Nothing else detail.Word word near
 
--- whether the text of a token says no more than the code: it is the > before which something is missing, or the word of a statement that has
--- another form
+-- whether the text of a token says no more than the code: it is the > before which something is missing, or the word of a statement that
+-- has another form
 unfoldable pub is_general : List ℕ → Bool
 is_general text =
     same_name (codes ">") text || same_name (codes "begin") text || same_name (codes "group") text || same_name (codes "store") text

@@ -56,12 +56,7 @@ fn meant_keys(alloc: Global, word: &[u8]) -> Result<Seq<Text>, Memory>
 }
 
 /// Appends the name of the key with a code, if there is one and a word means it.
-fn add_meant_key(
-    alloc: Global,
-    names: &mut Seq<Text>,
-    word: &[u8],
-    code: u16,
-) -> Result<(), Memory>
+fn add_meant_key(alloc: Global, names: &mut Seq<Text>, word: &[u8], code: u16) -> Result<(), Memory>
     ensures { OnOk result (names.new ≡ names.old ++ meant_key word.now (key_name code)) }
 {
     match name_of(code) {
@@ -71,12 +66,7 @@ fn add_meant_key(
 }
 
 /// Appends the name of a key, if a word means it.
-fn add_meant(
-    alloc: Global,
-    names: &mut Seq<Text>,
-    word: &[u8],
-    name: &[u8],
-) -> Result<(), Memory>
+fn add_meant(alloc: Global, names: &mut Seq<Text>, word: &[u8], name: &[u8]) -> Result<(), Memory>
     ensures { OnOk result (names.new ≡ names.old ++ meant_key word.now (Some name.now)) }
 {
     if means_key(word, name) {

@@ -19,8 +19,8 @@ use kmn_lines::{Logical, lines};
 use source_names::NameFault;
 use std::alloc::Global;
 
-/// Returns a refusal of a source in UTF-8 with its place, for the causes for which names refuse lines of the source. The lines of the source
-/// are read up to the one of the refusal, so this is meant for refusals that are printed. Errors: `Memory` if an allocation fails.
+/// Returns a refusal of a source in UTF-8 with its place, for the causes for which names refuse lines of the source. The lines of the
+/// source are read up to the one of the refusal, so this is meant for refusals that are printed. Errors: `Memory` if an allocation fails.
 #[tactic(auto, unfolding(crate::specs::Placed::placed_in))]
 pub fn placed_in(
     alloc: Global,
