@@ -1,8 +1,8 @@
--- The word at which reading a line stops.
+-- The word of a line that is wrong.
 use Rattle.std.specs.Prelude.{ℕ, nat_eq, nat_lt, ◌==◌, Bool, true, ◌||◌, if◌then◌else◌, List, [], ◌∷◌, length, codes, Result, Ok, Err}
 use Rattle.kmn_base.specs.Names.{same_name}
 use Rattle.kmn_base.specs.declared.codes.Code.{Code}
-use Rattle.kmn_base.specs.declared.codes.Code.TheVariants.{S06}
+use Rattle.kmn_base.specs.declared.codes.Code.TheVariants.{S06, C12}
 use Rattle.kmn_base.specs.declared.refusals.Refusal.{Refusal}
 use Rattle.kmn_lines.specs.Lines.{logicals}
 use Rattle.kmn_lines.specs.declared.logical.Logical.{Logical}
@@ -12,6 +12,7 @@ use Rattle.kmn_items.specs.TokenTexts.{LineToken, text_at, with_texts}
 use Rattle.refusal_places.specs.Spots.{stop_place}
 use Rattle.refusal_details.specs.declared.detail.Detail.{Detail}
 use Rattle.refusal_details.specs.declared.detail.Detail.TheVariants as detail
+use Rattle.refusal_details.specs.LeftOut.{left_out}
 
 -- a word with the names that it may mean, or nothing for an empty word
 unfoldable pub worded : List ℕ → List (List ℕ) → Detail
@@ -37,10 +38,15 @@ abbrev pub wrong_text : Code → ℕ → List LineToken → List ℕ
 wrong_text code place tokens = if is_wrong code place then kept_word (text_at place tokens) else []
 
 -- the text of the token at which reading a line stops, among the tokens of the line
-unfoldable pub tokens_text : ℕ → Code → List LineToken → List ℕ
-tokens_text line code tokens = wrong_text code (stop_place line code tokens) tokens
+unfoldable pub stop_text : ℕ → Code → List LineToken → List ℕ
+stop_text line code tokens = wrong_text code (stop_place line code tokens) tokens
 
--- the text of the token at which reading a line stops, for its tokens or their refusal, which has none
+-- the text of the token that is wrong, among the tokens of a line: the one that is not supported (C12), or the one at which reading stops
+unfoldable pub tokens_text : ℕ → Code → List LineToken → List ℕ
+tokens_text line C12 tokens = left_out tokens
+tokens_text line other tokens = stop_text line other tokens
+
+-- the text of the token that is wrong in a line, for its tokens or their refusal, which has none
 abbrev pub scan_text : List ℕ → ℕ → Code → Result (List Token) Refusal → List ℕ
 scan_text source line code (Ok tokens) = tokens_text line code (with_texts source tokens)
 scan_text source line code (Err found) = []
@@ -48,12 +54,12 @@ scan_text source line code (Err found) = []
 abbrev pub line_text : List ℕ → Logical → Code → List ℕ
 line_text source line code = scan_text source line.first_line code (scanned_line source line)
 
--- the text of the token at which reading the one of these lines stops that has a number
+-- the text of the token that is wrong in the one of these lines that has a number
 abbrev pub text_among : List ℕ → ℕ → Code → List Logical → List ℕ
 text_among source number code [] = []
 text_among source number code (line ∷ lines) =
     if nat_eq line.first_line number then line_text source line code else text_among source number code lines
 
--- the text of the token at which reading the line of a source stops that has a number
+-- the text of the token that is wrong in the line of a source that has a number
 unfoldable pub source_text : List ℕ → ℕ → Code → List ℕ
 source_text source number code = text_among source number code (logicals source)

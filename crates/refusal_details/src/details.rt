@@ -26,7 +26,7 @@ pub(crate) enum Subject {
     /// A store that is not defined, and a group that is not.
     NoStore,
     NoGroup,
-    /// The word at which reading the line stops, and one that is in the brackets of a virtual key.
+    /// A word of the line that is wrong, and one that is in the brackets of a virtual key.
     Word,
     KeyWord,
 }
@@ -59,9 +59,8 @@ fn subject_of(code: Code) -> Subject
         Code::C04 => Subject::GroupAgain,
         Code::C05 => Subject::NoStore,
         Code::C06 => Subject::NoGroup,
-        Code::L04 | Code::S01 | Code::S02 | Code::S05 | Code::S06 | Code::S09 | Code::S12 => {
-            Subject::Word
-        }
+        Code::L04 | Code::S01 | Code::S02 | Code::S05 | Code::S06 => Subject::Word,
+        Code::S09 | Code::S12 | Code::C12 => Subject::Word,
         Code::S11 => Subject::KeyWord,
         _ => Subject::Nothing,
     }
@@ -90,7 +89,7 @@ fn detail_about(
     }
 }
 
-/// Returns the word at which reading the refused line stops.
+/// Returns the word of the refused line that is wrong.
 #[tactic(auto, unfolding(crate::specs::Details::word_detail))]
 fn word_detail(alloc: Global, source: &str, refusal: Refusal) -> Result<Detail, Memory>
     requires { length source.now ≤ TEXT_BYTES }
@@ -100,7 +99,7 @@ fn word_detail(alloc: Global, source: &str, refusal: Refusal) -> Result<Detail, 
     Ok(worded(word, Seq::new(alloc)))
 }
 
-/// Returns the word at which reading the refused line stops, with the names of keys and modifiers that it may mean.
+/// Returns the word of the refused line that is wrong, with the names of keys and modifiers that it may mean.
 #[tactic(auto, unfolding(crate::specs::Details::key_detail))]
 fn key_detail(alloc: Global, source: &str, refusal: Refusal) -> Result<Detail, Memory>
     requires { length source.now ≤ TEXT_BYTES }

@@ -1,13 +1,15 @@
-//! The word at which reading a line stops.
+//! The word of a line that is wrong.
 
 ghost use Rattle.std.specs.Prelude.{◌≡◌, ◌<◌, ◌^◌, ◌≤◌, length, IfOk};
 ghost use Rattle.kmn_base.specs.declared.limits.TheConstants.{TEXT_BYTES};
 ghost use Rattle.kmn_items.specs.TokenTexts.{texts, with_texts};
 ghost use Rattle.kmn_lines.specs.Lines.{logicals};
 ghost use Rattle.kmn_lines.specs.Places.{IsPlaced};
-ghost use Rattle.refusal_details.specs.Words.{is_wrong, is_general, line_text, source_text, text_among, wrong_text, kept_word, tokens_text, worded};
+ghost use Rattle.refusal_details.specs.LeftOut.{left_out};
+ghost use Rattle.refusal_details.specs.Words.{is_general, is_wrong, kept_word, line_text, source_text, stop_text, text_among, tokens_text, worded, wrong_text};
 
 use crate::detail::Detail;
+use crate::left_out::left_out;
 use kmn_base::names::same_name;
 use kmn_base::{Code, CompileError, Memory, Seq, Text};
 use kmn_items::LineTokens;
@@ -28,8 +30,8 @@ pub(crate) fn worded(word: Text, near: Seq<Text>) -> Detail
     }
 }
 
-/// Returns the text of the token at which reading the line with a number stops, for a refusal of the line with this code. The text is empty
-/// if there is no such token, if it is not wrong, or if it says no more than the code. Errors: `Memory` if an allocation fails.
+/// Returns the text of the token that is wrong in the line with a number, for a refusal of the line with this code. The text is empty if
+/// there is no such token, or if it says no more than the code. Errors: `Memory` if an allocation fails.
 #[tactic(auto, unfolding(crate::specs::Words::source_text))]
 pub(crate) fn source_text(
     alloc: Global,
@@ -43,7 +45,7 @@ pub(crate) fn source_text(
     text_among(alloc, source, number, code)
 }
 
-/// Returns the text of the token at which reading the line with a number stops.
+/// Returns the text of the token that is wrong in the line with a number.
 #[tactic(auto, using(kmn_parser::proofs::LineLemmas::by_recursion))]
 fn text_among(alloc: Global, source: &str, number: u32, code: Code) -> Result<Text, Memory>
     requires { length source.now ≤ TEXT_BYTES }
@@ -57,7 +59,7 @@ fn text_among(alloc: Global, source: &str, number: u32, code: Code) -> Result<Te
     Ok(Seq::new(alloc))
 }
 
-/// Returns the text of the token at which reading a logical line stops.
+/// Returns the text of the token that is wrong in a logical line.
 fn line_text(alloc: Global, source: &str, logical: Logical, code: Code) -> Result<Text, Memory>
     requires few { length source.now ≤ TEXT_BYTES }
     requires placed { IsPlaced source.now logical }
@@ -76,7 +78,7 @@ fn line_text(alloc: Global, source: &str, logical: Logical, code: Code) -> Resul
     }
 }
 
-/// Returns the text of the token at which reading a line stops, among the tokens of the line.
+/// Returns the text of the token that is wrong, among the tokens of a line.
 #[tactic(auto, unfolding(crate::specs::Words::tokens_text))]
 fn tokens_text(
     alloc: Global,
@@ -87,6 +89,24 @@ fn tokens_text(
 ) -> Result<Text, Memory>
     requires { length tokens.now < 2 ^ 59 }
     ensures { IfOk result (λ text. text ≡ tokens_text line code (with_texts source.now tokens.now)) }
+{
+    match code {
+        Code::C12 => Seq::from_slice(alloc, left_out(LineTokens { source, tokens })),
+        _ => stop_text(alloc, source, line, code, tokens),
+    }
+}
+
+/// Returns the text of the token at which reading a line stops, among the tokens of the line.
+#[tactic(auto, unfolding(crate::specs::Words::stop_text))]
+fn stop_text(
+    alloc: Global,
+    source: &[u8],
+    line: u32,
+    code: Code,
+    tokens: &[Token],
+) -> Result<Text, Memory>
+    requires { length tokens.now < 2 ^ 59 }
+    ensures { IfOk result (λ text. text ≡ stop_text line code (with_texts source.now tokens.now)) }
 {
     let line_tokens = LineTokens { source, tokens };
     let place = stop_place(alloc, line, code, line_tokens)?;
