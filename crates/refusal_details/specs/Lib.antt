@@ -2,6 +2,7 @@ pub mod Definitions
 pub mod Defined
 pub mod Letters
 pub mod LeftOut
+pub mod Faulty
 pub mod Words
 pub mod Nearest
 pub mod Keys

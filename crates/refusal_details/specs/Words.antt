@@ -12,6 +12,7 @@ use Rattle.kmn_items.specs.TokenTexts.{LineToken, text_at, with_texts}
 use Rattle.refusal_places.specs.Spots.{stop_place}
 use Rattle.refusal_details.specs.declared.detail.Detail.{Detail}
 use Rattle.refusal_details.specs.declared.detail.Detail.TheVariants as detail
+use Rattle.refusal_details.specs.Faulty.{fault_text}
 use Rattle.refusal_details.specs.LeftOut.{left_out}
 
 -- a word with the names that it may mean, or nothing for an empty word
@@ -46,13 +47,13 @@ unfoldable pub tokens_text : ℕ → Code → List LineToken → List ℕ
 tokens_text line C12 tokens = left_out tokens
 tokens_text line other tokens = stop_text line other tokens
 
--- the text of the token that is wrong in a line, for its tokens or their refusal, which has none
-abbrev pub scan_text : List ℕ → ℕ → Code → Result (List Token) Refusal → List ℕ
-scan_text source line code (Ok tokens) = tokens_text line code (with_texts source tokens)
-scan_text source line code (Err found) = []
+-- the text of the token that is wrong in a line, for its tokens or their refusal, which is at the first token with a fault
+abbrev pub scan_text : List ℕ → Logical → Code → Result (List Token) Refusal → List ℕ
+scan_text source line code (Ok tokens) = tokens_text line.first_line code (with_texts source tokens)
+scan_text source line code (Err found) = fault_text source line
 
 abbrev pub line_text : List ℕ → Logical → Code → List ℕ
-line_text source line code = scan_text source line.first_line code (scanned_line source line)
+line_text source line code = scan_text source line code (scanned_line source line)
 
 -- the text of the token that is wrong in the one of these lines that has a number
 abbrev pub text_among : List ℕ → ℕ → Code → List Logical → List ℕ

@@ -15,6 +15,7 @@ mod definitions;
 mod detail;
 mod details;
 mod explaining;
+mod faulty;
 mod keys;
 mod left_out;
 mod letters;

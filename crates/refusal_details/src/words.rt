@@ -9,6 +9,7 @@ ghost use Rattle.refusal_details.specs.LeftOut.{left_out};
 ghost use Rattle.refusal_details.specs.Words.{is_general, is_wrong, kept_word, line_text, source_text, stop_text, text_among, tokens_text, worded, wrong_text};
 
 use crate::detail::Detail;
+use crate::faulty::fault_text;
 use crate::left_out::left_out;
 use kmn_base::names::same_name;
 use kmn_base::{Code, CompileError, Memory, Seq, Text};
@@ -73,7 +74,7 @@ fn line_text(alloc: Global, source: &str, logical: Logical, code: Code) -> Resul
             code,
             tokens.as_slice(),
         ),
-        Err(CompileError::Refused(_)) => Ok(Seq::new(alloc)),
+        Err(CompileError::Refused(_)) => Seq::from_slice(alloc, fault_text(source, logical)),
         Err(_) => Err(Memory),
     }
 }

@@ -5,8 +5,8 @@
 //! that it prints, which returns exactly what `specs/Placed` defines: a refusal stands at the first token of its line that has a fault; if
 //! no token has one, at the name that the line lacks (`specs/Names`), or at the token at which reading the line stops (`specs/Spots`); and
 //! if the line is read whole, at its first token. A refusal of the whole source or program, and one without a token, stands at the start of
-//! its line (`at_start`). `specs/Columns` defines how columns count characters. `name_at` returns the name that a line lacks, and
-//! `stop_place` the token at which reading a line stops.
+//! its line (`at_start`). `specs/Columns` defines how columns count characters. `name_at` returns the name that a line lacks,
+//! `faulty_spot` where the first token with a fault begins, and `stop_place` the token at which reading a line stops.
 #![tactic(auto)]
 
 mod columns;
@@ -18,7 +18,9 @@ mod sizes;
 mod spot;
 mod spots;
 
+pub use faulty::faulty_spot;
 pub use names::name_at;
 pub use placed_refusal::{Placed, at_start};
 pub use placing::placed_in;
+pub use spot::Spot;
 pub use spots::stop_place;
