@@ -8,7 +8,7 @@ use Rattle.refusal_places.specs.Spots.{parts_spot}
 use Rattle.refusal_places.specs.declared.spot.Spot.{Spot}
 
 -- the text of the number at the beginning of bytes: two bytes, and the word after them
-abbrev pub number_text : List ℕ → List ℕ
+unfoldable pub number_text : List ℕ → List ℕ
 number_text bytes = take (2 + word_size (drop 2 bytes)) bytes
 
 -- the text of the number at a spot, in the part of a line that is in the same physical line

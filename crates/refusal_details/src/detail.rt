@@ -11,7 +11,7 @@ use refusal_places::{Placed, at_start};
 pub enum Detail {
     /// The meaning of the code says enough.
     Nothing,
-    /// A word or another token as it is in the source, and the known names that are like it, at most `NEAR_NAMES`.
+    /// A word or another token as it is in the source, and the known names that it may mean, at most three.
     Word { word: Text, near: Seq<Text> },
     /// A name, and the number of the line that defines it first, from 1.
     Defined { name: Text, line: u32 },

@@ -59,8 +59,14 @@ fn subject_of(code: Code) -> Subject
         Code::C04 => Subject::GroupAgain,
         Code::C05 => Subject::NoStore,
         Code::C06 => Subject::NoGroup,
-        Code::L04 | Code::S01 | Code::S02 | Code::S05 | Code::S06 => Subject::Word,
-        Code::S09 | Code::S12 | Code::C12 => Subject::Word,
+        Code::L04
+        | Code::S01
+        | Code::S02
+        | Code::S05
+        | Code::S06
+        | Code::S09
+        | Code::S12
+        | Code::C12 => Subject::Word,
         Code::S11 => Subject::KeyWord,
         _ => Subject::Nothing,
     }

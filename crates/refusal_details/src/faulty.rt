@@ -41,6 +41,7 @@ fn spot_text(source: &str, logical: Logical, spot: Spot) -> &[u8]
 }
 
 /// Returns the text of the number at the beginning of bytes: two bytes, and the word after them.
+#[tactic(auto, unfolding(crate::specs::Faulty::number_text))]
 fn number_text(bytes: &[u8]) -> &[u8]
     ensures { result.now ≡ number_text bytes.now }
 {

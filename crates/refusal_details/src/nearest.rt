@@ -11,7 +11,7 @@ use kmn_base::{Memory, Seq, Text};
 use std::alloc::Global;
 
 /// The largest number of names that are returned for a word.
-pub(crate) const NEAR_NAMES: usize = 3;
+const NEAR_NAMES: usize = 3;
 
 /// Returns a name that is not defined, with the defined names that it is like. Errors: `Memory` if an allocation fails.
 #[tactic(auto, unfolding(crate::specs::Nearest::lacked))]
