@@ -33,7 +33,7 @@ begin Unicode > use(main)¶group(main) using keys¶+ 'a' 'b' > 'x'¶+ 'a' > ''¶
 == a number that is not a character, in the physical line that has it
 begin Unicode > use(main)¶group(main) using keys¶+ 'a' > 'b' \\¶  u+d800 \\¶  U+12¶+ 'c' > U+123456x ⇒ 1 in:4:3: error L04: a number that is no character: 'u+d800'¶in:6:9: error L04: a number that is no character: 'U+123456x'¶refused L04 line 3¶
 == the word that is not supported, not an equal name
-store(fix) 'x'¶begin Unicode > use(main)¶group(main) using keys¶+ [K_B] > outs(fix) fix¶+ 'b' > [K_A]¶store(&shiftfreescaps) '1'¶+ 'c' > call(f) ⇒ 1 in:4:1: error C12: something that is left out: 'fix'¶in:5:1: error C12: something that is left out: '['¶in:6:1: error C12: something that is left out: '&shiftfreescaps'¶in:7:1: error C11: a call¶refused C12 line 4¶
+store(fix) 'x'¶begin Unicode > use(main)¶group(main) using keys¶+ [K_B] > outs(fix) fix¶+ 'b' > [K_A]¶store(&shiftfreescaps) '1'¶+ 'c' > call(f) ⇒ 1 in:4:1: error C12: something that is left out: 'fix'¶in:5:1: error C12: something that is left out: '['¶in:6:1: error C12: something that is left out: '&shiftfreescaps'¶in:7:1: error C11: a call: 'f'¶refused C12 line 4¶
 == characters that a terminal obeys, and words of more than 80 characters
 store(b\u{1B}) 'x'¶begin Unicode > use(main)¶group(main) using keys¶+ 'a' > 'b' ⇒ 0 in:1: warning W01: store 'b?' is used nowhere¶checked warnings=1 notes=0¶
 begin Unicode > use(main)¶group(main) using keys¶+ 'a' > $v\u{1B}\u{9B}\u{E9} ⇒ 1 in:3:9: error C05: a store that is not stated: 'v?¿é'¶refused C05 line 3¶

@@ -1,7 +1,7 @@
 -- The detail of a refusal, by its code.
 use Rattle.std.specs.Prelude.{ℕ, List, []}
 use Rattle.kmn_base.specs.declared.codes.Code.{Code}
-use Rattle.kmn_base.specs.declared.codes.Code.TheVariants.{L04, S01, S02, S05, S06, S09, S11, S12, C03, C04, C05, C06, C12}
+use Rattle.kmn_base.specs.declared.codes.Code.TheVariants.{L04, S01, S02, S05, S06, S09, S11, S12, C03, C04, C05, C06, C11, C12}
 use Rattle.kmn_base.specs.declared.refusals.Refusal.{Refusal}
 use Rattle.source_names.specs.declared.causes.NameFault.{NameFault}
 use Rattle.refusal_places.specs.Names.{name_at}
@@ -28,6 +28,7 @@ subject_of S05 = about.Word
 subject_of S06 = about.Word
 subject_of S09 = about.Word
 subject_of S12 = about.Word
+subject_of C11 = about.Word
 subject_of C12 = about.Word
 subject_of S11 = about.KeyWord
 subject_of other = about.Nothing

@@ -14,6 +14,16 @@ abbrev pub is_arrow : TokenKind → Bool
 is_arrow kind.Arrow = true
 is_arrow other = false
 
+-- the word before a token that is a parenthesis, or no word if the token is none
+abbrev pub opened_by : List ℕ → TokenKind → List ℕ
+opened_by previous kind = if is_open kind then previous else []
+
+-- the name of the first call, after a text and after the word of a parenthesis that opens there
+abbrev pub called : List ℕ → List ℕ → List LineToken → List ℕ
+called previous word [] = []
+called previous word (token ∷ tokens) =
+    if same_name (codes "call") word then token.text else called token.text (opened_by previous token.kind) tokens
+
 -- whether a word begins an item that is not supported anywhere
 unfoldable pub is_left_out : List ℕ → Bool
 is_left_out text =

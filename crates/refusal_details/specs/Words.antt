@@ -2,7 +2,7 @@
 use Rattle.std.specs.Prelude.{ℕ, nat_eq, nat_lt, ◌==◌, Bool, true, ◌||◌, if◌then◌else◌, List, [], ◌∷◌, length, codes, Result, Ok, Err}
 use Rattle.kmn_base.specs.Names.{same_name}
 use Rattle.kmn_base.specs.declared.codes.Code.{Code}
-use Rattle.kmn_base.specs.declared.codes.Code.TheVariants.{S06, C12}
+use Rattle.kmn_base.specs.declared.codes.Code.TheVariants.{S06, C11, C12}
 use Rattle.kmn_base.specs.declared.refusals.Refusal.{Refusal}
 use Rattle.kmn_lines.specs.Lines.{logicals}
 use Rattle.kmn_lines.specs.declared.logical.Logical.{Logical}
@@ -13,7 +13,7 @@ use Rattle.refusal_places.specs.Spots.{stop_place}
 use Rattle.refusal_details.specs.declared.detail.Detail.{Detail}
 use Rattle.refusal_details.specs.declared.detail.Detail.TheVariants as detail
 use Rattle.refusal_details.specs.Faulty.{fault_text}
-use Rattle.refusal_details.specs.LeftOut.{left_out}
+use Rattle.refusal_details.specs.LeftOut.{called, left_out}
 
 -- a word with the names that it may mean, or nothing for an empty word
 unfoldable pub worded : List ℕ → List (List ℕ) → Detail
@@ -42,8 +42,10 @@ wrong_text code place tokens = if is_wrong code place then kept_word (text_at pl
 unfoldable pub stop_text : ℕ → Code → List LineToken → List ℕ
 stop_text line code tokens = wrong_text code (stop_place line code tokens) tokens
 
--- the text of the token that is wrong, among the tokens of a line: the one that is not supported (C12), or the one at which reading stops
+-- the text of the token that is wrong, among the tokens of a line: the name of a call (C11), what is not supported (C12), or the token at
+-- which reading the line stops
 unfoldable pub tokens_text : ℕ → Code → List LineToken → List ℕ
+tokens_text line C11 tokens = called [] [] tokens
 tokens_text line C12 tokens = left_out tokens
 tokens_text line other tokens = stop_text line other tokens
 

@@ -66,6 +66,7 @@ fn subject_of(code: Code) -> Subject
         | Code::S06
         | Code::S09
         | Code::S12
+        | Code::C11
         | Code::C12 => Subject::Word,
         Code::S11 => Subject::KeyWord,
         _ => Subject::Nothing,

@@ -1,12 +1,40 @@
 //! The word of a line that is not supported.
 
-ghost use Rattle.std.specs.Prelude.{◌≡◌, ◌||◌, false};
+ghost use Rattle.std.specs.Prelude.{◌≡◌, ◌||◌, [], false};
 ghost use Rattle.kmn_items.specs.TokenTexts.{is_open, texts};
-ghost use Rattle.refusal_details.specs.LeftOut.{begins_left_out, is_arrow, is_bracket_open, is_left_out, item_left_out, left_out};
+ghost use Rattle.refusal_details.specs.LeftOut.{begins_left_out, called, is_arrow, is_bracket_open, is_left_out, item_left_out, left_out, opened_by};
 
 use kmn_base::names::same_name;
 use kmn_items::{LineTokens, text_in};
 use kmn_lines::TokenKind;
+
+/// Returns the name of the first `call` of a line, or an empty name.
+pub(crate) fn called<'a>(tokens: LineTokens<'a>) -> &'a [u8]
+    ensures { result.now ≡ called [] [] (texts tokens.entry) }
+{
+    let LineTokens {
+        source,
+        tokens: all,
+    } = tokens;
+    let mut previous: &[u8] = &[];
+    let mut word: &[u8] = &[];
+    for token in all {
+        let text = text_in(source, *token);
+        if same_name(b"call", word) {
+            return text;
+        }
+        word = opened_by(previous, token.kind);
+        previous = text;
+    }
+    &[]
+}
+
+/// Returns the word before a token that is a parenthesis, or no word if the token is none.
+fn opened_by(previous: &[u8], kind: TokenKind) -> &[u8]
+    ensures { result.now ≡ opened_by previous.now kind }
+{
+    if is_open(kind) { previous } else { &[] }
+}
 
 /// Returns the name of a store statement, or the text of the first token of a rule that begins something that is not supported. The text is
 /// empty if no token does.

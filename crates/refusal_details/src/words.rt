@@ -5,12 +5,12 @@ ghost use Rattle.kmn_base.specs.declared.limits.TheConstants.{TEXT_BYTES};
 ghost use Rattle.kmn_items.specs.TokenTexts.{texts, with_texts};
 ghost use Rattle.kmn_lines.specs.Lines.{logicals};
 ghost use Rattle.kmn_lines.specs.Places.{IsPlaced};
-ghost use Rattle.refusal_details.specs.LeftOut.{left_out};
+ghost use Rattle.refusal_details.specs.LeftOut.{called, left_out};
 ghost use Rattle.refusal_details.specs.Words.{is_general, is_wrong, kept_word, line_text, source_text, stop_text, text_among, tokens_text, worded, wrong_text};
 
 use crate::detail::Detail;
 use crate::faulty::fault_text;
-use crate::left_out::left_out;
+use crate::left_out::{called, left_out};
 use kmn_base::names::same_name;
 use kmn_base::{Code, CompileError, Memory, Seq, Text};
 use kmn_items::LineTokens;
@@ -92,6 +92,7 @@ fn tokens_text(
     ensures { IfOk result (λ text. text ≡ tokens_text line code (with_texts source.now tokens.now)) }
 {
     match code {
+        Code::C11 => Seq::from_slice(alloc, called(LineTokens { source, tokens })),
         Code::C12 => Seq::from_slice(alloc, left_out(LineTokens { source, tokens })),
         _ => stop_text(alloc, source, line, code, tokens),
     }
