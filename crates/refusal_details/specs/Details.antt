@@ -10,6 +10,8 @@ use Rattle.refusal_details.specs.declared.detail.Detail.{Detail}
 use Rattle.refusal_details.specs.declared.detail.Detail.TheVariants as detail
 use Rattle.refusal_details.specs.declared.details.Subject.{Subject}
 use Rattle.refusal_details.specs.declared.details.Subject.TheVariants as about
+use Rattle.refusal_details.specs.declared.words.WrongToken.{WrongToken}
+use Rattle.refusal_details.specs.declared.words.WrongToken.TheVariants as wrong
 use Rattle.refusal_details.specs.Defined.{defined}
 use Rattle.refusal_details.specs.Keys.{meant}
 use Rattle.refusal_details.specs.Nearest.{lacked}
@@ -21,25 +23,28 @@ subject_of C03 = about.StoreAgain
 subject_of C04 = about.GroupAgain
 subject_of C05 = about.NoStore
 subject_of C06 = about.NoGroup
-subject_of L04 = about.Word
-subject_of S01 = about.Word
-subject_of S02 = about.Word
-subject_of S05 = about.Word
-subject_of S06 = about.Word
-subject_of S09 = about.Word
-subject_of S12 = about.Word
-subject_of C11 = about.Word
-subject_of C12 = about.Word
+subject_of L04 = about.Word wrong.Stop
+subject_of S01 = about.Word wrong.Stop
+subject_of S02 = about.Word wrong.Stop
+subject_of S05 = about.Word wrong.Stop
+subject_of S06 = about.Word wrong.Stop
+subject_of S09 = about.Word wrong.Stop
+subject_of S12 = about.Word wrong.Stop
 subject_of S11 = about.KeyWord
+subject_of C11 = about.Word wrong.CallName
+subject_of C12 = about.Word wrong.LeftOut
 subject_of other = about.Nothing
 
 -- the word of the refused line that is wrong
-unfoldable pub word_detail : List ℕ → Refusal → Detail
-word_detail source found = worded (source_text source found.line found.code) []
+unfoldable pub word_detail : List ℕ → Refusal → WrongToken → Detail
+word_detail source found which = worded (source_text source found.line found.code which) []
 
--- the word of the refused line that is wrong, with the names of keys and modifiers that it may mean
+-- a word in brackets with the names of keys and modifiers that it may mean, and the word of the refused line that is wrong with these names
+abbrev pub key_worded : List ℕ → Detail
+key_worded word = worded word (meant word)
+
 unfoldable pub key_detail : List ℕ → Refusal → Detail
-key_detail source found = worded (source_text source found.line found.code) (meant (source_text source found.line found.code))
+key_detail source found = key_worded (source_text source found.line found.code wrong.Stop)
 
 -- the detail of a refusal about a subject, for the name that the line lacks and the names that the source defines
 abbrev pub detail_about : Subject → List ℕ → List ℕ → KnownNames → Refusal → Detail
@@ -48,7 +53,7 @@ detail_about about.StoreAgain source name names found = defined found.line names
 detail_about about.GroupAgain source name names found = defined found.line names.groups
 detail_about about.NoStore source name names found = lacked name names.stores
 detail_about about.NoGroup source name names found = lacked name names.groups
-detail_about about.Word source name names found = word_detail source found
+detail_about (about.Word which) source name names found = word_detail source found which
 detail_about about.KeyWord source name names found = key_detail source found
 
 -- the detail of a refusal, for the causes for which names refuse lines of the source and the names that the source defines

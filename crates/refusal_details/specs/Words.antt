@@ -2,7 +2,7 @@
 use Rattle.std.specs.Prelude.{ℕ, nat_eq, nat_lt, ◌==◌, Bool, true, ◌||◌, if◌then◌else◌, List, [], ◌∷◌, length, codes, Result, Ok, Err}
 use Rattle.kmn_base.specs.Names.{same_name}
 use Rattle.kmn_base.specs.declared.codes.Code.{Code}
-use Rattle.kmn_base.specs.declared.codes.Code.TheVariants.{S06, C11, C12}
+use Rattle.kmn_base.specs.declared.codes.Code.TheVariants.{S06}
 use Rattle.kmn_base.specs.declared.refusals.Refusal.{Refusal}
 use Rattle.kmn_lines.specs.Lines.{logicals}
 use Rattle.kmn_lines.specs.declared.logical.Logical.{Logical}
@@ -12,6 +12,8 @@ use Rattle.kmn_items.specs.TokenTexts.{LineToken, text_at, with_texts}
 use Rattle.refusal_places.specs.Spots.{stop_place}
 use Rattle.refusal_details.specs.declared.detail.Detail.{Detail}
 use Rattle.refusal_details.specs.declared.detail.Detail.TheVariants as detail
+use Rattle.refusal_details.specs.declared.words.WrongToken.{WrongToken}
+use Rattle.refusal_details.specs.declared.words.WrongToken.TheVariants as wrong
 use Rattle.refusal_details.specs.Faulty.{fault_text}
 use Rattle.refusal_details.specs.LeftOut.{called, left_out}
 
@@ -42,27 +44,26 @@ wrong_text code place tokens = if is_wrong code place then kept_word (text_at pl
 unfoldable pub stop_text : ℕ → Code → List LineToken → List ℕ
 stop_text line code tokens = wrong_text code (stop_place line code tokens) tokens
 
--- the text of the token that is wrong, among the tokens of a line: the name of a call (C11), what is not supported (C12), or the token at
--- which reading the line stops
-unfoldable pub tokens_text : ℕ → Code → List LineToken → List ℕ
-tokens_text line C11 tokens = called [] [] tokens
-tokens_text line C12 tokens = left_out tokens
-tokens_text line other tokens = stop_text line other tokens
+-- the text of the token that is wrong, among the tokens of a line
+unfoldable pub tokens_text : ℕ → Code → WrongToken → List LineToken → List ℕ
+tokens_text line code wrong.Stop tokens = stop_text line code tokens
+tokens_text line code wrong.CallName tokens = called [] [] tokens
+tokens_text line code wrong.LeftOut tokens = left_out tokens
 
 -- the text of the token that is wrong in a line, for its tokens or their refusal, which is at the first token with a fault
-abbrev pub scan_text : List ℕ → Logical → Code → Result (List Token) Refusal → List ℕ
-scan_text source line code (Ok tokens) = tokens_text line.first_line code (with_texts source tokens)
-scan_text source line code (Err found) = fault_text source line
+abbrev pub scan_text : List ℕ → Logical → Code → WrongToken → Result (List Token) Refusal → List ℕ
+scan_text source line code which (Ok tokens) = tokens_text line.first_line code which (with_texts source tokens)
+scan_text source line code which (Err found) = fault_text source line
 
-abbrev pub line_text : List ℕ → Logical → Code → List ℕ
-line_text source line code = scan_text source line code (scanned_line source line)
+abbrev pub line_text : List ℕ → Logical → Code → WrongToken → List ℕ
+line_text source line code which = scan_text source line code which (scanned_line source line)
 
 -- the text of the token that is wrong in the one of these lines that has a number
-abbrev pub text_among : List ℕ → ℕ → Code → List Logical → List ℕ
-text_among source number code [] = []
-text_among source number code (line ∷ lines) =
-    if nat_eq line.first_line number then line_text source line code else text_among source number code lines
+abbrev pub text_among : List ℕ → ℕ → Code → WrongToken → List Logical → List ℕ
+text_among source number code which [] = []
+text_among source number code which (line ∷ lines) =
+    if nat_eq line.first_line number then line_text source line code which else text_among source number code which lines
 
 -- the text of the token that is wrong in the line of a source that has a number
-unfoldable pub source_text : List ℕ → ℕ → Code → List ℕ
-source_text source number code = text_among source number code (logicals source)
+unfoldable pub source_text : List ℕ → ℕ → Code → WrongToken → List ℕ
+source_text source number code which = text_among source number code which (logicals source)

@@ -9,7 +9,7 @@ use crate::definitions::KnownNames;
 use crate::detail::Detail;
 use crate::keys::meant;
 use crate::nearest::lacked;
-use crate::words::{source_text, worded};
+use crate::words::{WrongToken, source_text, worded};
 use kmn_base::{Code, Memory, Refusal, Seq};
 use refusal_places::name_at;
 use source_names::NameFault;
@@ -26,8 +26,8 @@ pub(crate) enum Subject {
     /// A store that is not defined, and a group that is not.
     NoStore,
     NoGroup,
-    /// A word of the line that is wrong, and one that is in the brackets of a virtual key.
-    Word,
+    /// The word of the line that is wrong, and one that is in the brackets of a virtual key.
+    Word(WrongToken),
     KeyWord,
 }
 
@@ -65,10 +65,10 @@ fn subject_of(code: Code) -> Subject
         | Code::S05
         | Code::S06
         | Code::S09
-        | Code::S12
-        | Code::C11
-        | Code::C12 => Subject::Word,
+        | Code::S12 => Subject::Word(WrongToken::Stop),
         Code::S11 => Subject::KeyWord,
+        Code::C11 => Subject::Word(WrongToken::CallName),
+        Code::C12 => Subject::Word(WrongToken::LeftOut),
         _ => Subject::Nothing,
     }
 }
@@ -91,18 +91,23 @@ fn detail_about(
         Subject::GroupAgain => defined(alloc, refusal.line, names.groups.as_slice()),
         Subject::NoStore => lacked(alloc, name, names.stores.as_slice()),
         Subject::NoGroup => lacked(alloc, name, names.groups.as_slice()),
-        Subject::Word => word_detail(alloc, source, refusal),
+        Subject::Word(wrong) => word_detail(alloc, source, refusal, wrong),
         Subject::KeyWord => key_detail(alloc, source, refusal),
     }
 }
 
 /// Returns the word of the refused line that is wrong.
 #[tactic(auto, unfolding(crate::specs::Details::word_detail))]
-fn word_detail(alloc: Global, source: &str, refusal: Refusal) -> Result<Detail, Memory>
+fn word_detail(
+    alloc: Global,
+    source: &str,
+    refusal: Refusal,
+    wrong: WrongToken,
+) -> Result<Detail, Memory>
     requires { length source.now ≤ TEXT_BYTES }
-    ensures { IfOk result (λ detail. detail ≡ word_detail source.now refusal) }
+    ensures { IfOk result (λ detail. detail ≡ word_detail source.now refusal wrong) }
 {
-    let word = source_text(alloc, source, refusal.line, refusal.code)?;
+    let word = source_text(alloc, source, refusal.line, refusal.code, wrong)?;
     Ok(worded(word, Seq::new(alloc)))
 }
 
@@ -112,7 +117,7 @@ fn key_detail(alloc: Global, source: &str, refusal: Refusal) -> Result<Detail, M
     requires { length source.now ≤ TEXT_BYTES }
     ensures { IfOk result (λ detail. detail ≡ key_detail source.now refusal) }
 {
-    let word = source_text(alloc, source, refusal.line, refusal.code)?;
+    let word = source_text(alloc, source, refusal.line, refusal.code, WrongToken::Stop)?;
     let near = meant(alloc, word.as_slice())?;
     Ok(worded(word, near))
 }

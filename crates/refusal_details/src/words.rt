@@ -19,6 +19,17 @@ use kmn_tokens::tokens;
 use refusal_places::stop_place;
 use std::alloc::Global;
 
+/// Which token of a refused line is wrong.
+#[derive(Clone, Copy)]
+pub(crate) enum WrongToken {
+    /// The one at which reading the line stops.
+    Stop,
+    /// The name of a `call`.
+    CallName,
+    /// The one that is not supported.
+    LeftOut,
+}
+
 /// Returns a word with the names that it may mean, or nothing for an empty word.
 #[tactic(auto, unfolding(crate::specs::Words::worded))]
 pub(crate) fn worded(word: Text, near: Seq<Text>) -> Detail
@@ -39,32 +50,45 @@ pub(crate) fn source_text(
     source: &str,
     number: u32,
     code: Code,
+    wrong: WrongToken,
 ) -> Result<Text, Memory>
     requires { length source.now ≤ TEXT_BYTES }
-    ensures { IfOk result (λ text. text ≡ source_text source.now number code) }
+    ensures { IfOk result (λ text. text ≡ source_text source.now number code wrong) }
 {
-    text_among(alloc, source, number, code)
+    text_among(alloc, source, number, code, wrong)
 }
 
 /// Returns the text of the token that is wrong in the line with a number.
 #[tactic(auto, using(kmn_parser::proofs::LineLemmas::by_recursion))]
-fn text_among(alloc: Global, source: &str, number: u32, code: Code) -> Result<Text, Memory>
+fn text_among(
+    alloc: Global,
+    source: &str,
+    number: u32,
+    code: Code,
+    wrong: WrongToken,
+) -> Result<Text, Memory>
     requires { length source.now ≤ TEXT_BYTES }
-    ensures { IfOk result (λ text. text ≡ text_among source.now number code (logicals source.now)) }
+    ensures { IfOk result (λ text. text ≡ text_among source.now number code wrong (logicals source.now)) }
 {
     for logical in lines(source) {
         if logical.first_line == number {
-            return line_text(alloc, source, logical, code);
+            return line_text(alloc, source, logical, code, wrong);
         }
     }
     Ok(Seq::new(alloc))
 }
 
 /// Returns the text of the token that is wrong in a logical line.
-fn line_text(alloc: Global, source: &str, logical: Logical, code: Code) -> Result<Text, Memory>
+fn line_text(
+    alloc: Global,
+    source: &str,
+    logical: Logical,
+    code: Code,
+    wrong: WrongToken,
+) -> Result<Text, Memory>
     requires few { length source.now ≤ TEXT_BYTES }
     requires placed { IsPlaced source.now logical }
-    ensures { IfOk result (λ text. text ≡ line_text source.now logical code) }
+    ensures { IfOk result (λ text. text ≡ line_text source.now logical code wrong) }
 {
     match tokens(alloc, source, logical) {
         Ok(tokens) => tokens_text(
@@ -72,6 +96,7 @@ fn line_text(alloc: Global, source: &str, logical: Logical, code: Code) -> Resul
             source.as_bytes(),
             logical.first_line,
             code,
+            wrong,
             tokens.as_slice(),
         ),
         Err(CompileError::Refused(_)) => Seq::from_slice(alloc, fault_text(source, logical)),
@@ -86,15 +111,16 @@ fn tokens_text(
     source: &[u8],
     line: u32,
     code: Code,
+    wrong: WrongToken,
     tokens: &[Token],
 ) -> Result<Text, Memory>
     requires { length tokens.now < 2 ^ 59 }
-    ensures { IfOk result (λ text. text ≡ tokens_text line code (with_texts source.now tokens.now)) }
+    ensures { IfOk result (λ text. text ≡ tokens_text line code wrong (with_texts source.now tokens.now)) }
 {
-    match code {
-        Code::C11 => Seq::from_slice(alloc, called(LineTokens { source, tokens })),
-        Code::C12 => Seq::from_slice(alloc, left_out(LineTokens { source, tokens })),
-        _ => stop_text(alloc, source, line, code, tokens),
+    match wrong {
+        WrongToken::Stop => stop_text(alloc, source, line, code, tokens),
+        WrongToken::CallName => Seq::from_slice(alloc, called(LineTokens { source, tokens })),
+        WrongToken::LeftOut => Seq::from_slice(alloc, left_out(LineTokens { source, tokens })),
     }
 }
 

@@ -9,5 +9,7 @@ use Rattle.refusal_details.proofs.words.text_among.Given as goal
 abbrev pub invariant-loop-logical : goal.invariant-loop-logical
 invariant-loop-logical l = record {
   placed : AllByRecursion (IsPlaced l.source) (lines_left l.logical-iterator);
-  rest : text_among l.source l.number l.code (lines_left l.logical-iterator) ≡ text_among l.source l.number l.code (logicals l.source);
+  rest :
+      text_among l.source l.number l.code l.wrong (lines_left l.logical-iterator)
+      ≡ text_among l.source l.number l.code l.wrong (logicals l.source);
 }
