@@ -40,7 +40,7 @@ visible_text previous [] = []
 visible_text previous (byte ∷ bytes) = visible_byte previous byte ∷ visible_text byte bytes
 
 -- two dots for the rest of a text, if some bytes of it are not printed
-abbrev pub rest_dots : ℕ → List ℕ → List ℕ
+unfoldable pub rest_dots : ℕ → List ℕ → List ℕ
 rest_dots size text = if nat_lt size (length text) then codes ".." else []
 
 -- the printed form of a text: its first characters, with a sign for each that a terminal obeys, and two dots for the others
@@ -54,7 +54,7 @@ begins_quote [] = false
 begins_quote (byte ∷ bytes) = is_quote byte
 
 -- a word in quotes, unless it has quotes itself
-abbrev pub quote_mark : List ℕ → List ℕ
+unfoldable pub quote_mark : List ℕ → List ℕ
 quote_mark word = if begins_quote word then [] else codes "'"
 
 unfoldable pub quoted_word : List ℕ → List ℕ

@@ -61,6 +61,7 @@ fn put_quoted(text: &mut Text, word: &[u8]) -> Result<(), Memory>
 }
 
 /// Returns the quote before and after a printed word.
+#[tactic(auto, unfolding(crate::specs::Details::quote_mark))]
 fn quote_mark(word: &[u8]) -> &'static str
     ensures { result.now ≡ quote_mark word.now }
 {

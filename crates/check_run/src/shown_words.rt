@@ -61,6 +61,7 @@ fn begins_character(byte: u8) -> bool
 }
 
 /// Returns two dots, if some bytes of a text are not printed.
+#[tactic(auto, unfolding(crate::specs::Details::rest_dots))]
 fn rest_dots(size: usize, text: &[u8]) -> &'static str
     ensures { result.now ≡ rest_dots size text.now }
 {
