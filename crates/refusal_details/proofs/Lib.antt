@@ -1,2 +1,3 @@
 pub mod ExplainedBytes
+pub mod LikeSystems
 pub mod MeantKeys

@@ -15,6 +15,7 @@ use Rattle.refusal_details.specs.declared.words.WrongToken.TheVariants as wrong
 use Rattle.refusal_details.specs.Defined.{defined}
 use Rattle.refusal_details.specs.Keys.{meant}
 use Rattle.refusal_details.specs.Nearest.{lacked}
+use Rattle.refusal_details.specs.Systems.{like_systems}
 use Rattle.refusal_details.specs.Words.{source_text, worded}
 
 -- what the detail of a refusal with a code is about
@@ -29,8 +30,8 @@ subject_of S02 = about.Word wrong.Stop
 subject_of S05 = about.Word wrong.Stop
 subject_of S06 = about.Word wrong.Stop
 subject_of S09 = about.Word wrong.Stop
-subject_of S12 = about.Word wrong.Stop
 subject_of S11 = about.KeyWord
+subject_of S12 = about.SystemName
 subject_of C11 = about.Word wrong.CallName
 subject_of C12 = about.Word wrong.LeftOut
 subject_of other = about.Nothing
@@ -46,6 +47,13 @@ key_worded word = worded word (meant word)
 unfoldable pub key_detail : List ℕ → Refusal → Detail
 key_detail source found = key_worded (source_text source found.line found.code wrong.Stop)
 
+-- a word with the names of system stores that it is like, and the word of the refused line that is wrong with these names
+abbrev pub system_worded : List ℕ → Detail
+system_worded word = worded word (like_systems word)
+
+unfoldable pub system_detail : List ℕ → Refusal → Detail
+system_detail source found = system_worded (source_text source found.line found.code wrong.Stop)
+
 -- the detail of a refusal about a subject, for the name that the line lacks and the names that the source defines
 abbrev pub detail_about : Subject → List ℕ → List ℕ → KnownNames → Refusal → Detail
 detail_about about.Nothing source name names found = detail.Nothing
@@ -55,6 +63,7 @@ detail_about about.NoStore source name names found = lacked name names.stores
 detail_about about.NoGroup source name names found = lacked name names.groups
 detail_about (about.Word which) source name names found = word_detail source found which
 detail_about about.KeyWord source name names found = key_detail source found
+detail_about about.SystemName source name names found = system_detail source found
 
 -- the detail of a refusal, for the causes for which names refuse lines of the source and the names that the source defines
 unfoldable pub detail_in : List ℕ → List NameFault → KnownNames → Refusal → Detail

@@ -6,5 +6,6 @@ pub mod Faulty
 pub mod Words
 pub mod Nearest
 pub mod Keys
+pub mod Systems
 pub mod Details
 pub mod Explained

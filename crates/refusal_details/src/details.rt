@@ -2,13 +2,14 @@
 
 ghost use Rattle.std.specs.Prelude.{◌≡◌, ◌≤◌, length, IfOk};
 ghost use Rattle.kmn_base.specs.declared.limits.TheConstants.{TEXT_BYTES};
-ghost use Rattle.refusal_details.specs.Details.{detail_about, detail_in, key_detail, subject_of, word_detail};
+ghost use Rattle.refusal_details.specs.Details.{detail_about, detail_in, key_detail, subject_of, system_detail, word_detail};
 
 use crate::defined::defined;
 use crate::definitions::KnownNames;
 use crate::detail::Detail;
 use crate::keys::meant;
 use crate::nearest::lacked;
+use crate::systems::like_systems;
 use crate::words::{WrongToken, source_text, worded};
 use kmn_base::{Code, Memory, Refusal, Seq};
 use refusal_places::name_at;
@@ -26,9 +27,11 @@ pub(crate) enum Subject {
     /// A store that is not defined, and a group that is not.
     NoStore,
     NoGroup,
-    /// The word of the line that is wrong, and one that is in the brackets of a virtual key.
+    /// The word of the line that is wrong.
     Word(WrongToken),
+    /// A word in the brackets of a virtual key, and the name of a system store.
     KeyWord,
+    SystemName,
 }
 
 /// Returns the detail of a refusal of a source in UTF-8, given the causes for which names refuse its lines and the names that it defines.
@@ -59,14 +62,11 @@ fn subject_of(code: Code) -> Subject
         Code::C04 => Subject::GroupAgain,
         Code::C05 => Subject::NoStore,
         Code::C06 => Subject::NoGroup,
-        Code::L04
-        | Code::S01
-        | Code::S02
-        | Code::S05
-        | Code::S06
-        | Code::S09
-        | Code::S12 => Subject::Word(WrongToken::Stop),
+        Code::L04 | Code::S01 | Code::S02 | Code::S05 | Code::S06 | Code::S09 => {
+            Subject::Word(WrongToken::Stop)
+        }
         Code::S11 => Subject::KeyWord,
+        Code::S12 => Subject::SystemName,
         Code::C11 => Subject::Word(WrongToken::CallName),
         Code::C12 => Subject::Word(WrongToken::LeftOut),
         _ => Subject::Nothing,
@@ -93,6 +93,7 @@ fn detail_about(
         Subject::NoGroup => lacked(alloc, name, names.groups.as_slice()),
         Subject::Word(wrong) => word_detail(alloc, source, refusal, wrong),
         Subject::KeyWord => key_detail(alloc, source, refusal),
+        Subject::SystemName => system_detail(alloc, source, refusal),
     }
 }
 
@@ -119,5 +120,16 @@ fn key_detail(alloc: Global, source: &str, refusal: Refusal) -> Result<Detail, M
 {
     let word = source_text(alloc, source, refusal.line, refusal.code, WrongToken::Stop)?;
     let near = meant(alloc, word.as_slice())?;
+    Ok(worded(word, near))
+}
+
+/// Returns the word of the refused line that is wrong, with the names of system stores that it is like.
+#[tactic(auto, unfolding(crate::specs::Details::system_detail))]
+fn system_detail(alloc: Global, source: &str, refusal: Refusal) -> Result<Detail, Memory>
+    requires { length source.now ≤ TEXT_BYTES }
+    ensures { IfOk result (λ detail. detail ≡ system_detail source.now refusal) }
+{
+    let word = source_text(alloc, source, refusal.line, refusal.code, WrongToken::Stop)?;
+    let near = like_systems(alloc, word.as_slice())?;
     Ok(worded(word, near))
 }

@@ -6,8 +6,8 @@
 //! defines: each refusal with its place and its `Detail`. `specs/Details` has the subject of each code and the detail of each subject. The
 //! word of a refused line is the one at which reading the line stops (`specs/Words`), a number that has a fault (`specs/Faulty`), or one
 //! that is not supported (`specs/LeftOut`). A name is like a word if they differ in one letter (`specs/Letters`): a letter is replaced,
-//! added or left out, or two neighbors are exchanged. At most three such names are returned (`specs/Nearest`, `specs/Keys`).
-//! `specs/Definitions` and `specs/Defined` state which names a source defines, and in which line first.
+//! added or left out, or two neighbors are exchanged. At most three such names are returned (`specs/Nearest`, `specs/Keys`,
+//! `specs/Systems`). `specs/Definitions` and `specs/Defined` state which names a source defines, and in which line first.
 #![tactic(auto)]
 
 mod defined;
@@ -20,6 +20,7 @@ mod keys;
 mod left_out;
 mod letters;
 mod nearest;
+mod systems;
 mod words;
 
 pub use detail::{Detail, Explained, unexplained};
