@@ -34,12 +34,7 @@ fn all_like_systems(alloc: Global, word: &[u8]) -> Result<Seq<Text>, Memory>
 }
 
 /// Appends the name of the system store with an id, if there is one and a word is like it.
-fn add_like_system(
-    alloc: Global,
-    names: &mut Seq<Text>,
-    word: &[u8],
-    id: u32,
-) -> Result<(), Memory>
+fn add_like_system(alloc: Global, names: &mut Seq<Text>, word: &[u8], id: u32) -> Result<(), Memory>
     ensures { OnOk result (names.new ≡ names.old ++ like_name word.now (system_name id)) }
 {
     let name = system_name(alloc, id)?;
