@@ -1,4 +1,5 @@
 pub mod Meanings
+pub mod Details
 pub mod WarningTexts
 pub mod Shown
 pub mod Printed

@@ -5,8 +5,9 @@ use Rattle.std.specs.Fmt.{decimal}
 use Rattle.kmn_base.specs.CodeTexts.{code_text}
 use Rattle.kmn_base.specs.declared.refusals.Refusal.{Refusal}
 use Rattle.rule_model.specs.Lines.{refusal_line}
-use Rattle.refusal_places.specs.Placed.{at_start}
 use Rattle.refusal_places.specs.declared.placed_refusal.Placed.{Placed}
+use Rattle.refusal_details.specs.Explained.{unexplained}
+use Rattle.refusal_details.specs.declared.detail.Explained.{Explained}
 use Rattle.name_warnings.specs.declared.warning.Warning.{Warning}
 use Rattle.name_warnings.specs.declared.warning.WarningKind.{WarningKind}
 use Rattle.keyman_words.specs.Reasons.{reason_line}
@@ -21,21 +22,26 @@ use Rattle.keyman_run.specs.declared.preparing.Stop.{Stop}
 use Rattle.keyman_run.specs.declared.preparing.Stop.TheVariants as stop
 use Rattle.check_run.specs.declared.findings.Findings.{Findings}
 use Rattle.check_run.specs.declared.findings.Findings.TheVariants as findings
+use Rattle.check_run.specs.Details.{detail_text}
 use Rattle.check_run.specs.Meanings.{meaning}
 use Rattle.check_run.specs.WarningTexts.{is_note, warning_code, warning_text}
 
--- the line of a refusal, in the form that editors read: the given name of the source, the line, the column, the code and its meaning
-unfoldable pub error_line : List ℕ → Placed → List ℕ
+-- the text of a place: the line and the column, between the given name of the source and the code
+unfoldable pub place_text : Placed → List ℕ
+place_text placed = concat (codes ":" ∷ decimal placed.line ∷ codes ":" ∷ decimal placed.column ∷ codes ": error " ∷ [])
+
+-- the line of a refusal, in the form that editors read: the given name of the source, the place, the code with its meaning, and the detail
+unfoldable pub error_line : List ℕ → Explained → List ℕ
 error_line file error = concat (
-    file ∷ codes ":" ∷ decimal error.line ∷ codes ":" ∷ decimal error.column ∷ codes ": error " ∷ code_text error.code ∷ codes ": "
-    ∷ meaning error.code ∷ codes "\n" ∷ [])
+    file ∷ place_text error.placed ∷ code_text error.placed.code ∷ codes ": " ∷ meaning error.placed.code ∷ detail_text error.detail
+    ∷ codes "\n" ∷ [])
 
 -- the line for refusals that are not printed
 abbrev pub rest_line : ℕ → List ℕ
 rest_line count = if nat_eq count 0 then [] else concat (codes "and " ∷ decimal count ∷ codes " more\n" ∷ [])
 
 -- the text of refusals and of the number of those that are not printed: its last line is the one of the refusal that compilation reports
-abbrev pub refused_text : List ℕ → Refusal → List Placed → ℕ → List ℕ
+abbrev pub refused_text : List ℕ → Refusal → List Explained → ℕ → List ℕ
 refused_text file first errors more = flat_map (error_line file) errors ++ (rest_line more ++ refusal_line first)
 
 -- whether a warning is a note, and whether it is not
@@ -78,10 +84,10 @@ abbrev pub check_ending : List ℕ → Findings → Ending
 check_ending file found = record { status = check_status found; file = None; printed = check_text file found }
 
 -- the line of a reason in the form that editors read: a limit that the picture or the file exceeds is an error of line 1. No other
--- reason stops a check. Its place is the start of its line
+-- reason stops a check. Its place is the start of its line, and it has no detail
 abbrev pub reason_error : List ℕ → Reason → List ℕ
-reason_error file (reason.Line found) = error_line file (at_start found)
-reason_error file (reason.Size code size) = error_line file (at_start (record { line = 1; code = code }))
+reason_error file (reason.Line found) = error_line file (unexplained found)
+reason_error file (reason.Size code size) = error_line file (unexplained (record { line = 1; code = code }))
 reason_error file other = []
 
 -- the text of a reason for which a check stops: its last line is the line that compilation prints

@@ -1,9 +1,10 @@
--- The codes and the texts of warnings and notes. Names are printed as they are in the source.
+-- The codes and the texts of warnings and notes. Names are printed in the form `shown_text`.
 use Rattle.std.specs.Prelude.{ℕ, nat_eq, Bool, true, false, if◌then◌else◌, List, [], ◌∷◌, ◌++◌, length, flat_map, codes, encode_utf8_all}
 use Rattle.std.specs.List.{concat}
 use Rattle.std.specs.Fmt.{decimal}
 use Rattle.name_warnings.specs.declared.warning.WarningKind.{WarningKind}
 use Rattle.name_warnings.specs.declared.warning.WarningKind.TheVariants as kind
+use Rattle.check_run.specs.Details.{shown_text}
 
 -- the code of a warning
 abbrev pub warning_code : WarningKind → List ℕ
@@ -38,10 +39,10 @@ is_note other = false
 
 -- a text with a name in it, and one with two names
 abbrev pub around : List ℕ → List ℕ → List ℕ → List ℕ
-around front name rest = concat (front ∷ name ∷ rest ∷ [])
+around front name rest = concat (front ∷ shown_text name ∷ rest ∷ [])
 
 abbrev pub around_two : List ℕ → List ℕ → List ℕ → List ℕ → List ℕ → List ℕ
-around_two front name between other rest = concat (front ∷ name ∷ between ∷ other ∷ rest ∷ [])
+around_two front name between other rest = concat (front ∷ shown_text name ∷ between ∷ shown_text other ∷ rest ∷ [])
 
 -- the text of a warning about one name; other warnings have none here
 abbrev pub named_text : WarningKind → List ℕ

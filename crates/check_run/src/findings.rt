@@ -1,7 +1,7 @@
 //! What a check finds in a source.
 
 use kmn_base::{Refusal, Seq};
-use refusal_places::Placed;
+use refusal_details::Explained;
 use source_warnings::Warning;
 
 /// What a check finds in a source that it reads whole.
@@ -11,7 +11,7 @@ pub(crate) enum Findings {
     /// `more` is the number of the others.
     Refused {
         first: Refusal,
-        errors: Seq<Placed>,
+        errors: Seq<Explained>,
         more: usize,
     },
     /// The source compiles. Its warnings are in the order of lines.

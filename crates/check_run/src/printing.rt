@@ -2,9 +2,11 @@
 
 ghost use Rattle.std.specs.Prelude.{◌≡◌, ◌++◌, flat_map, IfOk, OnOk};
 ghost use Rattle.check_run.specs.Meanings.{meaning};
-ghost use Rattle.check_run.specs.Printed.{PrintsStopped, accepted_text, check_status, check_text, error_line, reason_error, refused_text, rest_line, stopped_text};
+ghost use Rattle.check_run.specs.Printed.{PrintsStopped, accepted_text, check_status, check_text, error_line, place_text, reason_error, refused_text, rest_line, stopped_text};
 ghost use Rattle.keyman_words.specs.Tells.{Tells};
+ghost use Rattle.refusal_details.specs.Explained.{unexplained};
 
+use crate::details::put_detail;
 use crate::findings::Findings;
 use crate::meanings::{program_meaning, statement_meaning, token_meaning};
 use crate::warning_lines::accepted_text;
@@ -13,7 +15,8 @@ use keyman_words::{Reason, Status, print_result, reason_line};
 use kmn_base::{Code, Memory, Refusal, Seq, Text};
 use kmn_outside::Sink;
 use name_warnings::Warning;
-use refusal_places::{Placed, at_start};
+use refusal_details::{Explained, unexplained};
+use refusal_places::Placed;
 use std::alloc::Global;
 
 /// Prints what a check finds in a source with a name.
@@ -49,7 +52,7 @@ fn print_refused<S: Sink>(
     alloc: Global,
     file: &[u8],
     first: Refusal,
-    errors: &[Placed],
+    errors: &[Explained],
     more: usize,
     out: &mut S,
 ) -> Status
@@ -89,10 +92,18 @@ fn reason_error(alloc: Global, file: &[u8], why: Reason) -> Result<Text, Memory>
     ensures { IfOk result (λ line. line ≡ reason_error file.now why) }
 {
     match why {
-        Reason::Line(refusal) => error_line(alloc, file, at_start(refusal)),
-        Reason::Size { code, .. } => error_line(alloc, file, at_start(Refusal { line: 1, code })),
+        Reason::Line(refusal) => plain_line(alloc, file, refusal),
+        Reason::Size { code, .. } => plain_line(alloc, file, Refusal { line: 1, code }),
         _ => Ok(Seq::new(alloc)),
     }
+}
+
+/// Returns the line of a refusal at the start of its line, without a detail.
+fn plain_line(alloc: Global, file: &[u8], refusal: Refusal) -> Result<Text, Memory>
+    ensures { IfOk result (λ line. line ≡ error_line file.now (unexplained refusal)) }
+{
+    let error = unexplained(refusal);
+    error_line(alloc, file, &error)
 }
 
 /// Returns the text of refusals that are printed, and of the number of the others. The first refusal is the one that compilation reports.
@@ -100,7 +111,7 @@ fn refused_text(
     alloc: Global,
     file: &[u8],
     first: Refusal,
-    errors: &[Placed],
+    errors: &[Explained],
     more: usize,
 ) -> Result<Text, Memory>
     ensures { IfOk result (λ text. text ≡ refused_text file.now first errors.now more) }
@@ -113,28 +124,42 @@ fn refused_text(
 }
 
 /// Appends the lines of refusals.
-fn put_lines(alloc: Global, lines: &mut Text, file: &[u8], errors: &[Placed]) -> Result<(), Memory>
+fn put_lines(
+    alloc: Global,
+    lines: &mut Text,
+    file: &[u8],
+    errors: &[Explained],
+) -> Result<(), Memory>
     ensures { OnOk result (lines.new ≡ lines.old ++ flat_map (error_line file.now) errors.now) }
 {
     for error in errors {
-        lines.append(error_line(alloc, file, *error)?)?;
+        lines.append(error_line(alloc, file, error)?)?;
     }
     Ok(())
 }
 
 /// Returns the line of a refusal.
 #[tactic(auto, unfolding(crate::specs::Printed::error_line))]
-fn error_line(alloc: Global, file: &[u8], error: Placed) -> Result<Text, Memory>
-    ensures { IfOk result (λ line. line ≡ error_line file.now error) }
+fn error_line(alloc: Global, file: &[u8], error: &Explained) -> Result<Text, Memory>
+    ensures { IfOk result (λ line. line ≡ error_line file.now error.now) }
 {
     let mut line = Seq::from_slice(alloc, file)?;
-    let place = format!(in alloc; ":{}:{}: error ", error.line, error.column)?;
-    line.extend_from_slice(place.as_bytes())?;
-    line.extend_from_slice(error.code.text())?;
+    line.append(place_text(alloc, error.placed)?)?;
+    line.extend_from_slice(error.placed.code.text())?;
     line.extend_from_slice(b": ")?;
-    put_meaning(&mut line, error.code)?;
+    put_meaning(&mut line, error.placed.code)?;
+    put_detail(alloc, &mut line, &error.detail)?;
     line.extend_from_slice(b"\n")?;
     Ok(line)
+}
+
+/// Returns the text of a place, between the name of the source and the code.
+#[tactic(auto, unfolding(crate::specs::Printed::place_text))]
+fn place_text(alloc: Global, placed: Placed) -> Result<Text, Memory>
+    ensures { IfOk result (λ text. text ≡ place_text placed) }
+{
+    let text = format!(in alloc; ":{}:{}: error ", placed.line, placed.column)?;
+    Ok(Text::from_string(text))
 }
 
 /// Appends the meaning of a code.

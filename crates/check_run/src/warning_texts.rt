@@ -4,6 +4,7 @@ ghost use Rattle.std.specs.Prelude.{◌≡◌, ◌++◌, encode_utf8_all, IfOk, 
 ghost use Rattle.check_run.specs.WarningTexts.{around, around_two, element_before, element_between, fixed_text, is_note, joined_text, keys_before, named_text, size_after, size_between, warning_code, warning_text};
 
 use crate::line_lists::{put_never_first, put_too_many};
+use crate::shown_words::put_shown;
 use kmn_base::{Memory, Text};
 use source_warnings::WarningKind;
 use std::alloc::Global;
@@ -116,7 +117,7 @@ fn put_around(line: &mut Text, front: &[u8], name: &Text, rest: &[u8]) -> Result
     ensures { OnOk result (line.new ≡ line.old ++ around front.now name.now rest.now) }
 {
     line.extend_from_slice(front)?;
-    line.extend_from_slice(name.as_slice())?;
+    put_shown(line, name.as_slice())?;
     line.extend_from_slice(rest)
 }
 
@@ -132,9 +133,9 @@ fn put_around_two(
     ensures { OnOk result (line.new ≡ line.old ++ around_two front.now name.now between.now other.now rest.now) }
 {
     line.extend_from_slice(front)?;
-    line.extend_from_slice(name.as_slice())?;
+    put_shown(line, name.as_slice())?;
     line.extend_from_slice(between)?;
-    line.extend_from_slice(other.as_slice())?;
+    put_shown(line, other.as_slice())?;
     line.extend_from_slice(rest)
 }
 

@@ -14,13 +14,31 @@ const CHECKS: &str = "\
 == nothing
 begin Unicode > use(main)¶group(main) using keys¶+ 'a' > 'b' ⇒ 0 checked warnings=0 notes=0¶
 == errors, in the order of lines, and no warnings beside them
-store(a) 'x'¶begin Unicode > use(main)¶group(main) using keys¶+ 'a' > outs(v)¶+ 'c' > 'd ⇒ 1 in:4:14: error C05: a store that is not stated¶in:5:9: error L03: a quote that is not closed¶refused L03 line 5¶
+store(a) 'x'¶begin Unicode > use(main)¶group(main) using keys¶+ 'a' > outs(v)¶+ 'c' > 'd ⇒ 1 in:4:14: error C05: a store that is not stated: 'v', perhaps a¶in:5:9: error L03: a quote that is not closed¶refused L03 line 5¶
 == columns count characters, in the physical line of the token
-begin Unicode > use(main)¶group(main) using keys¶  + 'â' > 'é𐐀' hello ⇒ 1 in:3:16: error S06: an item that may not stand in an output or a store¶refused S06 line 3¶
+begin Unicode > use(main)¶group(main) using keys¶  + 'â' > 'é𐐀' hello ⇒ 1 in:3:16: error S06: an item that may not stand in an output or a store: 'hello'¶refused S06 line 3¶
 begin Unicode > use(main)¶group(main) using keys¶+ 'a' > \\¶  'b¶  'c' > 'd' ⇒ 1 in:4:3: error L03: a quote that is not closed¶in:5:3: error S08: no + in a group with keys¶refused L03 line 3¶
 begin Unicode > use(main)¶group(main)¶$keyman: 'a' + 'b' > 'c' ⇒ 1 in:3:14: error S07: a + in a group without keys¶refused S07 line 3¶
 == the name that a line lacks
-begin Unicode > use(mian)¶group(main) using keys¶dk(v) + 'a' > dk(v) $v ⇒ 1 in:1:21: error C06: a group that is not stated¶in:3:21: error C05: a store that is not stated¶refused C06 line 1¶
+begin Unicode > use(mian)¶group(main) using keys¶dk(v) + 'a' > dk(v) $v ⇒ 1 in:1:21: error C06: a group that is not stated: 'mian', perhaps main¶in:3:21: error C05: a store that is not stated: 'v'¶refused C06 line 1¶
+== the line that defines a name first
+store(v) 'a'¶store(V) 'b'¶begin Unicode > use(main)¶group(main) using keys¶+ 'a' > 'b' ⇒ 1 in:2:1: error C03: a store stated twice: 'V', already defined in line 1¶refused C03 line 2¶
+begin Unicode > use(main)¶group(main) using keys¶+ 'a' > 'b'¶group(Main) ⇒ 1 in:4:1: error C04: a group stated twice: 'Main', already defined in line 2¶refused C04 line 4¶
+== a name that is not defined, with the names that differ from it in one letter
+store(vowels) 'aeiou'¶store(vowl) 'x'¶begin Unicode > use(main)¶group(main) using keys¶+ 'a' > outs(Vowel) ⇒ 1 in:5:14: error C05: a store that is not stated: 'Vowel', perhaps vowels, perhaps vowl¶refused C05 line 5¶
+== a word in the brackets of a virtual key, with at most three names of keys and modifiers that it may mean
+begin Unicode > use(main)¶group(main) using keys¶+ [K_ENTR] > 'b'¶+ [SHFT K_A] > 'b'¶+ [TAB] > 'b'¶+ [K_1O] > 'b'¶+ [K_] > 'b'¶+ [K_A SHIFT] > 'b'¶+ [] > 'b' ⇒ 1 in:3:4: error S11: a bracket that is no virtual key: 'K_ENTR', perhaps K_ENTER¶in:4:4: error S11: a bracket that is no virtual key: 'SHFT', perhaps SHIFT¶in:5:4: error S11: a bracket that is no virtual key: 'TAB', perhaps K_TAB¶in:6:4: error S11: a bracket that is no virtual key: 'K_1O', perhaps K_1, perhaps K_O¶in:7:4: error S11: a bracket that is no virtual key: 'K_'¶in:8:8: error S11: a bracket that is no virtual key: 'SHIFT'¶in:9:4: error S11: a bracket that is no virtual key: ']'¶refused S11 line 3¶
+== the token at which reading a line stops, unless something is missing there
+begin Unicode > use(main)¶group(main) using keys¶+ 'a' 'b' > 'x'¶+ 'a' > ''¶+ > 'x'¶+ 'a' > 8¶+ 'a' > use main¶'a' if(o = '1') + 'b' > 'c'¶store(&hotkye) 'a'¶stoer(v) 'a' ⇒ 1 in:3:7: error S05: an item that may not stand before the >: 'b'¶in:4:1: error S06: an item that may not stand in an output or a store¶in:5:3: error S05: an item that may not stand before the >¶in:6:9: error L04: a number that is no character: '8'¶in:7:13: error S02: parentheses that are not as they should be: 'main'¶in:8:5: error S09: a condition behind a pattern: 'if'¶in:9:7: error S12: a system store that there is not: '&hotkye', perhaps &hotkey¶in:10:1: error S01: a line that is no statement: 'stoer'¶refused S05 line 3¶
+== a number that is not a character, in the physical line that has it
+begin Unicode > use(main)¶group(main) using keys¶+ 'a' > 'b' \\¶  u+d800 \\¶  U+12¶+ 'c' > U+123456x ⇒ 1 in:4:3: error L04: a number that is no character: 'u+d800'¶in:6:9: error L04: a number that is no character: 'U+123456x'¶refused L04 line 3¶
+== the word that is not supported, not an equal name
+store(fix) 'x'¶begin Unicode > use(main)¶group(main) using keys¶+ [K_B] > outs(fix) fix¶+ 'b' > [K_A]¶store(&shiftfreescaps) '1'¶+ 'c' > call(f) ⇒ 1 in:4:1: error C12: something that is left out: 'fix'¶in:5:1: error C12: something that is left out: '['¶in:6:1: error C12: something that is left out: '&shiftfreescaps'¶in:7:1: error C11: a call: 'f'¶refused C12 line 4¶
+== characters that a terminal obeys, and words of more than 80 characters
+store(b\u{1B}) 'x'¶begin Unicode > use(main)¶group(main) using keys¶+ 'a' > 'b' ⇒ 0 in:1: warning W01: store 'b?' is used nowhere¶checked warnings=1 notes=0¶
+begin Unicode > use(main)¶group(main) using keys¶+ 'a' > $v\u{1B}\u{9B}\u{E9} ⇒ 1 in:3:9: error C05: a store that is not stated: 'v?¿é'¶refused C05 line 3¶
+begin Unicode > use(main)¶group(main) using keys¶éééééééééééééééééééééééééééééééééééééééééééééééééééééééééééééééééééééééééééééééé ⇒ 1 in:3:1: error S01: a line that is no statement: 'éééééééééééééééééééééééééééééééééééééééééééééééééééééééééééééééééééééééééééééééé'¶refused S01 line 3¶
+begin Unicode > use(main)¶group(main) using keys¶ééééééééééééééééééééééééééééééééééééééééééééééééééééééééééééééééééééééééééééééééé ⇒ 1 in:3:1: error S01: a line that is no statement: 'éééééééééééééééééééééééééééééééééééééééééééééééééééééééééééééééééééééééééééééééé..'¶refused S01 line 3¶
 == a refusal without a token
  ⇒ 1 in:1:1: error C01: no begin Unicode¶refused C01 line 1¶
 == each text of a warning
