@@ -1,5 +1,5 @@
 -- What is found in the bytes of a source, and how a check of them continues.
-use Rattle.std.proofs.Common.{◌≡◌, ℕ, ◌<◌, ◌≤◌, List, [], ◌∷◌, length, get_or, Result, Ok, Err, refl, sym, ap, ◌∙◌, subst, arith}
+use Rattle.std.proofs.Common.{◌≡◌, ℕ, ◌<◌, ◌≤◌, List, [], ◌∷◌, length, get_or, Option, Result, Ok, Err, refl, sym, ap, ◌∙◌, subst, arith}
 use Rattle.kmn_base.specs.declared.refusals.Refusal.{Refusal}
 use Rattle.rule_model.specs.declared.program.Program.{Program}
 use Rattle.source_faults.specs.Faults.{faults}
@@ -10,46 +10,46 @@ use Rattle.keyman_words.specs.Seen.{FolderView}
 use Rattle.keyman_words.specs.declared.reason.Reason.{Reason}
 use Rattle.keyman_run.specs.Steps.{Gives, States, itself}
 use Rattle.keyman_run.specs.Work.{given}
-use Rattle.keyman_run.specs.Work.Work.{Give}
 use Rattle.keyman_run.specs.declared.preparing.Stop.{Stop}
 use Rattle.keyman_run.specs.declared.preparing.Stop.TheVariants as stop
 use Rattle.keyman_run.proofs.RunLaws.{gives_as, gives_no_memory, gives_refused, gives_value}
 use Rattle.check_run.specs.declared.findings.Findings.{Findings}
 use Rattle.check_run.specs.declared.findings.Findings.TheVariants as findings
-use Rattle.check_run.specs.Orders.{bytes_check_work, file_check_work, further_work, warnings_found}
+use Rattle.check_run.specs.declared.findings.InputFindings.{InputFindings}
+use Rattle.check_run.specs.Orders.{bytes_check_work, file_check_work, findings_given, further_work, warnings_found}
 
 none_if_short : (refusals : List Refusal) → length refusals < 1 → refusals ≡ []
 none_if_short [] few = refl
 none_if_short (found ∷ refusals) few = absurd (omega (arith, few))
 
-module _ {F : Type 0} (source bytes : List ℕ) (folders : FolderView F) (folder : F) (refusals : List Refusal) (is : refusals ≡ faults bytes) where
+module _ {F : Type 0} (source : List ℕ) (layout keys : Option (List ℕ)) (bytes : List ℕ) (folders : FolderView F) (folder : F) (refusals : List Refusal) (is : refusals ≡ faults bytes) where
   -- without a refused line, the source is compiled
-  pub checks_file : (after : F) (result : Result Findings Stop) → length refusals < 1 → Gives itself (file_check_work source bytes) folders folder after result
-      → Gives itself (bytes_check_work source bytes) folders folder after result
+  pub checks_file : (after : F) (result : Result Findings Stop) → length refusals < 1 → Gives itself (file_check_work source layout keys bytes) folders folder after result
+      → Gives itself (bytes_check_work source layout keys bytes) folders folder after result
   checks_file after result few gives =
-      gives_as itself (file_check_work source bytes) (bytes_check_work source bytes) folders folder after result
-      (ap (further_work source bytes) (sym (none_if_short refusals few) ∙ is)) gives
+      gives_as itself (file_check_work source layout keys bytes) (bytes_check_work source layout keys bytes) folders folder after result
+      (ap (further_work source layout keys bytes) (sym (none_if_short refusals few) ∙ is)) gives
 
   more_given : (other : Refusal) (found : List Refusal) → 1 ≤ length found
-      → Gives itself (further_work source bytes found) folders folder folder (Ok (findings.Refused (get_or found 0 other) found))
+      → Gives itself (further_work source layout keys bytes found) folders folder folder (Ok (findings.Refused (get_or found 0 other) found))
   more_given other [] some = absurd (omega (arith, some))
   more_given other (first ∷ others) some = gives_value itself folders folder (findings.Refused first (first ∷ others))
 
   -- with a refused line, its refusals are the result, and the first of them is the one that compilation reports
   pub refuses_lines : (listed : List Refusal) (other : Refusal) → listed ≡ refusals → 1 ≤ length listed
-      → Gives itself (bytes_check_work source bytes) folders folder folder (Ok (findings.Refused (get_or listed 0 other) refusals))
+      → Gives itself (bytes_check_work source layout keys bytes) folders folder folder (Ok (findings.Refused (get_or listed 0 other) refusals))
   refuses_lines listed other same some =
-      gives_as itself (further_work source bytes refusals) (bytes_check_work source bytes) folders folder folder (Ok (findings.Refused (get_or listed 0 other) refusals))
-      (ap (further_work source bytes) is)
-      (subst (λ (list : List Refusal). Gives itself (further_work source bytes refusals) folders folder folder (Ok (findings.Refused (get_or list 0 other) refusals))) (sym same)
+      gives_as itself (further_work source layout keys bytes refusals) (bytes_check_work source layout keys bytes) folders folder folder (Ok (findings.Refused (get_or listed 0 other) refusals))
+      (ap (further_work source layout keys bytes) is)
+      (subst (λ (list : List Refusal). Gives itself (further_work source layout keys bytes refusals) folders folder folder (Ok (findings.Refused (get_or list 0 other) refusals))) (sym same)
       (more_given other refusals (subst (λ (list : List Refusal). 1 ≤ length list) same some)))
 
--- the warnings of a program are what is found
-pub warnings_given : {F : Type 0} (bytes : List ℕ) (program : Program) (folders : FolderView F) (folder : F) (found : List Warning) → found ≡ warnings program (aside_words bytes)
-    → Gives itself (Give (warnings_found bytes program)) folders folder folder (Ok (findings.Accepted found))
-warnings_given bytes program folders folder found is =
-    subst (λ (list : List Warning). Gives itself (Give (warnings_found bytes program)) folders folder folder (Ok (findings.Accepted list))) (sym is)
-    (gives_value itself folders folder (warnings_found bytes program))
+-- the warnings of a program are what is found, beside what is found in its inputs
+pub warnings_given : {F : Type 0} (bytes : List ℕ) (program : Program) (inputs : InputFindings) (folders : FolderView F) (folder : F) (found : List Warning) → found ≡ warnings program (aside_words bytes)
+    → Gives itself (findings_given bytes program inputs) folders folder folder (Ok (findings.Accepted found inputs))
+warnings_given bytes program inputs folders folder found is =
+    subst (λ (list : List Warning). Gives itself (findings_given bytes program inputs) folders folder folder (Ok (findings.Accepted list inputs))) (sym is)
+    (gives_value itself folders folder (warnings_found bytes program inputs))
 
 -- the specified result of a step that makes no call is the result of its work
 pub states_given : {F A : Type 0} (read : Result A Reason) (folders : FolderView F) (folder : F) (result : Result A Stop) → States itself read result

@@ -1,3 +1,4 @@
+pub mod Inputs
 pub mod Meanings
 pub mod WarningTexts
 pub mod Printed

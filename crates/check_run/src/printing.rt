@@ -1,45 +1,104 @@
 //! What a check prints, and the status that it ends with.
 
-ghost use Rattle.std.specs.Prelude.{◌≡◌, ◌++◌, flat_map, IfOk, OnOk};
-ghost use Rattle.check_run.specs.Meanings.{meaning};
-ghost use Rattle.check_run.specs.Printed.{PrintsStopped, check_ending, error_line, error_lines, late, late_line, reason_error, refused_text, rest_count, rest_line, stopped_text};
+ghost use Rattle.std.specs.Prelude.{◌≡◌, ◌++◌, flat_map, option_map, IfOk, OnOk};
+ghost use Rattle.check_run.specs.Inputs.{is_accepted, is_sound};
+ghost use Rattle.check_run.specs.Printed.{PrintsStopped, accepted_text, check_ending, error_line, error_lines, input_status, late, late_line, name_of, refused_text, rest_count, rest_line, stopped_text};
 ghost use Rattle.keyman_words.specs.Tells.{Tells};
 
-use crate::findings::Findings;
-use crate::meanings::{program_meaning, statement_meaning, token_meaning};
-use crate::warning_lines::accepted_text;
+use crate::error_lines::{error_line, reason_error};
+use crate::findings::{Findings, InputFindings, ScriptFindings};
+use crate::input_lines::accepted_text;
 use keyman_run::Stop;
 use keyman_words::{Reason, Status, print_result, reason_line};
 use kmn_base::slices::{before, behind};
-use kmn_base::{Code, Memory, Refusal, Seq, Text};
+use kmn_base::{Memory, Refusal, Seq, Text};
 use kmn_outside::Sink;
 use source_faults::sort_by_line;
+use source_warnings::Warning;
 use std::alloc::Global;
 
 /// The number of refusals that are printed because of their lines. The one that compilation reports is always printed.
 const SHOWN: usize = 100;
 
-/// Prints what a check finds in a source with a name.
+/// Prints what a check finds in a source with a name, and in the layout and the script with the other names.
 #[tactic(auto, using(keyman_words::proofs::Printed::tells_made))]
 pub(crate) fn print_findings<S: Sink>(
     alloc: Global,
-    file: &[u8],
+    source: &[u8],
+    layout: Option<&Text>,
+    keys: Option<&Text>,
     findings: &Findings,
     out: &mut S,
 ) -> Status
-    ensures { Tells (check_ending file.now findings.now).status (check_ending file.now findings.now).printed S.Sink out.old out.new result }
+    ensures { Tells (check_ending source.now (option_map (λ name. name.now) layout.entry) (option_map (λ name. name.now) keys.entry) findings.now).status
+        (check_ending source.now (option_map (λ name. name.now) layout.entry) (option_map (λ name. name.now) keys.entry) findings.now).printed S.Sink out.old out.new result }
 {
     match findings {
-        Findings::Accepted { warnings } => print_result(
-            accepted_text(alloc, file, warnings.as_slice()),
-            Status::Done,
+        Findings::Accepted { warnings, inputs } => print_accepted(
+            alloc,
+            source,
+            name_of(layout),
+            name_of(keys),
+            warnings.as_slice(),
+            inputs,
             out,
         ),
         Findings::Refused { first, refusals } => print_result(
-            refused_text(alloc, file, *first, refusals.as_slice()),
+            refused_text(alloc, source, *first, refusals.as_slice()),
             Status::Refused,
             out,
         ),
+    }
+}
+
+/// Returns the name of an input, or no bytes if there is none.
+fn name_of(name: Option<&Text>) -> &[u8]
+    ensures { result.now ≡ name_of (option_map (λ name. name.now) name.entry) }
+{
+    match name {
+        Some(name) => name.as_slice(),
+        None => &[],
+    }
+}
+
+/// Prints what a check finds in a source that is not refused, in a layout and in a script.
+#[tactic(auto, using(keyman_words::proofs::Printed::tells_made))]
+fn print_accepted<S: Sink>(
+    alloc: Global,
+    source: &[u8],
+    layout: &[u8],
+    keys: &[u8],
+    warnings: &[Warning],
+    inputs: &InputFindings,
+    out: &mut S,
+) -> Status
+    ensures { Tells (input_status inputs.now) (accepted_text source.now layout.now keys.now warnings.now inputs.now) S.Sink out.old out.new result }
+{
+    let text = accepted_text(alloc, source, layout, keys, warnings, inputs);
+    if is_sound(inputs) {
+        print_result(text, Status::Done, out)
+    } else {
+        print_result(text, Status::Refused, out)
+    }
+}
+
+/// Returns whether neither a layout nor a script is refused.
+fn is_sound(inputs: &InputFindings) -> bool
+    ensures { result ≡ is_sound inputs.now.layout inputs.now.script }
+{
+    match inputs.layout {
+        Some(_) => false,
+        None => is_accepted(&inputs.script),
+    }
+}
+
+/// Returns whether a script is accepted.
+fn is_accepted(script: &ScriptFindings) -> bool
+    ensures { result ≡ is_accepted script.now }
+{
+    match script {
+        ScriptFindings::Refused(_) => false,
+        ScriptFindings::Accepted { .. } => true,
     }
 }
 
@@ -63,17 +122,6 @@ fn stopped_text(alloc: Global, file: &[u8], why: Reason) -> Result<Text, Memory>
     let mut text = reason_error(alloc, file, why)?;
     text.append(reason_line(alloc, why)?)?;
     Ok(text)
-}
-
-/// Returns the line of a reason in the form that editors read, and no text for a reason for which no check stops.
-fn reason_error(alloc: Global, file: &[u8], why: Reason) -> Result<Text, Memory>
-    ensures { IfOk result (λ line. line ≡ reason_error file.now why) }
-{
-    match why {
-        Reason::Line(refusal) => error_line(alloc, file, refusal),
-        Reason::Size { code, .. } => error_line(alloc, file, Refusal { line: 1, code }),
-        _ => Ok(Seq::new(alloc)),
-    }
 }
 
 /// Returns the text of refusals, the first of which compilation reports.
@@ -159,30 +207,6 @@ fn put_lines(
         lines.append(error_line(alloc, file, *refusal)?)?;
     }
     Ok(())
-}
-
-/// Returns the line of a refusal.
-#[tactic(auto, unfolding(crate::specs::Printed::error_line))]
-fn error_line(alloc: Global, file: &[u8], refusal: Refusal) -> Result<Text, Memory>
-    ensures { IfOk result (λ line. line ≡ error_line file.now refusal) }
-{
-    let mut line = Seq::from_slice(alloc, file)?;
-    let place = format!(in alloc; ":{}: error ", refusal.line)?;
-    line.extend_from_slice(place.as_bytes())?;
-    line.extend_from_slice(refusal.code.text())?;
-    line.extend_from_slice(b": ")?;
-    put_meaning(&mut line, refusal.code)?;
-    line.extend_from_slice(b"\n")?;
-    Ok(line)
-}
-
-/// Appends the meaning of a code.
-fn put_meaning(line: &mut Text, code: Code) -> Result<(), Memory>
-    ensures { OnOk result (line.new ≡ line.old ++ meaning code) }
-{
-    line.extend_from_slice(token_meaning(code).as_bytes())?;
-    line.extend_from_slice(statement_meaning(code).as_bytes())?;
-    line.extend_from_slice(program_meaning(code).as_bytes())
 }
 
 /// Appends the line for refusals that are not printed.

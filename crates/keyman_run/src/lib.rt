@@ -24,13 +24,7 @@ mod tracing;
 pub use keyman_words::Status;
 pub use layouts::read_keys;
 pub use preparing::{
-    Stop,
-    at_line_one,
-    compile_beside,
-    key_names,
-    read_entries,
-    read_file,
-    read_own_entries,
+    Stop, at_line_one, compile_beside, key_names, read_entries, read_file, read_own_entries,
     read_stop,
 };
 pub use running::{print_stop, run};
