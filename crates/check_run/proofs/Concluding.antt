@@ -4,12 +4,11 @@ use Rattle.std.proofs.Common.{◌≡◌, inl, ℕ, IsTrue, List, [], ◌∷◌, 
 use Rattle.std.specs.Prelude.{option_map, option_and_then}
 use Rattle.std.specs.Option.{option_map_or}
 use Rattle.kmn_outside.specs.Outside.{Files}
-use Rattle.kmn_outside.specs.declared.traits.Call.{Call}
 use Rattle.keyman_words.specs.Seen.{FolderView, SinkView, seen_folder}
 use Rattle.keyman_words.specs.Tells.{Tells}
 use Rattle.keyman_words.specs.declared.reason.Reason.{Reason}
 use Rattle.keyman_words.specs.declared.status.Status.{Status}
-use Rattle.keyman_run.specs.Asked.{Ask, AsksAll, AsksFirst, read_of, answered}
+use Rattle.keyman_run.specs.Asked.{Ask, read_of, answered}
 use Rattle.keyman_run.specs.Endings.{Ending, conclusion, ends, file_asks}
 use Rattle.keyman_run.specs.Run.{Does, HasBegunToRead, HasFailedToRead, HasRead, HasWorked, Written}
 use Rattle.keyman_run.specs.Steps.{Gives, itself}
@@ -17,6 +16,7 @@ use Rattle.keyman_run.specs.declared.preparing.Stop.{Stop}
 use Rattle.keyman_run.specs.declared.preparing.Stop.TheVariants as stop
 use Rattle.keyman_run.specs.Work.{Reading, Work, reading_of, reads, comes_to}
 use Rattle.keyman_run.specs.Work.Work.{Give, Refuse, Read}
+use Rattle.keyman_run.proofs.AskedLaws.{first_all}
 use Rattle.keyman_run.proofs.RunLaws.{does_told}
 use Rattle.check_run.specs.Orders.{concluded}
 use Rattle.check_run.specs.Printed.{PrintsStopped, stopped_ending}
@@ -55,9 +55,6 @@ module _ {A B : Type 0} (good : A → B) (bad : Reason → B) where
   comes_concluded files (Read name limit next) = found_comes files limit next (files name) (λ reading. comes_concluded files (next reading))
 
   module _ {F : Type 0} (work : Work A) (folders : FolderView F) (folder after : F) where
-    asks_of : List Ask
-    asks_of = reads (folders.files folder) (concluded good bad work)
-
     same_reads : reads (folders.files folder) work ≡ reads (folders.files folder) (concluded good bad work)
     same_reads = sym (reads_concluded (folders.files folder) work)
 
@@ -97,11 +94,10 @@ module _ {A B : Type 0} (good : A → B) (bad : Reason → B) where
     gives_lost value g = record {
       counts = g.counts;
       told = g.told;
-      gives = λ told. let h = came_so (Ok value) (g.gives told) in record { asked = all_first (folders.calls folder) (folders.calls after) asks_of h.1.asked; files = h.1.files };
+      gives = λ told.
+          let h = came_so (Ok value) (g.gives told) in
+          record { asked = first_all (reads (folders.files folder) (concluded good bad work)) (folders.calls folder) (folders.calls after) h.1.asked; files = h.1.files };
     }
-      where
-        all_first : (before calls : List Call) (wanted : List Ask) → AsksAll wanted before calls → AsksFirst wanted before calls
-        all_first before calls wanted all = record { front = wanted; rest = []; parts = sym (append-nil wanted); made = all }
 
 module _ {A : Type 0} (good : A → Ending) (bad : Reason → Ending) where
   pub ends_concluded : (files : Files) (work : Work A) (read : Result A Reason) → comes_to files work ≡ Some read → ends files (concluded good bad work) ≡ Some (value_of good bad read)

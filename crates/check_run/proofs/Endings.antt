@@ -1,20 +1,46 @@
 -- A run that prints what a check finds, or why it stops.
-use Rattle.std.proofs.Common.{◌≡◌, ℕ, List, Option, Ok, Err, refl, subst}
+use Rattle.std.proofs.Common.{◌≡◌, ℕ, Bool, true, false, if◌then◌else◌, List, Option, Ok, Err, refl, sym, subst}
 use Rattle.keyman_words.specs.Seen.{FolderView, SinkView}
 use Rattle.keyman_words.specs.Tells.{Tells}
 use Rattle.keyman_words.specs.declared.status.Status.{Status}
+use Rattle.keyman_words.specs.declared.status.Status.TheVariants as status
 use Rattle.keyman_run.specs.Run.{Does}
 use Rattle.keyman_run.specs.Steps.{Gives, itself}
 use Rattle.keyman_run.specs.declared.preparing.Stop.{Stop}
+use Rattle.name_warnings.specs.declared.warning.Warning.{Warning}
 use Rattle.check_run.specs.declared.findings.Findings.{Findings}
+use Rattle.check_run.specs.declared.findings.Findings.TheVariants as findings
+use Rattle.check_run.specs.declared.findings.InputFindings.{InputFindings}
+use Rattle.check_run.specs.Inputs.{is_sound}
 use Rattle.check_run.specs.Orders.{check_work, findings_work}
-use Rattle.check_run.specs.Printed.{PrintsStopped, check_ending, stopped_ending}
+use Rattle.check_run.specs.Printed.{PrintsStopped, accepted_text, check_ending, input_status, name_of, stopped_ending}
 use Rattle.check_run.proofs.Concluding.{concludes_told, concludes_stopped}
 
 -- the ending of a check is printed
 abbrev pub IsPrinted : {S : Type 0} → (file : List ℕ) → (layout keys : Option (List ℕ)) → Findings → SinkView S → S → S → Status → Type 0
 IsPrinted file layout keys found sinks out out_after how =
     Tells (check_ending file layout keys found).status (check_ending file layout keys found).printed sinks out out_after how
+
+module _ {S : Type 0} (text : List ℕ) (inputs : InputFindings) (sinks : SinkView S) (out out_after : S) (how : Status) where
+  by_soundness : (sound : Bool) → is_sound inputs.layout inputs.script ≡ sound → Tells (if sound then status.Done else status.Refused) text sinks out out_after how
+      → Tells (input_status inputs) text sinks out out_after how
+  by_soundness sound is tells =
+      subst (λ (b : Bool). Tells (if b then status.Done else status.Refused) text sinks out out_after how) (sym is) tells
+
+  -- if neither the layout nor the script is refused, the run ends well
+  pub sound_tells : is_sound inputs.layout inputs.script ≡ true → Tells status.Done text sinks out out_after how → Tells (input_status inputs) text sinks out out_after how
+  sound_tells is tells = by_soundness true is tells
+
+  -- if one of them is refused, the run ends with the status of a refusal
+  pub refused_tells : is_sound inputs.layout inputs.script ≡ false → Tells status.Refused text sinks out out_after how → Tells (input_status inputs) text sinks out out_after how
+  refused_tells is tells = by_soundness false is tells
+
+-- the text of a source that is not refused is the text of the check
+pub accepted_tells : {S : Type 0} (source layout_name keys_name : List ℕ) (layout keys : Option (List ℕ)) (listed warnings : List Warning) (inputs : InputFindings) (sinks : SinkView S) (out out_after : S) (how : Status)
+    → layout_name ≡ name_of layout → keys_name ≡ name_of keys → listed ≡ warnings → Tells (input_status inputs) (accepted_text source layout_name keys_name listed inputs) sinks out out_after how
+    → IsPrinted source layout keys (findings.Accepted warnings inputs) sinks out out_after how
+accepted_tells source layout_name keys_name layout keys listed warnings inputs sinks out out_after how same_layout same_keys same tells =
+    subst (λ (text : List ℕ). Tells (input_status inputs) text sinks out out_after how) (λ i. accepted_text source (same_layout i) (same_keys i) (same i) inputs) tells
 
 module _ {F S : Type 0} (file source : List ℕ) (layout keys : Option (List ℕ)) (folders : FolderView F) (folder after : F) (sinks : SinkView S) (out out_after : S) (how : Status) (same : file ≡ source) where
   -- a run that prints what it finds

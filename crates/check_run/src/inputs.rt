@@ -9,7 +9,7 @@ use crate::findings::{InputFindings, ScriptFindings};
 use crate::unknown::unknown_options;
 use keyman_run::{Stop, key_names, read_entries, read_keys};
 use keyman_words::{FileName, Reason};
-use kmn_base::{Seq, Text};
+use kmn_base::{Memory, Seq, Text};
 use kmn_outside::Folder;
 use rule_checker::Checked;
 use rule_model::{Entry, Tables};
@@ -120,7 +120,7 @@ fn script_findings(
     match read {
         Ok(entries) => match unknown_options(alloc, tables, entries.as_slice()) {
             Ok(unknown) => Ok(ScriptFindings::Accepted { unknown }),
-            Err(_) => Err(Stop::Memory),
+            Err(Memory) => Err(Stop::Memory),
         },
         Err(Stop::Refused(why)) => Ok(ScriptFindings::Refused(why)),
         Err(Stop::ReadFault) => Err(Stop::ReadFault),

@@ -21,7 +21,7 @@ use std::alloc::Global;
 const SHOWN: usize = 100;
 
 /// Prints what a check finds in a source with a name, and in the layout and the script with the other names.
-#[tactic(auto, using(keyman_words::proofs::Printed::tells_made))]
+#[tactic(auto, using(keyman_words::proofs::Printed::tells_made, crate::proofs::Endings::accepted_tells))]
 pub(crate) fn print_findings<S: Sink>(
     alloc: Global,
     source: &[u8],
@@ -62,7 +62,7 @@ fn name_of(name: Option<&Text>) -> &[u8]
 }
 
 /// Prints what a check finds in a source that is not refused, in a layout and in a script.
-#[tactic(auto, using(keyman_words::proofs::Printed::tells_made))]
+#[tactic(auto, using(keyman_words::proofs::Printed::tells_made, crate::proofs::Endings::sound_tells, crate::proofs::Endings::refused_tells))]
 fn print_accepted<S: Sink>(
     alloc: Global,
     source: &[u8],
