@@ -44,7 +44,7 @@ module _ {F : Type 0} (source : List ℕ) (layout keys : Option (List ℕ)) (byt
       (subst (λ (list : List Refusal). Gives itself (further_work source layout keys bytes refusals) folders folder folder (Ok (findings.Refused (get_or list 0 other) refusals))) (sym same)
       (more_given other refusals (subst (λ (list : List Refusal). 1 ≤ length list) same some)))
 
--- the warnings of a program are what is found, beside what is found in its inputs
+-- the warnings of a program and what is found in its inputs are what is found
 pub warnings_given : {F : Type 0} (bytes : List ℕ) (program : Program) (inputs : InputFindings) (folders : FolderView F) (folder : F) (found : List Warning) → found ≡ warnings program (aside_words bytes)
     → Gives itself (findings_given bytes program inputs) folders folder folder (Ok (findings.Accepted found inputs))
 warnings_given bytes program inputs folders folder found is =

@@ -123,7 +123,7 @@ fn put_script_end(
 
 /// Returns a sum.
 ///
-/// Errors: `Memory` if the sum does not fit, since so many warnings do not fit in memory.
+/// Errors: `Memory` if the sum does not fit, since lists of that many items do not fit in memory.
 fn sum(a: usize, b: usize) -> Result<usize, Memory>
     ensures { IfOk result (λ sum. sum ≡ a + b) }
 {

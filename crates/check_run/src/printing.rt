@@ -52,7 +52,7 @@ pub(crate) fn print_findings<S: Sink>(
 }
 
 /// Returns the name of an input, or no bytes if there is none.
-fn name_of(name: Option<&Text>) -> &[u8]
+fn name_of<'a>(name: Option<&'a Text>) -> &'a [u8]
     ensures { result.now ≡ name_of (option_map (λ name. name.now) name.entry) }
 {
     match name {

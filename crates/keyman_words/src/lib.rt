@@ -9,7 +9,7 @@
 //! passes. The runs use these functions:
 //! - `command_of` returns exactly the command that `request_of` specifies (`specs/Command`).
 //! - `read` and `write` access a file by its name, and `beside` returns the name of a file in another file's folder (`specs/Beside`).
-//!   `is_layout` tells the name of a touch layout by its end (`specs/LayoutNames`).
+//!   `is_layout` returns whether a name ends as that of a touch layout (`specs/LayoutNames`).
 //! - `reason_line` returns the line of a `Reason` why work is refused (`specs/Reasons`). `compiled_line`, `valid_line`,
 //!   `decompiled_line` and `sound_line` return the lines of work that was done (`specs/Lines`). Each returns exactly its line, unless
 //!   an allocation fails. `LONG_FILE` is the fault of a file that is too long to read.
