@@ -50,17 +50,25 @@ fn is_checked(alloc: Global, row: &str) -> Result<bool, Fail> {
     Ok(status.parse::<u8>().ok() == Some(ended.number()) && sink.written() == printed.as_bytes())
 }
 
-/// A layout whose keys the keyboard of the table of inputs has, and one with a key that it does not have.
-const GOOD_LAYOUT: &str = r#"{"phone":{"layer":[{"id":"default","row":[{"key":[{"id":"K_A"},{"id":"T_x"}]}]}]}}"#;
-const BAD_LAYOUT: &str = r#"{"phone":{"layer":[{"id":"default","row":[{"key":[{"id":"K_A"},{"id":"T_y"}]}]}]}}"#;
-
 /// The files of the table of inputs: names and texts. In a text, `¶` is a line feed.
 const FILES: &[(&str, &str)] = &[
-    ("in", "store(o) '0'¶begin Unicode > use(main)¶group(main) using keys¶if(o = '1') + 'a' > 'b'¶+ 'c' > set(o = '1')¶+ [T_x] > 'd'"),
-    ("noted", "begin Unicode > use(main)¶group(main) using keys¶+ 'a' > 'a'¶+ 'b' > 'B'"),
+    (
+        "in",
+        "store(o) '0'¶begin Unicode > use(main)¶group(main) using keys¶if(o = '1') + 'a' > 'b'¶+ 'c' > set(o = '1')¶+ [T_x] > 'd'",
+    ),
+    (
+        "noted",
+        "begin Unicode > use(main)¶group(main) using keys¶+ 'a' > 'a'¶+ 'b' > 'B'",
+    ),
     ("empty", ""),
-    ("good.json", GOOD_LAYOUT),
-    ("bad.json", BAD_LAYOUT),
+    (
+        "good.json",
+        r#"{"phone":{"layer":[{"id":"default","row":[{"key":[{"id":"K_A"},{"id":"T_x"}]}]}]}}"#,
+    ),
+    (
+        "bad.json",
+        r#"{"phone":{"layer":[{"id":"default","row":[{"key":[{"id":"K_A"},{"id":"T_y"}]}]}]}}"#,
+    ),
     ("open.keyman-touch-layout", "{"),
     ("good.keys", "option o '1'¶option O '1'¶option &layer 's'¶[K_A] [T_x]"),
     ("quikc.keys", "option quikc '0'¶[K_A]¶option o '1'¶option O2 '1'"),
