@@ -1,3 +1,4 @@
+pub mod Inputs
 pub mod Meanings
 pub mod Details
 pub mod WarningTexts

@@ -1,7 +1,7 @@
 -- What each code means, in a few words.
 use Rattle.std.specs.Prelude.{ℕ, List, [], codes, ◌++◌}
 use Rattle.kmn_base.specs.declared.codes.Code.{Code}
-use Rattle.kmn_base.specs.declared.codes.Code.TheVariants.{L01, L02, L03, L04, L05, S01, S02, S03, S04, S05, S06, S07, S08, S09, S10, S11, S12, C01, C02, C03, C04, C05, C06, C07, C08, C09, C10, C11, C12, C13, C14, C15, C16, C17, C18, C19, C20, C21, C22, C23, C24, C25}
+use Rattle.kmn_base.specs.declared.codes.Code.TheVariants.{L01, L02, L03, L04, L05, S01, S02, S03, S04, S05, S06, S07, S08, S09, S10, S11, S12, C01, C02, C03, C04, C05, C06, C07, C08, C09, C10, C11, C12, C13, C14, C15, C16, C17, C18, C19, C20, C21, C22, C23, C24, C25, P01, P02, P03, P04, P05, P06, P07, P08, T1, T2, T3, T4, T5, T6, T7}
 
 -- the meaning of a code of a source, a line or a token; other codes have none here
 abbrev pub token_meaning : Code → List ℕ
@@ -57,6 +57,29 @@ program_meaning C24 = codes "a picture that is too long"
 program_meaning C25 = codes "a cased key that is none"
 program_meaning other = []
 
--- the meaning of a code of a source
-abbrev pub meaning : Code → List ℕ
-meaning code = token_meaning code ++ (statement_meaning code ++ program_meaning code)
+-- the meaning of a code of a script; other codes have none here
+abbrev pub script_meaning : Code → List ℕ
+script_meaning P01 = codes "a script that is not UTF-8"
+script_meaning P02 = codes "a line that no script has"
+script_meaning P03 = codes "a bracket that is no key press"
+script_meaning P04 = codes "a text or name that is missing"
+script_meaning P05 = codes "a number that is missing"
+script_meaning P06 = codes "a script that is too long"
+script_meaning P07 = codes "too many events"
+script_meaning P08 = codes "more on a line that is complete"
+script_meaning other = []
+
+-- the meaning of a code of a touch layout; other codes have none here
+abbrev pub layout_meaning : Code → List ℕ
+layout_meaning T1 = codes "a layout that is no JSON"
+layout_meaning T2 = codes "a layout of another shape"
+layout_meaning T3 = codes "an id that no key has"
+layout_meaning T4 = codes "a layer that is not there"
+layout_meaning T5 = codes "a key that does nothing"
+layout_meaning T6 = codes "two layers of one id"
+layout_meaning T7 = codes "a layout that is too long"
+layout_meaning other = []
+
+-- the meaning of a code of an input
+unfoldable pub meaning : Code → List ℕ
+meaning code = token_meaning code ++ (statement_meaning code ++ (program_meaning code ++ (script_meaning code ++ layout_meaning code)))

@@ -1,7 +1,7 @@
-//! What each code of a source means, in a few words. They are the headings of `docs/CODES.md`.
+//! What each code of an input means, in a few words. They are the headings of `docs/CODES.md`.
 
 ghost use Rattle.std.specs.Prelude.{◌≡◌};
-ghost use Rattle.check_run.specs.Meanings.{program_meaning, statement_meaning, token_meaning};
+ghost use Rattle.check_run.specs.Meanings.{layout_meaning, program_meaning, script_meaning, statement_meaning, token_meaning};
 
 use kmn_base::Code;
 
@@ -70,6 +70,39 @@ pub(crate) fn program_meaning(code: Code) -> &'static str
         Code::C23 => "a file that is too long",
         Code::C24 => "a picture that is too long",
         Code::C25 => "a cased key that is none",
+        _ => "",
+    }
+}
+
+/// Returns the meaning of a code of a script, and no text for other codes.
+pub(crate) fn script_meaning(code: Code) -> &'static str
+    ensures { result.now ≡ script_meaning code }
+{
+    match code {
+        Code::P01 => "a script that is not UTF-8",
+        Code::P02 => "a line that no script has",
+        Code::P03 => "a bracket that is no key press",
+        Code::P04 => "a text or name that is missing",
+        Code::P05 => "a number that is missing",
+        Code::P06 => "a script that is too long",
+        Code::P07 => "too many events",
+        Code::P08 => "more on a line that is complete",
+        _ => "",
+    }
+}
+
+/// Returns the meaning of a code of a touch layout, and no text for other codes.
+pub(crate) fn layout_meaning(code: Code) -> &'static str
+    ensures { result.now ≡ layout_meaning code }
+{
+    match code {
+        Code::T1 => "a layout that is no JSON",
+        Code::T2 => "a layout of another shape",
+        Code::T3 => "an id that no key has",
+        Code::T4 => "a layer that is not there",
+        Code::T5 => "a key that does nothing",
+        Code::T6 => "two layers of one id",
+        Code::T7 => "a layout that is too long",
         _ => "",
     }
 }

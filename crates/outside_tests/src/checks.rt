@@ -1,4 +1,4 @@
-//! Tests what a check prints for small sources, and its exit status.
+//! Tests what a check prints for small sources, layouts and scripts, and its exit status.
 
 use check_run::check_run;
 use kmn_base::Seq;
@@ -89,6 +89,100 @@ fn is_checked(alloc: Global, row: &str) -> Result<bool, Fail> {
     let words = words(alloc, "in")?;
     let ended = check_run(alloc, words.as_slice(), &mut folder, &mut sink);
     Ok(status.parse::<u8>().ok() == Some(ended.number()) && sink.written() == printed.as_bytes())
+}
+
+/// The files of the table of inputs: names and texts. In a text, `¶` is a line feed.
+const FILES: &[(&str, &str)] = &[
+    (
+        "in",
+        "store(o) '0'¶begin Unicode > use(main)¶group(main) using keys¶if(o = '1') + 'a' > 'b'¶+ 'c' > set(o = '1')¶+ [T_x] > 'd'",
+    ),
+    (
+        "noted",
+        "begin Unicode > use(main)¶group(main) using keys¶+ 'a' > 'a'¶+ 'b' > 'B'",
+    ),
+    ("empty", ""),
+    (
+        "good.json",
+        r#"{"phone":{"layer":[{"id":"default","row":[{"key":[{"id":"K_A"},{"id":"T_x"}]}]}]}}"#,
+    ),
+    (
+        "bad.json",
+        r#"{"phone":{"layer":[{"id":"default","row":[{"key":[{"id":"K_A"},{"id":"T_y"}]}]}]}}"#,
+    ),
+    ("open.keyman-touch-layout", "{"),
+    ("good.keys", "option o '1'¶option O '1'¶option &layer 's'¶[K_A] [T_x]"),
+    ("quikc.keys", "option quikc '0'¶[K_A]¶option o '1'¶option O2 '1'"),
+    ("bad.keys", "[K_A]¶[T_y]"),
+];
+
+/// Each row contains the words of a run over these files and, after ` ⇒ `, the exit status and the printed text. In the text, `¶` is a line
+/// feed.
+const INPUTS: &str = "\
+== a layout and a script that are accepted
+in good.json ⇒ 0 checked warnings=0 notes=0¶
+in good.keys ⇒ 0 checked warnings=0 notes=0¶
+in good.json good.keys ⇒ 0 checked warnings=0 notes=0¶
+== a layout that is refused
+in bad.json ⇒ 1 bad.json:1:1: error T5: a key that does nothing: platform 1 layer 1 row 1 key 2¶refused T5 platform 1 layer 1 row 1 key 2¶
+in open.keyman-touch-layout ⇒ 1 open.keyman-touch-layout:1:1: error T1: a layout that is no JSON: platform 0 layer 0 row 0 key 0¶refused T1 platform 0 layer 0 row 0 key 0¶
+== a script that is refused
+in bad.keys ⇒ 1 bad.keys:2:1: error P03: a bracket that is no key press¶refused P03 line 2¶
+== options that the keyboard does not have
+in quikc.keys ⇒ 0 quikc.keys:1: warning W19: the keyboard has no option 'quikc'¶quikc.keys:4: warning W19: the keyboard has no option 'O2'¶checked warnings=2 notes=0¶
+== the script is read also if the layout is refused, and the last line is that of the layout
+in bad.json quikc.keys ⇒ 1 bad.json:1:1: error T5: a key that does nothing: platform 1 layer 1 row 1 key 2¶quikc.keys:1: warning W19: the keyboard has no option 'quikc'¶quikc.keys:4: warning W19: the keyboard has no option 'O2'¶refused T5 platform 1 layer 1 row 1 key 2¶
+in bad.json bad.keys ⇒ 1 bad.json:1:1: error T5: a key that does nothing: platform 1 layer 1 row 1 key 2¶bad.keys:2:1: error P03: a bracket that is no key press¶refused T5 platform 1 layer 1 row 1 key 2¶
+== of two names, the first is that of the layout
+in good.keys good.json ⇒ 1 good.keys:1:1: error T1: a layout that is no JSON: platform 0 layer 0 row 0 key 0¶good.json:1:1: error P02: a line that no script has¶refused T1 platform 0 layer 0 row 0 key 0¶
+== the lines of the source come first
+noted good.keys ⇒ 1 noted:3: note W15: the key gives this without a rule¶good.keys:4:1: error P03: a bracket that is no key press¶refused P03 line 4¶
+noted quikc.keys ⇒ 0 noted:3: note W15: the key gives this without a rule¶quikc.keys:1: warning W19: the keyboard has no option 'quikc'¶quikc.keys:3: warning W19: the keyboard has no option 'o'¶quikc.keys:4: warning W19: the keyboard has no option 'O2'¶checked warnings=3 notes=1¶
+== a refused source has its refusals alone: the other files are not read
+empty bad.json ⇒ 1 empty:1:1: error C01: no begin Unicode¶refused C01 line 1¶
+empty none.json none.keys ⇒ 1 empty:1:1: error C01: no begin Unicode¶refused C01 line 1¶
+== a file that is missing, and a word too many
+in none.json ⇒ 3
+in good.json none.keys ⇒ 3
+in good.json good.keys good.keys ⇒ 2";
+
+/// Returns a folder with the files of the table of inputs.
+fn input_folder(alloc: Global) -> Result<MemoryFolder, Fail> {
+    let mut files = Vec::new(alloc);
+    for (name, text) in FILES {
+        let text = source_of(alloc, text)?;
+        files.push((
+            Seq::from_slice(alloc, name.as_bytes())?,
+            Seq::from_slice(alloc, text.as_bytes())?,
+        ))?;
+    }
+    Ok(MemoryFolder::new(
+        alloc,
+        Seq::from_vec(files),
+        Seq::new(alloc),
+    ))
+}
+
+/// Returns whether a run over the files of the table has the exit status and the printed text of its row.
+fn is_run(alloc: Global, row: &str) -> Result<bool, Fail> {
+    let (line, wanted) = parted(row)?;
+    let (status, printed) = wanted.split_once(' ').unwrap_or((wanted, ""));
+    let printed = source_of(alloc, printed)?;
+    let mut folder = input_folder(alloc)?;
+    let mut sink = MemorySink::new(alloc, Seq::new(alloc));
+    let words = words(alloc, line)?;
+    let ended = check_run(alloc, words.as_slice(), &mut folder, &mut sink);
+    Ok(status.parse::<u8>().ok() == Some(ended.number()) && sink.written() == printed.as_bytes())
+}
+
+#[test]
+fn inputs(rt: HostRuntime) -> Result<(), Fail> {
+    for row in INPUTS.lines() {
+        if is_row(&row) {
+            assert!(rt; is_run(rt.alloc(), row)?, "{row}");
+        }
+    }
+    Ok(())
 }
 
 #[test]

@@ -1,7 +1,7 @@
 //! Tests the external input of a run: `folders` tests calls of `kmn_outside`, `layouts` the touch layouts of `touch_layout`,
 //! `loads` the loads of `load_maker`, and `hostile` runs of `keyman_run` in which a call fails or a file has the maximum size.
 //! For `export_run`, `exports` tests runs over a folder and a sink in memory, and `keyboards` the printed lines for small
-//! sources. `checks` tests the printed lines of `check_run` for small sources.
+//! sources. `checks` tests the printed lines of `check_run` for small sources, layouts and scripts.
 //!
 //! A crate with tests is proved twice, once with them and once without. The tests are in this crate so that each tested crate
 //! is proved only once. Depends on the tested crates, and on `run_tests`, whose `commands` runs commands. `fixtures` creates

@@ -1,7 +1,7 @@
 use Rattle.std.proofs.Common.{◌≡◌, ◌++◌, drop}
 use Rattle.std.specs.Prelude.{flat_map}
 use Rattle.check_run.specs.Printed.{error_line}
-use Rattle.check_run.proofs.printing.put_lines.Given as goal
+use Rattle.check_run.proofs.error_lines.put_lines.Given as goal
 
 abbrev pub invariant-loop-error : goal.invariant-loop-error
 invariant-loop-error l =
