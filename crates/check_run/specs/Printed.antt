@@ -21,16 +21,16 @@ use Rattle.keyman_words.specs.declared.status.Status.TheVariants as status
 use Rattle.keyman_run.specs.Endings.{Ending}
 use Rattle.keyman_run.specs.declared.preparing.Stop.{Stop}
 use Rattle.keyman_run.specs.declared.preparing.Stop.TheVariants as stop
+use Rattle.check_texts.specs.Details.{detail_text, shown_text}
+use Rattle.check_texts.specs.Meanings.{meaning}
+use Rattle.check_texts.specs.WarningTexts.{is_note, warning_code, warning_text}
 use Rattle.check_run.specs.declared.findings.Findings.{Findings}
 use Rattle.check_run.specs.declared.findings.Findings.TheVariants as findings
 use Rattle.check_run.specs.declared.findings.InputFindings.{InputFindings}
 use Rattle.check_run.specs.declared.findings.ScriptFindings.{ScriptFindings}
 use Rattle.check_run.specs.declared.findings.ScriptFindings.TheVariants as script
 use Rattle.check_run.specs.declared.findings.UnknownOption.{UnknownOption}
-use Rattle.check_run.specs.Details.{detail_text, shown_text}
 use Rattle.check_run.specs.Inputs.{is_sound}
-use Rattle.check_run.specs.Meanings.{meaning}
-use Rattle.check_run.specs.WarningTexts.{is_note, warning_code, warning_text}
 
 -- the text of a place: the line and the column, between the given name of the file and the code
 unfoldable pub place_text : Placed → List ℕ

@@ -1,16 +1,12 @@
 //! The lines of errors, in the form that editors read.
 
 ghost use Rattle.std.specs.Prelude.{◌≡◌, ◌++◌, flat_map, IfOk, OnOk};
-ghost use Rattle.check_run.specs.Meanings.{meaning};
 ghost use Rattle.check_run.specs.Printed.{error_line, layout_line, place_text, reason_error};
 ghost use Rattle.refusal_details.specs.Explained.{unexplained};
 
-use crate::details::put_detail;
-use crate::meanings::{
-    layout_meaning, program_meaning, script_meaning, statement_meaning, token_meaning,
-};
+use check_texts::{put_detail, put_meaning};
 use keyman_words::Reason;
-use kmn_base::{Code, Memory, Refusal, Seq, Text};
+use kmn_base::{Memory, Refusal, Seq, Text};
 use refusal_details::{Explained, unexplained};
 use refusal_places::Placed;
 use std::alloc::Global;
@@ -94,16 +90,4 @@ fn layout_line(alloc: Global, file: &[u8], fault: LayoutFault) -> Result<Text, M
     let rest = format!(in alloc; ": platform {platform} layer {layer} row {row} key {key}\n")?;
     line.extend_from_slice(rest.as_bytes())?;
     Ok(line)
-}
-
-/// Appends the meaning of a code.
-#[tactic(auto, unfolding(crate::specs::Meanings::meaning))]
-fn put_meaning(line: &mut Text, code: Code) -> Result<(), Memory>
-    ensures { OnOk result (line.new ≡ line.old ++ meaning code) }
-{
-    line.extend_from_slice(token_meaning(code).as_bytes())?;
-    line.extend_from_slice(statement_meaning(code).as_bytes())?;
-    line.extend_from_slice(program_meaning(code).as_bytes())?;
-    line.extend_from_slice(script_meaning(code).as_bytes())?;
-    line.extend_from_slice(layout_meaning(code).as_bytes())
 }

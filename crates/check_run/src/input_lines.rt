@@ -5,8 +5,8 @@ ghost use Rattle.check_run.specs.Printed.{accepted_text, last_line, layout_lines
 
 use crate::error_lines::reason_error;
 use crate::findings::{InputFindings, ScriptFindings, UnknownOption};
-use crate::shown_words::put_shown;
 use crate::warning_lines::{note_count, put_counts, put_warnings, warning_count};
+use check_texts::put_shown;
 use keyman_words::{Reason, reason_line};
 use kmn_base::{Memory, Seq, Text};
 use source_warnings::Warning;

@@ -4,28 +4,22 @@
 //! Depends on `source_faults`, which finds the refusals of lines; `refusal_details` and `refusal_places`, which find what they are about
 //! and where they are; `keyman_run`, for the bitmap and the limits of the file if no line is refused, for the layout and the script, and
 //! for the order of work; `source_warnings`, which finds the warnings if the source compiles, and `dead_rules`, which adds those of dead
-//! rules; `indexed_tables`, which finds the options of the keyboard; `touch_layout` for the faults of layouts; `keyman_words` (names of
-//! files, and how a run ends); and `kmn_outside` (the folder and the sink). The layer above calls `check_run` and ends with the number of
-//! its `Status`. The contract `Runs` (`specs/Runs`) states by status what was read and printed, `specs/Inputs` what is found in a layout
-//! and a script, `specs/Shown` which refusals are printed, `specs/Printed` the printed lines, `specs/Details` the texts of details, and
-//! `specs/WarningTexts` the codes and the texts of warnings.
+//! rules; `check_texts` for their texts; `indexed_tables`, which finds the options of the keyboard; `touch_layout` for the faults of layouts;
+//! `keyman_words` (names of files, and how a run ends); and `kmn_outside` (the folder and the sink). The layer above calls `check_run` and
+//! ends with the number of its `Status`. The contract `Runs` (`specs/Runs`) states by status what was read and printed, `specs/Inputs` what
+//! is found in a layout and a script, `specs/Shown` which refusals are printed, and `specs/Printed` the printed lines.
 #![tactic(auto)]
 
 mod checking;
-mod details;
 mod error_lines;
 mod findings;
 mod input_lines;
 mod inputs;
-mod line_lists;
-mod meanings;
 mod printing;
 mod running;
 mod shown;
-mod shown_words;
 mod unknown;
 mod warning_lines;
-mod warning_texts;
 
 pub use keyman_words::Status;
 pub use running::check_run;

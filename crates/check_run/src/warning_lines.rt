@@ -3,7 +3,7 @@
 ghost use Rattle.std.specs.Prelude.{◌≡◌, ◌++◌, count_by, flat_map, IfOk, OnOk};
 ghost use Rattle.check_run.specs.Printed.{counts_line, is_noted, is_warned, severity, warning_line};
 
-use crate::warning_texts::{is_note, put_warning_text, warning_code};
+use check_texts::{is_note, put_warning_text, warning_code};
 use kmn_base::{Memory, Seq, Text};
 use source_warnings::{Warning, WarningKind};
 use std::alloc::Global;

@@ -1,16 +1,16 @@
 //! The codes and the texts of warnings and notes.
 
 ghost use Rattle.std.specs.Prelude.{◌≡◌, ◌++◌, encode_utf8_all, IfOk, OnOk};
-ghost use Rattle.check_run.specs.WarningTexts.{around, around_two, element_before, element_between, fixed_text, is_note, joined_text, keys_before, named_text, size_after, size_between, warning_code, warning_text};
+ghost use Rattle.check_texts.specs.WarningTexts.{around, around_two, element_before, element_between, fixed_text, is_note, joined_text, keys_before, named_text, size_after, size_between, warning_code, warning_text};
 
 use crate::line_lists::{put_never_first, put_too_many};
 use crate::shown_words::put_shown;
 use kmn_base::{Memory, Text};
-use source_warnings::WarningKind;
+use name_warnings::WarningKind;
 use std::alloc::Global;
 
 /// Returns the code of a warning.
-pub(crate) fn warning_code(kind: &WarningKind) -> &'static str
+pub fn warning_code(kind: &WarningKind) -> &'static str
     ensures { result.now ≡ warning_code kind.now }
 {
     match kind {
@@ -38,7 +38,7 @@ pub(crate) fn warning_code(kind: &WarningKind) -> &'static str
 
 /// Returns whether a warning is only a note.
 #[tactic(auto, unfolding(crate::specs::WarningTexts::is_note))]
-pub(crate) fn is_note(kind: &WarningKind) -> bool
+pub fn is_note(kind: &WarningKind) -> bool
     ensures { result ≡ is_note kind.now }
 {
     match kind {
@@ -52,7 +52,10 @@ pub(crate) fn is_note(kind: &WarningKind) -> bool
 }
 
 /// Appends the text of a warning.
-pub(crate) fn put_warning_text(
+///
+/// Errors: `Memory` if an allocation fails.
+#[tactic(auto, unfolding(crate::specs::WarningTexts::warning_text))]
+pub fn put_warning_text(
     alloc: Global,
     line: &mut Text,
     kind: &WarningKind,

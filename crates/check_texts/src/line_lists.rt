@@ -1,10 +1,10 @@
 //! The texts of W07, which has the lines of rules.
 
 ghost use Rattle.std.specs.Prelude.{◌≡◌, ◌++◌, flat_map, length, IfOk, OnOk};
-ghost use Rattle.check_run.specs.WarningTexts.{first_line, joined_text, listed_lines, next_line, one_line, several_lines, too_many_text};
+ghost use Rattle.check_texts.specs.WarningTexts.{first_line, joined_text, listed_lines, next_line, one_line, several_lines, too_many_text};
 
 use kmn_base::{Memory, Text};
-use source_warnings::WarningKind;
+use name_warnings::WarningKind;
 use std::alloc::Global;
 
 /// Appends the text about a dead rule, with the lines of the rules before it.

@@ -1,7 +1,7 @@
 //! The printed text of the detail of a refusal.
 
 ghost use Rattle.std.specs.Prelude.{◌≡◌, ◌++◌, flat_map, IfOk, OnOk};
-ghost use Rattle.check_run.specs.Details.{begins_quote, defined_text, detail_text, first_text, near_text, quote_mark, quoted_word, word_text};
+ghost use Rattle.check_texts.specs.Details.{begins_quote, defined_text, detail_text, first_text, near_text, quote_mark, quoted_word, word_text};
 
 use crate::shown_words::put_shown;
 use kmn_base::bytes::is_quote;
@@ -10,8 +10,10 @@ use refusal_details::Detail;
 use std::alloc::Global;
 
 /// Appends the detail of a refusal.
+///
+/// Errors: `Memory` if an allocation fails.
 #[tactic(auto, unfolding(crate::specs::Details::detail_text))]
-pub(crate) fn put_detail(alloc: Global, text: &mut Text, detail: &Detail) -> Result<(), Memory>
+pub fn put_detail(alloc: Global, text: &mut Text, detail: &Detail) -> Result<(), Memory>
     ensures { OnOk result (text.new ≡ text.old ++ detail_text detail.now) }
 {
     match detail {

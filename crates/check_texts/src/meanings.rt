@@ -1,12 +1,26 @@
 //! What each code of an input means, in a few words. They are the headings of `docs/CODES.md`.
 
-ghost use Rattle.std.specs.Prelude.{◌≡◌};
-ghost use Rattle.check_run.specs.Meanings.{layout_meaning, program_meaning, script_meaning, statement_meaning, token_meaning};
+ghost use Rattle.std.specs.Prelude.{◌≡◌, ◌++◌, OnOk};
+ghost use Rattle.check_texts.specs.Meanings.{layout_meaning, meaning, program_meaning, script_meaning, statement_meaning, token_meaning};
 
-use kmn_base::Code;
+use kmn_base::{Code, Memory, Text};
+
+/// Appends the meaning of a code.
+///
+/// Errors: `Memory` if an allocation fails.
+#[tactic(auto, unfolding(crate::specs::Meanings::meaning))]
+pub fn put_meaning(line: &mut Text, code: Code) -> Result<(), Memory>
+    ensures { OnOk result (line.new ≡ line.old ++ meaning code) }
+{
+    line.extend_from_slice(token_meaning(code).as_bytes())?;
+    line.extend_from_slice(statement_meaning(code).as_bytes())?;
+    line.extend_from_slice(program_meaning(code).as_bytes())?;
+    line.extend_from_slice(script_meaning(code).as_bytes())?;
+    line.extend_from_slice(layout_meaning(code).as_bytes())
+}
 
 /// Returns the meaning of a code of a source, a line or a token, and no text for other codes.
-pub(crate) fn token_meaning(code: Code) -> &'static str
+fn token_meaning(code: Code) -> &'static str
     ensures { result.now ≡ token_meaning code }
 {
     match code {
@@ -20,7 +34,7 @@ pub(crate) fn token_meaning(code: Code) -> &'static str
 }
 
 /// Returns the meaning of a code of a statement, and no text for other codes.
-pub(crate) fn statement_meaning(code: Code) -> &'static str
+fn statement_meaning(code: Code) -> &'static str
     ensures { result.now ≡ statement_meaning code }
 {
     match code {
@@ -41,7 +55,7 @@ pub(crate) fn statement_meaning(code: Code) -> &'static str
 }
 
 /// Returns the meaning of a code of a program, and no text for other codes.
-pub(crate) fn program_meaning(code: Code) -> &'static str
+fn program_meaning(code: Code) -> &'static str
     ensures { result.now ≡ program_meaning code }
 {
     match code {
@@ -75,7 +89,7 @@ pub(crate) fn program_meaning(code: Code) -> &'static str
 }
 
 /// Returns the meaning of a code of a script, and no text for other codes.
-pub(crate) fn script_meaning(code: Code) -> &'static str
+fn script_meaning(code: Code) -> &'static str
     ensures { result.now ≡ script_meaning code }
 {
     match code {
@@ -92,7 +106,7 @@ pub(crate) fn script_meaning(code: Code) -> &'static str
 }
 
 /// Returns the meaning of a code of a touch layout, and no text for other codes.
-pub(crate) fn layout_meaning(code: Code) -> &'static str
+fn layout_meaning(code: Code) -> &'static str
     ensures { result.now ≡ layout_meaning code }
 {
     match code {

@@ -4,7 +4,7 @@ use Rattle.std.specs.List.{concat}
 use Rattle.std.specs.Fmt.{decimal}
 use Rattle.name_warnings.specs.declared.warning.WarningKind.{WarningKind}
 use Rattle.name_warnings.specs.declared.warning.WarningKind.TheVariants as kind
-use Rattle.check_run.specs.Details.{shown_text}
+use Rattle.check_texts.specs.Details.{shown_text}
 
 -- the code of a warning
 abbrev pub warning_code : WarningKind → List ℕ
@@ -117,5 +117,5 @@ fixed_text kind.SecondSystemStore = codes "the first of these statements counts"
 fixed_text other = []
 
 -- the text of a warning
-abbrev pub warning_text : WarningKind → List ℕ
+unfoldable pub warning_text : WarningKind → List ℕ
 warning_text kind = named_text kind ++ (joined_text kind ++ fixed_text kind)

@@ -5,7 +5,7 @@ use Rattle.std.specs.Fmt.{decimal}
 use Rattle.kmn_base.specs.Bytes.{is_quote}
 use Rattle.refusal_details.specs.declared.detail.Detail.{Detail}
 use Rattle.refusal_details.specs.declared.detail.Detail.TheVariants as detail
-use Rattle.check_run.specs.declared.shown_words.TheConstants.{WORD_CHARACTERS}
+use Rattle.check_texts.specs.declared.shown_words.TheConstants.{WORD_CHARACTERS}
 
 -- whether a byte of UTF-8 begins a character
 abbrev pub begins_character : ℕ → Bool

@@ -1,7 +1,7 @@
 //! How words of a source are printed: their first characters, and nothing that a terminal obeys.
 
 ghost use Rattle.std.specs.Prelude.{◌≡◌, ◌++◌, nat_lt, length, OnOk};
-ghost use Rattle.check_run.specs.Details.{begins_character, ends_obeyed, front_size, is_obeyed, is_past, left_after, rest_dots, shown_text, visible_byte, visible_text};
+ghost use Rattle.check_texts.specs.Details.{begins_character, ends_obeyed, front_size, is_obeyed, is_past, left_after, rest_dots, shown_text, visible_byte, visible_text};
 
 use kmn_base::slices::before;
 use kmn_base::{Memory, Text};
@@ -10,8 +10,10 @@ use kmn_base::{Memory, Text};
 const WORD_CHARACTERS: usize = 80;
 
 /// Appends the first characters of a text, with a sign for each that a terminal obeys, and two dots for the others.
+///
+/// Errors: `Memory` if an allocation fails.
 #[tactic(auto, unfolding(crate::specs::Details::shown_text))]
-pub(crate) fn put_shown(line: &mut Text, text: &[u8]) -> Result<(), Memory>
+pub fn put_shown(line: &mut Text, text: &[u8]) -> Result<(), Memory>
     ensures { OnOk result (line.new ≡ line.old ++ shown_text text.now) }
 {
     let size = front_size(WORD_CHARACTERS, text);
