@@ -22,18 +22,25 @@ use Rattle.check_run.proofs.Concluding.{concludes_told, concludes_stopped}
 abbrev pub IsPrinted : {S : Type 0} → (file : List ℕ) → (layout keys : Option (List ℕ)) → Findings → SinkView S → S → S → Status → Type 0
 IsPrinted file layout keys found sinks out out_after how = Tells (check_status found) (check_text file layout keys found) sinks out out_after how
 
-module _ {S E : Type 0} (text : List ℕ) (inputs : InputFindings) (sound : Bool) (is : sound ≡ is_sound inputs.layout inputs.script) (made : Result (List ℕ) E) (sinks : SinkView S) (out out_after : S) (how : Status) (is_text : IfOk made (λ line. line ≡ text)) where
-  by_soundness : (told : Bool) → sound ≡ told → Tells (if told then status.Done else status.Refused) text sinks out out_after how → Tells (input_status inputs) text sinks out out_after how
-  by_soundness told same tells =
-      subst (λ (b : Bool). Tells (if b then status.Done else status.Refused) text sinks out out_after how) (sym same ∙ is) tells
+by_soundness : {S : Type 0} (text : List ℕ) (inputs : InputFindings) (sound : Bool) (sinks : SinkView S) (out out_after : S) (how : Status) → sound ≡ is_sound inputs
+    → Tells (if sound then status.Done else status.Refused) text sinks out out_after how → Tells (input_status inputs) text sinks out out_after how
+unfolding input_status
+by_soundness text inputs sound sinks out out_after how is tells =
+    subst (λ (b : Bool). Tells (if b then status.Done else status.Refused) text sinks out out_after how) is tells
 
-  -- if neither the layout nor the script is refused, the run prints the text and ends well
-  pub sound_tells : sound ≡ true → PrintsResult status.Done made sinks out out_after how → Tells (input_status inputs) text sinks out out_after how
-  sound_tells same prints = by_soundness true same (tells_made status.Done text made sinks out out_after how prints is_text)
+-- if neither the layout nor the script is refused, the run prints the text and ends well
+pub sound_tells : {S E : Type 0} (text : List ℕ) (inputs : InputFindings) (sound : Bool) (made : Result (List ℕ) E) (sinks : SinkView S) (out out_after : S) (how : Status)
+    → sound ≡ is_sound inputs → sound ≡ true → PrintsResult status.Done made sinks out out_after how → IfOk made (λ line. line ≡ text)
+    → Tells (input_status inputs) text sinks out out_after how
+sound_tells text inputs sound made sinks out out_after how is told prints is_text =
+    by_soundness text inputs true sinks out out_after how (sym told ∙ is) (tells_made status.Done text made sinks out out_after how prints is_text)
 
-  -- if one of them is refused, the run prints the text and ends with the status of a refusal
-  pub broken_tells : sound ≡ false → PrintsResult status.Refused made sinks out out_after how → Tells (input_status inputs) text sinks out out_after how
-  broken_tells same prints = by_soundness false same (tells_made status.Refused text made sinks out out_after how prints is_text)
+-- if one of them is refused, the run prints the text and ends with the status of a refusal
+pub broken_tells : {S E : Type 0} (text : List ℕ) (inputs : InputFindings) (sound : Bool) (made : Result (List ℕ) E) (sinks : SinkView S) (out out_after : S) (how : Status)
+    → sound ≡ is_sound inputs → sound ≡ false → PrintsResult status.Refused made sinks out out_after how → IfOk made (λ line. line ≡ text)
+    → Tells (input_status inputs) text sinks out out_after how
+broken_tells text inputs sound made sinks out out_after how is told prints is_text =
+    by_soundness text inputs false sinks out out_after how (sym told ∙ is) (tells_made status.Refused text made sinks out out_after how prints is_text)
 
 -- the text of a source that is not refused is the text of the check
 pub accepted_tells : {S : Type 0} (source layout_name keys_name : List ℕ) (layout keys : Option (List ℕ)) (listed warnings : List Warning) (inputs : InputFindings) (sinks : SinkView S) (out out_after : S) (how : Status)

@@ -11,6 +11,7 @@ use Rattle.rule_model.specs.declared.tables.Tables.{Tables}
 use Rattle.keyman_words.specs.declared.reason.Reason.{Reason}
 use Rattle.keyman_run.specs.declared.preparing.Stop.{Stop}
 use Rattle.keyman_run.specs.declared.preparing.Stop.TheVariants as stop
+use Rattle.check_run.specs.declared.findings.InputFindings.{InputFindings}
 use Rattle.check_run.specs.declared.findings.ScriptFindings.{ScriptFindings}
 use Rattle.check_run.specs.declared.findings.ScriptFindings.TheVariants as script
 use Rattle.check_run.specs.declared.findings.UnknownOption.{UnknownOption}
@@ -66,6 +67,9 @@ is_accepted (script.Refused why) = false
 is_accepted (script.Accepted unknown) = true
 
 -- whether neither a layout nor a script is refused
-abbrev pub is_sound : Option Reason → ScriptFindings → Bool
-is_sound (Some why) found = false
-is_sound None found = is_accepted found
+abbrev pub are_accepted : Option Reason → ScriptFindings → Bool
+are_accepted (Some why) found = false
+are_accepted None found = is_accepted found
+
+unfoldable pub is_sound : InputFindings → Bool
+is_sound inputs = are_accepted inputs.layout inputs.script

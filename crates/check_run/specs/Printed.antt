@@ -122,8 +122,8 @@ accepted_text source layout keys warnings inputs =
     ++ (layout_lines layout inputs.layout ++ (script_lines keys inputs.script ++ last_line warnings inputs.layout inputs.script))
 
 -- the status of a check of a source that is not refused: warnings refuse no input
-abbrev pub input_status : InputFindings → Status
-input_status inputs = if is_sound inputs.layout inputs.script then status.Done else status.Refused
+unfoldable pub input_status : InputFindings → Status
+input_status inputs = if is_sound inputs then status.Done else status.Refused
 
 -- the status of a check
 abbrev pub check_status : Findings → Status

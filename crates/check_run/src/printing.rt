@@ -78,8 +78,9 @@ fn print_accepted<S: Sink>(
 }
 
 /// Returns whether neither a layout nor a script is refused.
+#[tactic(auto, unfolding(crate::specs::Inputs::is_sound))]
 fn is_sound(inputs: &InputFindings) -> bool
-    ensures { result ≡ is_sound inputs.now.layout inputs.now.script }
+    ensures { result ≡ is_sound inputs.now }
 {
     match inputs.layout {
         Some(_) => false,
