@@ -1,14 +1,14 @@
 -- The rule whose output becomes the nomatch output of its group.
-use Rattle.std.proofs.Common.{◌≡◌, ℕ, suc, ◌+◌, ◌-◌, ◌<◌, ◌≤◌, Bool, true, false, not, ◌&&◌, List, [], ◌∷◌, length, drop, Option, None, Some, refl, sym, ap, ◌∙◌, arith, if◌then◌else◌}
+use Rattle.std.proofs.Common.{◌≡◌, ℕ, suc, ◌+◌, ◌-◌, ◌<◌, Bool, true, false, not, ◌&&◌, List, [], ◌∷◌, length, drop, Option, None, Some, refl, sym, ap, ◌∙◌, arith, if◌then◌else◌}
 use Rattle.std.specs.Prelude.{nat_eq, slice_index_or, unwrap_or}
-use Rattle.std.specs.List.{list_all, position_or_len}
+use Rattle.std.specs.List.{position_or_len}
 use Rattle.std.proofs.lemmas.Bool.{false≢true}
 use Rattle.std.proofs.lemmas.Option.{none-some}
 use Rattle.std.proofs.lemmas.List.{get_or-drop, length-drop}
 use Rattle.rule_model.specs.declared.tables.Out.{Out}
 use Rattle.rule_model.specs.declared.tables.Rule.{Rule}
 use Rattle.rule_model.specs.declared.tables.Group.{Group}
-use Rattle.core_conversions.specs.Conversions.{can_be_nomatch, has_empty_context, from_empty_context, nomatch_with, nomatch_of, can_have_nomatch, nomatch_rule}
+use Rattle.core_conversions.specs.Conversions.{has_empty_context, from_empty_context, nomatch_with, nomatch_of, can_have_nomatch, nomatch_rule, group_with_nomatch}
 
 -- the rules from the first one with an empty context on
 from_is_drop : (rules : List Rule) → from_empty_context rules ≡ drop (position_or_len has_empty_context rules) rules
@@ -84,5 +84,12 @@ found_within group number found = (found_by group (quiet group) (can_have_nomatc
 pub found_output : (group : Group) (number : ℕ) (d : Rule) → nomatch_rule group ≡ Some number → (slice_index_or group.rules number d).output ≡ nomatch_of group
 found_output group number d found = (found_by group (quiet group) (can_have_nomatch group.on_match (drop (first group) group.rules)) number refl refl found).output d
 
-pub none_found : (group : Group) → nomatch_rule group ≡ None → nomatch_of group ≡ group.on_nomatch
+none_found : (group : Group) → nomatch_rule group ≡ None → nomatch_of group ≡ group.on_nomatch
 none_found group none = none_by group (quiet group) (can_have_nomatch group.on_match (drop (first group) group.rules)) refl refl none
+
+-- without such a rule, the group is unchanged
+own_nomatch : (group : Group) → group ≡ (record group { on_nomatch = group.on_nomatch })
+own_nomatch group = refl
+
+pub unchanged : (group : Group) → nomatch_rule group ≡ None → group ≡ group_with_nomatch group
+unchanged group none = own_nomatch group ∙ ap (λ (outputs : List Out). record group { on_nomatch = outputs }) (sym (none_found group none))

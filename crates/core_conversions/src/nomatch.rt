@@ -4,8 +4,8 @@ ghost use Rattle.std.specs.Prelude.{◌≡◌, map, OnOk};
 ghost use Rattle.std.specs.List.{list_all, list_any, position_or_len};
 ghost use Rattle.core_conversions.specs.Conversions.{has_effect, is_stop, reads_matched, can_be_nomatch, has_empty_context, can_have_nomatch, nomatch_rule, group_with_nomatch, empty_as_nomatch};
 
+use kmn_base::Memory;
 use kmn_base::slices::behind;
-use kmn_base::{Memory, Seq};
 use rule_model::{Group, Out, Rule, Tables};
 use std::alloc::Global;
 
@@ -30,7 +30,7 @@ fn convert_groups(alloc: Global, groups: &mut [Group]) -> Result<(), Memory>
 }
 
 /// Converts a group in this way.
-#[tactic(auto, using(crate::proofs::NomatchRule::found_within, crate::proofs::NomatchRule::found_output, crate::proofs::NomatchRule::none_found))]
+#[tactic(auto, using(crate::proofs::NomatchRule::found_within, crate::proofs::NomatchRule::found_output, crate::proofs::NomatchRule::unchanged))]
 fn convert_group(alloc: Global, group: &mut Group) -> Result<(), Memory>
     ensures { OnOk result (group.new ≡ group_with_nomatch group.old) }
 {
