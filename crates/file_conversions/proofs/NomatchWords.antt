@@ -1,9 +1,10 @@
--- Nomatch outputs set in place: the number of bytes stays, nothing is set if all groups use keys, and a file that is opened for this is
--- valid and has few groups.
-use Rattle.std.proofs.Common.{◌≡◌, ℕ, zero, suc, ◌+◌, ◌≤◌, Bool, true, false, not, ◌&&◌, nat_eq, List, [], ◌∷◌, length, drop, Option, Some, None, refl, sym, ap, subst, ◌∙◌, if◌then◌else◌}
+-- Nomatch outputs set in place: the number of bytes stays, a loop sets group by group, nothing is set if all groups use keys, and a file
+-- that is opened for this is valid and has few groups.
+use Rattle.std.proofs.Common.{◌≡◌, ℕ, zero, suc, ◌+◌, ◌*◌, ◌<◌, ◌≤◌, Bool, true, false, not, ◌&&◌, nat_eq, List, [], ◌∷◌, length, drop, get_or, Option, Some, None, refl, sym, ap, ap₂, subst, ◌∙◌, arith, if◌then◌else◌}
 use Rattle.std.specs.Prelude.{nat_lt}
 use Rattle.std.specs.List.{position_or_len}
 use Rattle.std.proofs.lemmas.Bool.{false≢true}
+use Rattle.std.proofs.lemmas.List.{drop_more}
 use Rattle.std.proofs.lemmas.Option.{none-some}
 use Rattle.kmn_base.specs.declared.limits.TheConstants.{GROUPS}
 use Rattle.rule_model.specs.declared.tables.Group.{Group}
@@ -46,6 +47,20 @@ module _ (bytes : List ℕ) where
 pub nomatch_size : (bytes : List ℕ) → length (nomatch_bytes bytes) ≡ length bytes
 unfolding nomatch_bytes
 nomatch_size bytes = groups_size bytes (word_at bytes GROUPS_AT) (tables_of bytes).groups bytes
+
+-- ---- the loop over groups
+
+-- the loop keeps its result as it passes a group
+pub group_passed : (bytes : List ℕ) (place i : ℕ) (groups : List Group) (d group : Group) (rule : Option ℕ) (out after answer : List ℕ) → i < length groups → group ≡ get_or groups i d
+    → rule ≡ nomatch_rule group → after ≡ nomatch_from bytes (place + 24 * i) rule out
+    → nomatch_groups bytes (place + 24 * i) (drop i groups) out ≡ answer → nomatch_groups bytes (place + 24 * (i + 1)) (drop (i + 1) groups) after ≡ answer
+group_passed bytes place i groups d group rule out after answer within at same is so_far =
+    let first : drop i groups ≡ group ∷ drop (i + 1) groups = drop_more groups i d within ∙ ap (λ (g : Group). g ∷ drop (i + 1) groups) (sym at) in
+    let next : place + 24 * i + 24 ≡ place + 24 * (i + 1) = omega arith in
+    sym (ap (λ (list : List Group). nomatch_groups bytes (place + 24 * i) list out) first
+    ∙ ap₂ (λ (p : ℕ) (xs : List ℕ). nomatch_groups bytes p (drop (i + 1) groups) xs) next
+    (sym (is ∙ ap (λ (r : Option ℕ). nomatch_from bytes (place + 24 * i) r out) same)))
+    ∙ so_far
 
 -- ---- groups that use keys
 

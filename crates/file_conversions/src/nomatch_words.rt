@@ -36,6 +36,7 @@ pub(crate) fn nomatch_bytes(alloc: Global, file: &Verified<'_>) -> Result<Seq<u8
 }
 
 /// Sets the nomatch outputs of groups. Their records in the file follow one another from a position on.
+#[tactic(auto, using(crate::proofs::NomatchWords::group_passed))]
 fn set_groups(bytes: &[u8], place: u32, groups: &[Group], out: &mut [u8])
     requires { length groups.now ≤ GROUPS }
     ensures { out.new ≡ nomatch_groups bytes.now place groups.now out.old }
