@@ -22,6 +22,7 @@ pub fn put_shown(line: &mut Text, text: &[u8]) -> Result<(), Memory>
 }
 
 /// Returns the number of bytes of the first characters of a text. `most` is the largest number of characters.
+#[tactic(auto, using(crate::proofs::FrontSizes::byte_passed))]
 fn front_size(most: usize, text: &[u8]) -> usize
     ensures { result ≡ front_size most text.now }
 {
