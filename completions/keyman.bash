@@ -27,8 +27,8 @@ _keyman_suffixes() {
     case "$1 $2" in
         'compile 1' | 'test 1' | 'trace 1' | 'shadow 1' | 'layout 1' | '--check 1' | '--import 1') echo kmn ;;
         'verify 1' | 'decompile 1' | 'play 1' | 'host 1' | '--chart 1' | '--export 1') echo kmx ;;
-        'play 2' | 'host 2' | 'trace 2' | 'test 3') echo keys ;;
-        '--chart 3') echo keys keyman-touch-layout json ;;
+        'play 2' | 'host 2' | 'trace 2' | 'test 3' | '--check 3') echo keys ;;
+        '--chart 3' | '--check 2') echo keys keyman-touch-layout json ;;
         'compile 2' | 'test 2') echo '=' kmx ;;
         '--chart 2') echo '=' svg ;;
         'decompile 2' | '--import 2') echo kmn ;;

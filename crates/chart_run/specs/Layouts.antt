@@ -1,6 +1,5 @@
 -- What is read of a touch layout.
-use Rattle.std.specs.Prelude.{ℕ, ◌||◌, ◌==◌, Bool, List, codes, Option, Some, None, Result, Ok, Err}
-use Rattle.std.specs.List.{ends_with}
+use Rattle.std.specs.Prelude.{List, Option, Some, None, Result, Ok, Err}
 use Rattle.kmn_base.specs.declared.codes.Code.TheVariants.{T7}
 use Rattle.rule_model.specs.Tab.{tab}
 use Rattle.rule_model.specs.declared.tables.Tables.{Tables}
@@ -13,11 +12,6 @@ use Rattle.keyman_words.specs.declared.reason.Reason.{Reason}
 use Rattle.keyman_words.specs.declared.reason.Reason.TheVariants as reason
 use Rattle.keyman_run.specs.Work.{Reading}
 use Rattle.keyman_run.specs.Work.Reading.{Bytes, Over}
-
--- whether a name ends as the name of a touch layout does
-abbrev pub is_layout : List ℕ → Bool
-is_layout name =
-    ends_with (λ a b. a == b) name (codes ".keyman-touch-layout") || ends_with (λ a b. a == b) name (codes ".json")
 
 -- layers, unless their layout breaks a rule
 abbrev pub unless_broken : List TouchLayer → Option LayoutFault → Result (List TouchLayer) Reason

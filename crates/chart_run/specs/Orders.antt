@@ -4,6 +4,7 @@ use Rattle.kmn_base.specs.declared.limits.TheConstants.{TEXT_BYTES}
 use Rattle.rule_model.specs.Tab.{tab}
 use Rattle.rule_model.specs.declared.script.Entry.{Entry}
 use Rattle.rule_model.specs.declared.tables.Tables.{Tables}
+use Rattle.keyman_words.specs.LayoutNames.{is_layout}
 use Rattle.keyman_words.specs.declared.status.Status.TheVariants as status
 use Rattle.keyman_run.specs.Endings.{Ending}
 use Rattle.keyman_run.specs.Inputs.{tables_of_file}
@@ -12,7 +13,7 @@ use Rattle.keyman_run.specs.Work.{Work, given, and_then}
 use Rattle.keyman_run.specs.Work.Work.{Give, Read}
 use Rattle.touch_board.specs.declared.layers.TouchLayer.{TouchLayer}
 use Rattle.chart_run.specs.Drawings.{drawing, drawn_line, title_of}
-use Rattle.chart_run.specs.Layouts.{is_layout, layers_of}
+use Rattle.chart_run.specs.Layouts.{layers_of}
 
 -- read the script if there is one; without a script there are no entries
 abbrev pub entries_work : (dictionary : List (List ℕ)) → (keys : Option (List ℕ)) → Work (List Entry)

@@ -3,7 +3,6 @@
 ghost use Rattle.std.specs.Prelude.{◌≡◌, option_map};
 ghost use Rattle.rule_model.specs.Tab.{tab};
 ghost use Rattle.keyman_run.specs.Steps.{Gives, itself};
-ghost use Rattle.chart_run.specs.Layouts.{is_layout};
 ghost use Rattle.chart_run.specs.Orders.{layers_work, layout_work};
 
 use keyman_run::{Stop, read_stop};
@@ -28,13 +27,6 @@ const LONG_LAYOUT: Reason = Reason::Layout(LayoutFault {
         key: 0,
     },
 });
-
-/// Returns whether a name ends as the name of a touch layout does.
-pub(crate) fn is_layout(name: &[u8]) -> bool
-    ensures { result ≡ is_layout name.now }
-{
-    name.ends_with(b".keyman-touch-layout") || name.ends_with(b".json")
-}
 
 /// Reads the touch layout for the keyboard of a session, given the tables of its file. Without a layout there are no layers.
 pub(crate) fn read_layers<F: Folder>(

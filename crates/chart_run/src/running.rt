@@ -7,9 +7,8 @@ ghost use Rattle.chart_run.specs.Runs.{Runs};
 ghost use Rattle.keyman_run.specs.Run.{Does};
 
 use crate::drawing::read_drawing;
-use crate::layouts::is_layout;
 use keyman_run::print_stop;
-use keyman_words::{FileName, Status, print_result, write, write_status};
+use keyman_words::{FileName, Status, is_layout, print_result, write, write_status};
 use kmn_base::{Memory, Text};
 use kmn_outside::{Folder, Sink};
 use std::alloc::Global;

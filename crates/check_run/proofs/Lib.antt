@@ -1,3 +1,4 @@
 pub mod Checks
 pub mod Concluding
 pub mod Endings
+pub mod Inputs

@@ -1,5 +1,4 @@
-pub mod Meanings
-pub mod WarningTexts
+pub mod Inputs
 pub mod Shown
 pub mod Printed
 pub mod Orders

@@ -1,8 +1,35 @@
-//! What a check finds in a source.
+//! What a check finds in a source, in a touch layout and in a script.
 
-use kmn_base::{Refusal, Seq};
-use refusal_places::Placed;
+use keyman_words::Reason;
+use kmn_base::{Refusal, Seq, Text};
+use refusal_details::Explained;
 use source_warnings::Warning;
+
+/// An option that a script sets and that the keyboard does not have, with the line of the script, from 1.
+#[derive(Drop)]
+pub(crate) struct UnknownOption {
+    pub line: u32,
+    pub name: Text,
+}
+
+/// What a check finds in a script.
+#[derive(Drop)]
+pub(crate) enum ScriptFindings {
+    /// The script is refused.
+    Refused(Reason),
+    /// The script is accepted, or there is none. Its unknown options are in the order of its entries.
+    Accepted {
+        unknown: Seq<UnknownOption>,
+    },
+}
+
+/// What a check finds in the touch layout and in the script for a source that compiles.
+#[derive(Drop)]
+pub(crate) struct InputFindings {
+    /// The reason why the layout is refused. `None` if it is valid, or if there is none.
+    pub layout: Option<Reason>,
+    pub script: ScriptFindings,
+}
 
 /// What a check finds in a source that it reads whole.
 #[derive(Drop)]
@@ -11,11 +38,12 @@ pub(crate) enum Findings {
     /// `more` is the number of the others.
     Refused {
         first: Refusal,
-        errors: Seq<Placed>,
+        errors: Seq<Explained>,
         more: usize,
     },
     /// The source compiles. Its warnings are in the order of lines.
     Accepted {
         warnings: Seq<Warning>,
+        inputs: InputFindings,
     },
 }

@@ -1,45 +1,101 @@
 //! What a check prints, and the status that it ends with.
 
-ghost use Rattle.std.specs.Prelude.{◌≡◌, ◌++◌, flat_map, IfOk, OnOk};
-ghost use Rattle.check_run.specs.Meanings.{meaning};
-ghost use Rattle.check_run.specs.Printed.{PrintsStopped, accepted_text, check_status, check_text, error_line, reason_error, refused_text, rest_line, stopped_text};
+ghost use Rattle.std.specs.Prelude.{◌≡◌, ◌++◌, option_map, IfOk, OnOk};
+ghost use Rattle.check_run.specs.Inputs.{is_accepted, is_sound};
+ghost use Rattle.check_run.specs.Printed.{PrintsStopped, accepted_text, check_status, check_text, input_status, name_of, refused_text, rest_line, stopped_text};
 ghost use Rattle.keyman_words.specs.Tells.{Tells};
 
-use crate::findings::Findings;
-use crate::meanings::{program_meaning, statement_meaning, token_meaning};
-use crate::warning_lines::accepted_text;
+use crate::error_lines::{put_lines, reason_error};
+use crate::findings::{Findings, InputFindings, ScriptFindings};
+use crate::input_lines::accepted_text;
 use keyman_run::Stop;
 use keyman_words::{Reason, Status, print_result, reason_line};
-use kmn_base::{Code, Memory, Refusal, Seq, Text};
+use kmn_base::{Memory, Refusal, Seq, Text};
 use kmn_outside::Sink;
-use name_warnings::Warning;
-use refusal_places::{Placed, at_start};
+use refusal_details::Explained;
+use source_warnings::Warning;
 use std::alloc::Global;
 
-/// Prints what a check finds in a source with a name.
+/// Prints what a check finds in a source with a name, and in the layout and the script with the other names.
+#[tactic(auto, using(crate::proofs::Endings::accepted_tells))]
 pub(crate) fn print_findings<S: Sink>(
     alloc: Global,
-    file: &[u8],
+    source: &[u8],
+    layout: Option<&Text>,
+    keys: Option<&Text>,
     findings: &Findings,
     out: &mut S,
 ) -> Status
-    ensures { Tells (check_status findings.now) (check_text file.now findings.now) S.Sink out.old out.new result }
+    ensures { Tells (check_status findings.now) (check_text source.now (option_map (λ name. name.now) layout.entry) (option_map (λ name. name.now) keys.entry) findings.now) S.Sink out.old out.new result }
 {
     match findings {
-        Findings::Accepted { warnings } => print_accepted(alloc, file, warnings.as_slice(), out),
+        Findings::Accepted { warnings, inputs } => print_accepted(
+            alloc,
+            source,
+            name_of(layout),
+            name_of(keys),
+            warnings.as_slice(),
+            inputs,
+            out,
+        ),
         Findings::Refused {
             first,
             errors,
             more,
-        } => print_refused(alloc, file, *first, errors.as_slice(), *more, out),
+        } => print_refused(alloc, source, *first, errors.as_slice(), *more, out),
     }
 }
 
-/// Prints the warnings of a source that is not refused.
-fn print_accepted<S: Sink>(alloc: Global, file: &[u8], warnings: &[Warning], out: &mut S) -> Status
-    ensures { Tells Status.Done (accepted_text file.now warnings.now) S.Sink out.old out.new result }
+/// Returns the name of an input, or no bytes if there is none.
+fn name_of<'a>(name: Option<&'a Text>) -> &'a [u8]
+    ensures { result.now ≡ name_of (option_map (λ name. name.now) name.entry) }
 {
-    print_result(accepted_text(alloc, file, warnings), Status::Done, out)
+    match name {
+        Some(name) => name.as_slice(),
+        None => &[],
+    }
+}
+
+/// Prints what a check finds in a source that is not refused, in a layout and in a script.
+#[tactic(auto, using(crate::proofs::Endings::sound_tells, crate::proofs::Endings::broken_tells))]
+fn print_accepted<S: Sink>(
+    alloc: Global,
+    source: &[u8],
+    layout: &[u8],
+    keys: &[u8],
+    warnings: &[Warning],
+    inputs: &InputFindings,
+    out: &mut S,
+) -> Status
+    ensures { Tells (input_status inputs.now) (accepted_text source.now layout.now keys.now warnings.now inputs.now) S.Sink out.old out.new result }
+{
+    let text = accepted_text(alloc, source, layout, keys, warnings, inputs);
+    if is_sound(inputs) {
+        print_result(text, Status::Done, out)
+    } else {
+        print_result(text, Status::Refused, out)
+    }
+}
+
+/// Returns whether neither a layout nor a script is refused.
+#[tactic(auto, unfolding(crate::specs::Inputs::is_sound))]
+fn is_sound(inputs: &InputFindings) -> bool
+    ensures { result ≡ is_sound inputs.now }
+{
+    match inputs.layout {
+        Some(_) => false,
+        None => is_accepted(&inputs.script),
+    }
+}
+
+/// Returns whether a script is accepted.
+fn is_accepted(script: &ScriptFindings) -> bool
+    ensures { result ≡ is_accepted script.now }
+{
+    match script {
+        ScriptFindings::Refused(_) => false,
+        ScriptFindings::Accepted { .. } => true,
+    }
 }
 
 /// Prints the errors of a source.
@@ -47,7 +103,7 @@ fn print_refused<S: Sink>(
     alloc: Global,
     file: &[u8],
     first: Refusal,
-    errors: &[Placed],
+    errors: &[Explained],
     more: usize,
     out: &mut S,
 ) -> Status
@@ -82,23 +138,12 @@ fn stopped_text(alloc: Global, file: &[u8], why: Reason) -> Result<Text, Memory>
     Ok(text)
 }
 
-/// Returns the line of a reason in the form that editors read, and no text for a reason for which no check stops.
-fn reason_error(alloc: Global, file: &[u8], why: Reason) -> Result<Text, Memory>
-    ensures { IfOk result (λ line. line ≡ reason_error file.now why) }
-{
-    match why {
-        Reason::Line(refusal) => error_line(alloc, file, at_start(refusal)),
-        Reason::Size { code, .. } => error_line(alloc, file, at_start(Refusal { line: 1, code })),
-        _ => Ok(Seq::new(alloc)),
-    }
-}
-
 /// Returns the text of refusals that are printed, and of the number of the others. The first refusal is the one that compilation reports.
 fn refused_text(
     alloc: Global,
     file: &[u8],
     first: Refusal,
-    errors: &[Placed],
+    errors: &[Explained],
     more: usize,
 ) -> Result<Text, Memory>
     ensures { IfOk result (λ text. text ≡ refused_text file.now first errors.now more) }
@@ -108,40 +153,6 @@ fn refused_text(
     put_rest(alloc, &mut text, more)?;
     text.append(reason_line(alloc, Reason::Line(first))?)?;
     Ok(text)
-}
-
-/// Appends the lines of refusals.
-fn put_lines(alloc: Global, lines: &mut Text, file: &[u8], errors: &[Placed]) -> Result<(), Memory>
-    ensures { OnOk result (lines.new ≡ lines.old ++ flat_map (error_line file.now) errors.now) }
-{
-    for error in errors {
-        lines.append(error_line(alloc, file, *error)?)?;
-    }
-    Ok(())
-}
-
-/// Returns the line of a refusal.
-#[tactic(auto, unfolding(crate::specs::Printed::error_line))]
-fn error_line(alloc: Global, file: &[u8], error: Placed) -> Result<Text, Memory>
-    ensures { IfOk result (λ line. line ≡ error_line file.now error) }
-{
-    let mut line = Seq::from_slice(alloc, file)?;
-    let place = format!(in alloc; ":{}:{}: error ", error.line, error.column)?;
-    line.extend_from_slice(place.as_bytes())?;
-    line.extend_from_slice(error.code.text())?;
-    line.extend_from_slice(b": ")?;
-    put_meaning(&mut line, error.code)?;
-    line.extend_from_slice(b"\n")?;
-    Ok(line)
-}
-
-/// Appends the meaning of a code.
-fn put_meaning(line: &mut Text, code: Code) -> Result<(), Memory>
-    ensures { OnOk result (line.new ≡ line.old ++ meaning code) }
-{
-    line.extend_from_slice(token_meaning(code).as_bytes())?;
-    line.extend_from_slice(statement_meaning(code).as_bytes())?;
-    line.extend_from_slice(program_meaning(code).as_bytes())
 }
 
 /// Appends the line for refusals that are not printed.

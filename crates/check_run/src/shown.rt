@@ -1,4 +1,4 @@
-//! Which refusals of a source are printed, and where they stand.
+//! Which refusals of a source are printed, with their places and details.
 
 ghost use Rattle.std.specs.Prelude.{◌≡◌, ◌++◌, option_to_list, IfOk};
 ghost use Rattle.check_run.specs.Shown.{late, refused_lines, rest_count, sorted_lines};
@@ -6,7 +6,7 @@ ghost use Rattle.check_run.specs.Shown.{late, refused_lines, rest_count, sorted_
 use crate::findings::Findings;
 use kmn_base::slices::{before, behind};
 use kmn_base::{Memory, Refusal, Seq};
-use refusal_places::placed;
+use refusal_details::explained;
 use source_faults::sort_by_line;
 use std::alloc::Global;
 
@@ -38,7 +38,7 @@ fn sorted_lines(
     let others = behind(sorted, SHOWN);
     let late = late(first, others);
     let shown = with_late(alloc, before(sorted, SHOWN), late)?;
-    let errors = placed(alloc, bytes, shown.as_slice())?;
+    let errors = explained(alloc, bytes, shown.as_slice())?;
     Ok(Findings::Refused {
         first,
         errors,

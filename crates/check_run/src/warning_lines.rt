@@ -1,34 +1,15 @@
-//! What a check prints for a source that is not refused: a line for each warning and note, and how many there are.
+//! A line for each warning and note of a source, and how many there are.
 
 ghost use Rattle.std.specs.Prelude.{◌≡◌, ◌++◌, count_by, flat_map, IfOk, OnOk};
-ghost use Rattle.check_run.specs.Printed.{accepted_text, counts_line, is_noted, is_warned, severity, warning_line};
+ghost use Rattle.check_run.specs.Printed.{counts_line, is_noted, is_warned, severity, warning_line};
 
-use crate::warning_texts::{is_note, put_warning_text, warning_code};
+use check_texts::{is_note, put_warning_text, warning_code};
 use kmn_base::{Memory, Seq, Text};
 use source_warnings::{Warning, WarningKind};
 use std::alloc::Global;
 
-/// Returns the text of a source that is not refused, with its warnings in the order of lines.
-pub(crate) fn accepted_text(
-    alloc: Global,
-    file: &[u8],
-    warnings: &[Warning],
-) -> Result<Text, Memory>
-    ensures { IfOk result (λ text. text ≡ accepted_text file.now warnings.now) }
-{
-    let mut text = Seq::new(alloc);
-    put_warnings(alloc, &mut text, file, warnings)?;
-    put_counts(
-        alloc,
-        &mut text,
-        warning_count(warnings),
-        note_count(warnings),
-    )?;
-    Ok(text)
-}
-
 /// Appends the lines of warnings.
-fn put_warnings(
+pub(crate) fn put_warnings(
     alloc: Global,
     text: &mut Text,
     file: &[u8],
@@ -66,7 +47,7 @@ fn severity(kind: &WarningKind) -> &'static str
 }
 
 /// Returns the number of warnings that are not notes.
-fn warning_count(warnings: &[Warning]) -> usize
+pub(crate) fn warning_count(warnings: &[Warning]) -> usize
     ensures { result ≡ count_by is_warned warnings.now }
 {
     let mut count = 0;
@@ -79,7 +60,7 @@ fn warning_count(warnings: &[Warning]) -> usize
 }
 
 /// Returns the number of notes.
-fn note_count(warnings: &[Warning]) -> usize
+pub(crate) fn note_count(warnings: &[Warning]) -> usize
     ensures { result ≡ count_by is_noted warnings.now }
 {
     let mut count = 0;
@@ -92,7 +73,12 @@ fn note_count(warnings: &[Warning]) -> usize
 }
 
 /// Appends the last line: the number of warnings, and the number of notes.
-fn put_counts(alloc: Global, text: &mut Text, warnings: usize, notes: usize) -> Result<(), Memory>
+pub(crate) fn put_counts(
+    alloc: Global,
+    text: &mut Text,
+    warnings: usize,
+    notes: usize,
+) -> Result<(), Memory>
     ensures { OnOk result (text.new ≡ text.old ++ counts_line warnings notes) }
 {
     let line = format!(in alloc; "checked warnings={warnings} notes={notes}\n")?;

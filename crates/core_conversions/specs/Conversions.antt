@@ -1,6 +1,6 @@
 -- Three conversions of tables for Keyman's own engine. None of them changes the trace of any list of events (`specs/Laws`).
-use Rattle.std.specs.Prelude.{ℕ, Bool, true, false, not, ◌&&◌, ◌||◌, nat_eq, nat_lt, bit_and, if◌then◌else◌, List, [], ◌∷◌, length, map}
-use Rattle.std.specs.List.{list_all, list_any}
+use Rattle.std.specs.Prelude.{ℕ, Bool, true, false, not, ◌&&◌, ◌||◌, nat_eq, nat_lt, bit_and, if◌then◌else◌, List, [], ◌∷◌, length, map, drop, Option, Some, None}
+use Rattle.std.specs.List.{list_all, list_any, position_or_len}
 use Rattle.kmn_base.specs.declared.keys.RuleKey.{RuleKey}
 use Rattle.kmn_base.specs.declared.keys.RuleKey.TheVariants as key
 use Rattle.virtual_keys.specs.Fits.{has, either_control, either_alt}
@@ -112,6 +112,17 @@ abbrev pub nomatch_with : Group → List Rule → List Out
 nomatch_with group [] = group.on_nomatch
 nomatch_with group (rule ∷ rules) =
     if list_all has_empty_context rules && can_be_nomatch group.on_match rule.output then rule.output else group.on_nomatch
+
+-- whether the output of the first of these rules can be a nomatch output, and no later rule has a context
+abbrev pub can_have_nomatch : List Out → List Rule → Bool
+can_have_nomatch on_match [] = false
+can_have_nomatch on_match (rule ∷ rules) = list_all has_empty_context rules && can_be_nomatch on_match rule.output
+
+-- the number of the rule whose output becomes the nomatch output of a converted group, if any
+abbrev pub nomatch_rule : Group → Option ℕ
+nomatch_rule group =
+    let first = position_or_len has_empty_context group.rules in
+    if (not group.using_keys && nat_eq (length group.on_nomatch) 0) && can_have_nomatch group.on_match (drop first group.rules) then Some first else None
 
 -- the nomatch output of a converted group: it changes only in a group without keys and without a nomatch output
 abbrev pub nomatch_of : Group → List Out

@@ -1,5 +1,5 @@
 -- The export of the converted file, and what each exported file has.
-use Rattle.std.proofs.Common.{◌≡◌, ◌≢◌, ℕ, zero, suc, ◌+◌, Bool, true, false, List, length, Option, Some, None, Ok, Err, nat_eq, refl, sym, ap, subst, ◌∙◌, if◌then◌else◌}
+use Rattle.std.proofs.Common.{◌≡◌, ◌≢◌, ℕ, List, length, Option, Some, None, Ok, Err, refl, sym, ap, subst, ◌∙◌}
 use Rattle.std.specs.Prelude.{unwrap_or}
 use Rattle.std.proofs.lemmas.Bool.{false≢true}
 use Rattle.std.proofs.lemmas.Option.{none-some}
@@ -7,26 +7,18 @@ use Rattle.kmn_base.specs.declared.events.Event.{Event}
 use Rattle.rule_model.specs.declared.tables.Tables.{Tables}
 use Rattle.rule_model.specs.Tab.{tab}
 use Rattle.rule_model.specs.Trace.{trace}
-use Rattle.kmx_format.specs.declared.places.TheConstants.{GROUPS_AT}
-use Rattle.kmx_format.specs.TablesOf.{word_at, tables_of}
-use Rattle.kmx_view.specs.View.{group_count}
+use Rattle.kmx_format.specs.TablesOf.{tables_of}
 use Rattle.kmx_verifier.specs.declared.faults.Fault.{Fault}
 use Rattle.kmx_verifier.specs.FaultOf.{fault_of, IsValid}
-use Rattle.core_conversions.specs.Conversions.{plain_flags}
-use Rattle.core_conversions.specs.Laws.{KeepsTraces}
-use Rattle.core_conversions.proofs.NulFirst.{nul_first_keeps_traces}
-use Rattle.core_conversions.proofs.PlainSides.{plain_sides_keep_traces}
-use Rattle.core_export.specs.Conversions.{converted_bytes, converted_tables}
-use Rattle.core_export.specs.Converted.{plain_record, plain_records, plain_group, plain_groups, plain_bytes}
-use Rattle.core_export.specs.declared.conversions.Conversion.{Conversion}
-use Rattle.core_export.specs.declared.conversions.Conversion.TheVariants as conversion
+use Rattle.file_conversions.specs.Conversions.{converted_bytes, converted_tables}
+use Rattle.file_conversions.specs.declared.conversions.Conversion.{Conversion}
+use Rattle.file_conversions.specs.declared.conversions.Conversion.TheVariants as conversion
+use Rattle.file_conversions.proofs.AllConversions.{conversion_keeps_traces, converted_size}
 use Rattle.core_export.specs.declared.errors.ExportError.{ExportError}
 use Rattle.core_export.specs.declared.errors.ExportError.TheVariants as error
-use Rattle.core_export.specs.Export.{exported, SaysTheSame, ExportsUnconverted, IsConvertedExport, HasNoExport, FindsConverted, HasExport, IsAfter, Converted, Unconverted, Unchanged, Exports}
+use Rattle.core_export.specs.Export.{exported, SaysTheSame, ExportsUnconverted, IsConvertedExport, HasNoExport, FindsConverted, HasExport, IsAfter, Converted, Unconverted, Unchanged, IsAfterAll, Exports}
 use Rattle.core_export.specs.ExportLaws.{ExportsAreSafe, ExportsPlayAlike, ExportsKeepSize}
 use Rattle.core_export.proofs.Named.{exporting_keeps_meaning}
-use Rattle.core_export.proofs.NulWords.{nul_first_size}
-use Rattle.core_export.proofs.Replaced.{length-with_word}
 
 same_number : (a b : ℕ) → Some a ≡ Some b → a ≡ b
 same_number a b e = ap (λ (o : Option ℕ). unwrap_or o a) e
@@ -107,27 +99,20 @@ same_slice how bytes slice read is = subst (λ (xs : List ℕ). IsAfter how xs x
 
 -- ---- the result of the exporter
 
-pub exports_after : (bytes own own_out first second out : List ℕ) → own ≡ bytes → HasExport own own_out → IsAfter conversion.NulFirst own first → IsAfter conversion.PlainSides first second
-    → HasExport second out → Exports bytes (Ok out)
-exports_after bytes own own_out first second out is exports nul sides last = (
-  (own_out, subst (λ (xs : List ℕ). ExportsUnconverted xs (Ok own_out)) is exports.exported),
-  record {
-    first = first;
-    second = second;
-    nul = subst (λ (xs : List ℕ). IsAfter conversion.NulFirst xs first) is nul;
-    sides = sides;
-    exported = last.exported;
-  },
+pub after_three : (bytes first second last : List ℕ) → IsAfter conversion.NulFirst bytes first → IsAfter conversion.PlainSides first second → IsAfter conversion.EmptyAsNomatch second last
+    → IsAfterAll bytes last
+after_three bytes first second last nul sides empty = record { first = first; second = second; nul = nul; sides = sides; empty = empty }
+
+pub exports_after : (bytes own own_out last out : List ℕ) → own ≡ bytes → HasExport own own_out → IsAfterAll own last → HasExport last out → Exports bytes (Ok out)
+exports_after bytes own own_out last out is exports after done = (
+  record { own = own_out; exported = subst (λ (xs : List ℕ). ExportsUnconverted xs (Ok own_out)) is exports.exported },
+  record { last = last; after = subst (λ (xs : List ℕ). IsAfterAll xs last) is after; exported = done.exported },
 )
 
 -- ---- laws
 
 pub exports_are_safe : ExportsAreSafe
 exports_are_safe bytes out exports = exports.1.exported.2
-
-conversion_keeps_traces : (how : Conversion) → KeepsTraces (converted_tables how)
-conversion_keeps_traces conversion.NulFirst = nul_first_keeps_traces
-conversion_keeps_traces conversion.PlainSides = plain_sides_keep_traces
 
 -- a file and the file after a conversion take the same steps
 after_alike : (how : Conversion) (bytes after : List ℕ) (events : List Event) → IsAfter how bytes after → trace (tab (tables_of after)) events ≡ trace (tab (tables_of bytes)) events
@@ -136,46 +121,31 @@ after_alike how bytes after events (Converted out converted is) =
 after_alike how bytes after events (Unconverted none is) = ap (λ (xs : List ℕ). trace (tab (tables_of xs)) events) is
 after_alike how bytes after events (Unchanged same is) = ap (λ (xs : List ℕ). trace (tab (tables_of xs)) events) is
 
+all_alike : (bytes last : List ℕ) (events : List Event) → IsAfterAll bytes last → trace (tab (tables_of last)) events ≡ trace (tab (tables_of bytes)) events
+all_alike bytes last events after =
+    after_alike conversion.EmptyAsNomatch after.second last events after.empty
+    ∙ after_alike conversion.PlainSides after.first after.second events after.sides
+    ∙ after_alike conversion.NulFirst bytes after.first events after.nul
+
 pub exports_play_alike : ExportsPlayAlike
 exports_play_alike bytes out exports events =
     let done = exports.1 in
-    exporting_keeps_meaning done.second out done.exported.1.4.same events
-    ∙ after_alike conversion.PlainSides done.first done.second events done.sides
-    ∙ after_alike conversion.NulFirst bytes done.first events done.nul
+    exporting_keeps_meaning done.last out done.exported.1.4.same events ∙ all_alike bytes done.last events done.after
 
 -- ---- the number of bytes
-
-module _ (bytes : List ℕ) where
-  records_size : (place count : ℕ) (out : List ℕ) → length (plain_records bytes place count out) ≡ length out
-  records_size place zero out = refl
-  records_size place (suc count) out =
-      records_size (place + 20) count (plain_record bytes place out) ∙ length-with_word (place + 8) (plain_flags (word_at bytes (place + 8))) out
-
-  group_size : (place : ℕ) (out : List ℕ) → length (plain_group bytes place out) ≡ length out
-  group_size place out = by_keys (nat_eq (word_at bytes (place + 20)) 0)
-    where
-      by_keys : (without_keys : Bool) → length (if without_keys then out else plain_records bytes (word_at bytes (place + 4)) (word_at bytes (place + 16)) out) ≡ length out
-      by_keys true = refl
-      by_keys false = records_size (word_at bytes (place + 4)) (word_at bytes (place + 16)) out
-
-  groups_size : (place count : ℕ) (out : List ℕ) → length (plain_groups bytes place count out) ≡ length out
-  groups_size place zero out = refl
-  groups_size place (suc count) out = groups_size (place + 24) count (plain_group bytes place out) ∙ group_size place out
-
-plain_size : (bytes : List ℕ) → length (plain_bytes bytes) ≡ length bytes
-unfolding plain_bytes
-plain_size bytes = groups_size bytes (word_at bytes GROUPS_AT) (group_count bytes) bytes
-
-converted_size : (how : Conversion) (bytes : List ℕ) → length (converted_bytes how bytes) ≡ length bytes
-converted_size conversion.NulFirst bytes = nul_first_size bytes
-converted_size conversion.PlainSides bytes = plain_size bytes
 
 after_size : (how : Conversion) (bytes after : List ℕ) → IsAfter how bytes after → length after ≡ length bytes
 after_size how bytes after (Converted out converted is) = ap length is ∙ converted_size how bytes
 after_size how bytes after (Unconverted none is) = ap length is
 after_size how bytes after (Unchanged same is) = ap length is
 
+all_size : (bytes last : List ℕ) → IsAfterAll bytes last → length last ≡ length bytes
+all_size bytes last after =
+    after_size conversion.EmptyAsNomatch after.second last after.empty
+    ∙ after_size conversion.PlainSides after.first after.second after.sides
+    ∙ after_size conversion.NulFirst bytes after.first after.nul
+
 pub exports_keep_size : ExportsKeepSize
 exports_keep_size bytes out exports =
     let done = exports.1 in
-    done.exported.1.3.size ∙ after_size conversion.PlainSides done.first done.second done.sides ∙ after_size conversion.NulFirst bytes done.first done.nul
+    done.exported.1.3.size ∙ all_size bytes done.last done.after

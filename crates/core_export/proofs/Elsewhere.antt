@@ -7,10 +7,10 @@ use Rattle.kmx_format.specs.declared.places.TheConstants.{CHECKSUM_AT, GROUPS_AT
 use Rattle.kmx_format.specs.declared.sizes.TheConstants.{STORE_BYTES, GROUP_BYTES, RULE_BYTES}
 use Rattle.kmx_format.specs.TablesOf.{word_at}
 use Rattle.kmx_view.specs.View.{store_count, group_count}
+use Rattle.file_conversions.specs.Words.{with_word}
+use Rattle.file_conversions.proofs.Words.{length-with_word, before_same, behind_same}
 use Rattle.core_export.specs.Checksum.{checksum}
-use Rattle.core_export.specs.Words.{with_word}
 use Rattle.core_export.specs.Export.{pointed, pointed_stores, pointed_record, pointed_records, pointed_groups, played_version, summed, replaced, exported, IsInWord, IsInZero, IsInContents, IsInRecords, IsInGroups, InChecksum, InVersion, InContent, InOutput, InContext, OnlyReplaced}
-use Rattle.core_export.proofs.Replaced.{length-with_word, before_same, behind_same}
 
 -- ---- the number of bytes
 

@@ -19,11 +19,11 @@ use Rattle.kmx_format.proofs.FileLaw.{Parts, parts, law, version-small}
 use Rattle.kmx_view.specs.View.{store_count, group_count}
 use Rattle.kmx_verifier.specs.FaultOf.{IsValid}
 use Rattle.kmx_verifier.proofs.FileValid.{file_of_valid}
+use Rattle.file_conversions.specs.Words.{with_word}
+use Rattle.file_conversions.proofs.Words.{half_there}
 use Rattle.core_export.specs.Checksum.{checksum}
-use Rattle.core_export.specs.Words.{with_word}
 use Rattle.core_export.specs.Export.{zero_unit, pointed_stores, pointed_groups, played_version, replaced, exported, SaysTheSame}
 use Rattle.core_export.specs.ExportLaws.{WrittenFilesAreExported}
-use Rattle.core_export.proofs.Replaced.{half_there}
 use Rattle.core_export.proofs.Outside.{Outside, GroupsLaid, after, wider, word_outside, front_same, stores_outside, groups_outside}
 use Rattle.core_export.proofs.Kept.{IsClear, StoresClear, RecordsClear, GroupsClear}
 use Rattle.core_export.proofs.Laid.{Laid, says_same}

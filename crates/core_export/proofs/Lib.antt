@@ -7,7 +7,6 @@ pub mod Kept
 pub mod Laid
 pub mod Made
 pub mod Named
-pub mod NulWords
 pub mod Safe
 pub mod Outside
 pub mod Replaced

@@ -6,8 +6,8 @@ use Rattle.kmx_format.specs.TablesOf.{word_at}
 use Rattle.kmx_view.specs.View.{store_count, group_count}
 use Rattle.kmx_verifier.specs.FaultOf.{size_fault, fault_of, IsValid}
 use Rattle.kmx_verifier.proofs.Sound.{broken-none}
+use Rattle.file_conversions.specs.Words.{with_word}
 use Rattle.core_export.specs.Checksum.{checksum}
-use Rattle.core_export.specs.Words.{with_word}
 use Rattle.core_export.specs.Export.{zero_unit, pointed_stores, pointed_groups, played_version, replaced, exported, SaysTheSame, OnlyReplaced, IsExport}
 use Rattle.core_export.proofs.Replaced.{version_stands}
 use Rattle.core_export.proofs.Elsewhere.{only_replaced}

@@ -5,9 +5,9 @@ use Rattle.std.specs.Int.{w16, from_le_bytes}
 use Rattle.std.proofs.lemmas.Bool.Decides.{eqb_tells}
 use Rattle.std.proofs.lemmas.List.{drop-drop, drop-take, take-take}
 use Rattle.kmx_format.specs.TablesOf.{half_at, word_at}
-use Rattle.core_export.specs.Words.{with_word}
+use Rattle.file_conversions.specs.Words.{with_word}
+use Rattle.file_conversions.proofs.Words.{length-with_word, before_same, behind_same, read_there, same_words}
 use Rattle.core_export.specs.Export.{pointed, pointed_stores, pointed_record, pointed_records, pointed_groups}
-use Rattle.core_export.proofs.Replaced.{length-with_word, before_same, behind_same, read_there, same_words}
 
 -- ---- equal bytes
 

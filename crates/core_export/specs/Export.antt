@@ -7,13 +7,13 @@ use Rattle.kmx_format.specs.declared.sizes.TheConstants.{STORE_BYTES, GROUP_BYTE
 use Rattle.kmx_format.specs.TablesOf.{word_at, string_at, tables_of}
 use Rattle.kmx_view.specs.View.{store_count, group_count}
 use Rattle.kmx_verifier.specs.FaultOf.{IsValid}
-use Rattle.core_export.specs.Conversions.{converted_bytes, converted_tables}
+use Rattle.file_conversions.specs.Conversions.{converted_bytes, converted_tables}
+use Rattle.file_conversions.specs.Words.{with_word}
+use Rattle.file_conversions.specs.declared.conversions.Conversion.{Conversion}
+use Rattle.file_conversions.specs.declared.conversions.Conversion.TheVariants as conversion
 use Rattle.core_export.specs.Saves.{saving_line}
 use Rattle.core_export.specs.Checksum.{checksum}
 use Rattle.core_export.specs.Readable.{are_contents_pointed, are_groups_pointed, has_misread, has_nameless, is_overfull, misread_line, AreSafe, IsReadable}
-use Rattle.core_export.specs.Words.{with_word}
-use Rattle.core_export.specs.declared.conversions.Conversion.{Conversion}
-use Rattle.core_export.specs.declared.conversions.Conversion.TheVariants as conversion
 use Rattle.core_export.specs.declared.errors.ExportError.{ExportError}
 use Rattle.core_export.specs.declared.errors.ExportError.TheVariants.{SavesTwice, Nameless, Unreadable, Overfull, NoZeroUnit, Overlapping, Memory}
 
@@ -228,17 +228,28 @@ pub record HasExport (bytes out : List ℕ) : Type 0 where
   pub valid : IsValid bytes
   pub exported : ExportsUnconverted bytes (Ok out)
 
--- the export of a file after both conversions, the first of them that of `nul`
-pub record IsConverted (bytes out : List ℕ) : Type 0 where
+-- a file that has an export without a conversion
+pub record HasOwnExport (bytes : List ℕ) : Type 0 where
+  pub own : List ℕ
+  pub exported : ExportsUnconverted bytes (Ok own)
+
+-- the file after the three conversions: first that of `nul`, then that of the sides of keys, then that of empty contexts
+pub record IsAfterAll (bytes last : List ℕ) : Type 0 where
   pub first : List ℕ
   pub second : List ℕ
   pub nul : IsAfter conversion.NulFirst bytes first
   pub sides : IsAfter conversion.PlainSides first second
-  pub exported : ExportsUnconverted second (Ok out)
+  pub empty : IsAfter conversion.EmptyAsNomatch second last
 
--- the result of the exporter: the export of the file after both conversions. If the file itself isn't exported, this is the error
+-- the export of a file after the three conversions
+pub record IsConverted (bytes out : List ℕ) : Type 0 where
+  pub last : List ℕ
+  pub after : IsAfterAll bytes last
+  pub exported : ExportsUnconverted last (Ok out)
+
+-- the result of the exporter: the export of the file after the three conversions. If the file itself isn't exported, this is the error
 abbrev pub Exports : List ℕ → Result (List ℕ) ExportError → Type 0
-Exports bytes (Ok out) = ((own : List ℕ) × ExportsUnconverted bytes (Ok own)) × IsConverted bytes out
+Exports bytes (Ok out) = HasOwnExport bytes × IsConverted bytes out
 Exports bytes (Err error) = IsExportError bytes error
 
 -- what an error of a check reports: `Overlapping` if the property does not hold; `Memory` has no condition

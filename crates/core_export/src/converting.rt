@@ -4,13 +4,13 @@ ghost use Rattle.std.specs.Prelude.{◌≡◌, IfOk, MatchOption, MatchResult};
 ghost use Rattle.std.specs.Bool.{Decides};
 ghost use Rattle.kmx_format.specs.TablesOf.{tables_of};
 ghost use Rattle.kmx_verifier.specs.FaultOf.{IsValid};
-ghost use Rattle.core_export.specs.Conversions.{converted_tables};
-ghost use Rattle.core_export.specs.Export.{FindsConverted, HasExport, IsAfter, IsExportError, Exports};
+ghost use Rattle.file_conversions.specs.Conversions.{converted_tables};
+ghost use Rattle.core_export.specs.Export.{FindsConverted, HasExport, IsAfter, IsAfterAll, IsExportError, Exports};
 
-use crate::conversions::{Conversion, convert_tables, converted_bytes};
 use crate::errors::ExportError;
 use crate::exporting::export_unconverted;
 use crate::same::same_tables;
+use file_conversions::{Conversion, convert_tables, converted_bytes};
 use kmn_base::{Memory, Seq};
 use kmx_verifier::{Verified, VerifyError, verify};
 use std::alloc::Global;
@@ -25,7 +25,8 @@ struct Exported {
 /// Returns the file that Keyman's own engine plays: each offset 0 of a store's content, of a context or of an output points to a
 /// zero unit of the file, the version is at most 15.0, and the checksum is right. Each `nul` before the first matched item of a
 /// context is before the conditions, if the file with these contexts says the same and is exported. After this, a key that has CTRL
-/// or ALT has none of its sides, if the file with these keys says the same and is exported.
+/// or ALT has none of its sides, and then a group without keys has the output of its first rule with an empty context as its nomatch
+/// output, each if the file with it says the same and is exported.
 ///
 /// Errors, the first of them that is true: `SavesTwice` if an event may save twice; `Nameless` if a store without a name is set and
 /// reset; `Unreadable` if that engine misreads an item; `Overfull` if that engine has not enough space for its tables of the file;
@@ -36,9 +37,8 @@ pub fn export(alloc: Global, file: &Verified<'_>) -> Result<Seq<u8>, ExportError
     ensures { Exports file.now result }
 {
     let own = with_export(alloc, file)?;
-    let first = after_conversion(alloc, Conversion::NulFirst, own)?;
-    let second = after_conversion(alloc, Conversion::PlainSides, first)?;
-    Ok(second.out)
+    let last = after_all(alloc, own)?;
+    Ok(last.out)
 }
 
 /// Returns a file and its export, without a conversion.
@@ -49,6 +49,19 @@ fn with_export(alloc: Global, file: &Verified<'_>) -> Result<Exported, ExportErr
     let out = export_unconverted(alloc, file)?;
     let bytes = Seq::from_slice(alloc, file.bytes())?;
     Ok(Exported { bytes, out })
+}
+
+/// Returns the file after the three conversions, and its export.
+#[tactic(auto, using(crate::proofs::ConvertedExports::after_three))]
+fn after_all(alloc: Global, given: Exported) -> Result<Exported, Memory>
+    requires { HasExport given.bytes given.out }
+    ensures exported { IfOk result (λ after. HasExport after.bytes after.out) }
+    ensures after { IfOk result (λ after. IsAfterAll given.bytes after.bytes) }
+{
+    let first = after_conversion(alloc, Conversion::NulFirst, given)?;
+    let second = after_conversion(alloc, Conversion::PlainSides, first)?;
+    let third = after_conversion(alloc, Conversion::EmptyAsNomatch, second)?;
+    Ok(third)
 }
 
 /// Returns the file after a conversion, and its export.
@@ -141,6 +154,6 @@ fn has_converted_tables(
     ensures { IfOk result (λ same. Decides same (tables_of converted.now ≡ converted_tables how (tables_of file.now))) }
 {
     let mut wanted = file.copied_tables(alloc)?;
-    convert_tables(how, &mut wanted);
+    convert_tables(alloc, how, &mut wanted)?;
     Ok(same_tables(&converted.copied_tables(alloc)?, &wanted))
 }

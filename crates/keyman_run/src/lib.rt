@@ -9,7 +9,7 @@
 //! what was read, and how it ends. `specs/Run` defines what a run of such work accesses, leaves and returns (`Does`). The
 //! contract of each command is `Does` for its work. The layer above calls `run` and ends with the number of its `Status`. The
 //! clauses of `run` (`specs/Runs`) state all of this by name. Programs that do other work define it in the same way, and use the steps
-//! that read and compile (`read_file`, `read_own_entries`, `compile_beside`) and `print_stop`.
+//! that read and compile (`read_file`, `read_own_entries`, `read_entries`, `read_keys`, `compile_beside`) and `print_stop`.
 #![tactic(auto)]
 
 mod hosting;
@@ -22,5 +22,9 @@ mod texts;
 mod tracing;
 
 pub use keyman_words::Status;
-pub use preparing::{Stop, at_line_one, compile_beside, read_file, read_own_entries, read_stop};
+pub use layouts::read_keys;
+pub use preparing::{
+    Stop, at_line_one, compile_beside, key_names, read_entries, read_file, read_own_entries,
+    read_stop,
+};
 pub use running::{print_stop, run};

@@ -182,7 +182,7 @@ fn read_named_picture<F: Folder>(
 }
 
 /// Reads a script by name for a keyboard with these key names.
-fn read_entries<F: Folder>(
+pub fn read_entries<F: Folder>(
     alloc: Global,
     keys: &FileName<'_>,
     names: &KeyDictionary,

@@ -1,5 +1,6 @@
 pub mod Beside
 pub mod Command
+pub mod LayoutNames
 pub mod Seen
 pub mod Status
 pub mod Tells

@@ -3,6 +3,7 @@
 ghost use Rattle.std.specs.Prelude.{◌≡◌, IfOk, IsTrue};
 ghost use Rattle.kmn_outside.specs.Outside.{IsLimited, ReadCounts, Reads, WriteCounts, Writes};
 ghost use Rattle.keyman_words.specs.Beside.{beside, folder_part};
+ghost use Rattle.keyman_words.specs.LayoutNames.{is_layout};
 
 use kmn_base::slices::before;
 use kmn_base::{Memory, Seq, Text};
@@ -33,6 +34,13 @@ impl<'a> FileName<'a> {
             bytes: text.as_slice(),
         }
     }
+}
+
+/// Returns whether a name ends as the name of a touch layout does.
+pub fn is_layout(name: &[u8]) -> bool
+    ensures { result ≡ is_layout name.now }
+{
+    name.ends_with(b".keyman-touch-layout") || name.ends_with(b".json")
 }
 
 /// Reads the file with a name.

@@ -9,6 +9,7 @@
 //! passes. The runs use these functions:
 //! - `command_of` returns exactly the command that `request_of` specifies (`specs/Command`).
 //! - `read` and `write` access a file by its name, and `beside` returns the name of a file in another file's folder (`specs/Beside`).
+//!   `is_layout` returns whether a name ends as that of a touch layout (`specs/LayoutNames`).
 //! - `reason_line` returns the line of a `Reason` why work is refused (`specs/Reasons`). `compiled_line`, `valid_line`,
 //!   `decompiled_line` and `sound_line` return the lines of work that was done (`specs/Lines`). Each returns exactly its line, unless
 //!   an allocation fails. `LONG_FILE` is the fault of a file that is too long to read.
@@ -29,7 +30,7 @@ mod status;
 
 pub use command::{Command, command_of};
 pub use file_lines::{compiled_line, decompiled_line, sound_line, valid_line};
-pub use file_name::{FileName, beside, read, write};
+pub use file_name::{FileName, beside, is_layout, read, write};
 pub use lines::reason_line;
 pub use printing::{print_line, print_result, write_status};
 pub use process::words;

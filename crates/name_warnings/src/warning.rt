@@ -35,6 +35,14 @@ pub enum WarningKind {
         any: Text,
         index: Text,
     },
+    /// W07: whenever a rule would hold, a rule of one of these lines is earlier and holds too. At the rule.
+    NeverFirst {
+        lines: Seq<u32>,
+    },
+    /// W07, a note: there are too many key records to look for rules that never take precedence. At line 1.
+    NeverFirstNotSought {
+        records: u64,
+    },
     /// W08: outputs set an option that no statement asks for. At the first `set`.
     OptionNeverAsked {
         option: Text,

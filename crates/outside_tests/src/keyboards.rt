@@ -25,7 +25,8 @@ store(v) 'ab'¶§nul any(v) + 'a' > index(v,2)¶any(v) + 'b' > index(v,1) ⇒ di
 §nul 'b' + 'a' > context(2) ⇒ differs 3 offset
 §nul 'b' context(2) + 'a' > 'c' ⇒ differs 3 offset
 §nul 'b' + 'a' > context ⇒ 
-§+ 'a' > use(g)¶group(g)¶'' > 'b'¶'c' > 'd' ⇒ differs 5 empty
+§+ 'a' > use(g)¶group(g)¶'' > 'b'¶'c' > 'd' ⇒ 
+§+ 'a' > use(g)¶group(g)¶'' > context 'b'¶'c' > 'd' ⇒ differs 5 empty
 §+ [CTRL LCTRL K_A] > 'b'¶+ [ALT LCTRL K_A] > 'b'¶+ [ALT RALT K_B] > 'b' ⇒ differs 4 sides,differs file both
 §+ [LCTRL RALT K_A] > 'b'¶+ [LCTRL LALT K_A] > 'b'¶+ [CTRL RALT K_A] > 'b' ⇒ differs 3 right,differs 5 sides
 §⟨dk(1) ×21⟩+ 'a' > 'b' dk(1)¶⟨dk(1) ×21⟩'b' + 'a' > 'b' ⇒ differs 4 long,differs file marks

@@ -1,7 +1,7 @@
 //! Tests the external input of a run: `folders` tests calls of `kmn_outside` over real files, `layouts` the touch layouts of
 //! `touch_layout`, `loads` the printed texts of errors of `load_maker`, and `hostile` runs of `keyman_run` in which a call fails or a
 //! file has the maximum size. `keyboards` tests the lines that `export_run` prints for small sources, and `checks` the lines that
-//! `check_run` prints.
+//! `check_run` prints for small sources, layouts and scripts.
 //!
 //! A crate with tests is proved twice, once with them and once without. The tests are in this crate so that each tested crate
 //! is proved only once. Depends on the tested crates, and on `run_tests`, whose `commands` runs commands. `fixtures` creates

@@ -1,2 +1,1 @@
 pub mod FaultSteps
-pub mod PlacedBytes

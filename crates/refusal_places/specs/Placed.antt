@@ -1,14 +1,11 @@
 -- Where the refusals of a source stand.
-use Rattle.std.specs.Prelude.{ℕ, nat_eq, nat_lt, Bool, true, false, not, if◌then◌else◌, List, [], ◌∷◌, length, take, drop, map, Option, None, Some}
-use Rattle.std.specs.Str.{is_utf8}
+use Rattle.std.specs.Prelude.{ℕ, nat_eq, Bool, true, false, if◌then◌else◌, List, [], ◌∷◌, take, drop, Option, None, Some}
 use Rattle.kmn_base.specs.declared.codes.Code.{Code}
 use Rattle.kmn_base.specs.declared.codes.Code.TheVariants.{L01, L05, C01, C19, C20, C21, C22}
-use Rattle.kmn_base.specs.declared.limits.TheConstants.{TEXT_BYTES}
 use Rattle.kmn_base.specs.declared.refusals.Refusal.{Refusal}
 use Rattle.kmn_lines.specs.Lines.{logicals}
 use Rattle.kmn_lines.specs.declared.logical.Logical.{Logical}
 use Rattle.source_names.specs.declared.causes.NameFault.{NameFault}
-use Rattle.source_faults.specs.Faults.{name_faults}
 use Rattle.refusal_places.specs.Columns.{column_behind}
 use Rattle.refusal_places.specs.Names.{name_at}
 use Rattle.refusal_places.specs.Spots.{spot_in}
@@ -44,12 +41,6 @@ placed_among source found name (line ∷ lines) =
     else placed_among source found name lines
 
 -- a refusal of a source in UTF-8, for the causes for which names refuse its lines
-abbrev pub placed_in : List ℕ → List NameFault → Refusal → Placed
+unfoldable pub placed_in : List ℕ → List NameFault → Refusal → Placed
 placed_in source faults found =
     if is_of_whole found.code then at_start found else placed_among source found (name_at found.line faults) (logicals source)
-
--- refusals of a source, each at its place; a source that is too long or not in UTF-8 has no lines
-unfoldable pub placed : List ℕ → List Refusal → List Placed
-placed source refusals =
-    if nat_lt TEXT_BYTES (length source) then map at_start refusals
-    else (if not (is_utf8 source) then map at_start refusals else map (placed_in source (name_faults source)) refusals)

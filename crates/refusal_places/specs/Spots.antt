@@ -55,7 +55,7 @@ stopped_at (Ok read) = 0
 stopped_at (Err found) = found.at
 
 -- the number of tokens before the one at which reading a line stops, for a refusal of the line with this code
-abbrev pub stop_place : ℕ → Code → List LineToken → ℕ
+unfoldable pub stop_place : ℕ → Code → List LineToken → ℕ
 stop_place line code tokens = stopped_at (read_line (group_again code tokens) line tokens)
 
 -- where a token begins

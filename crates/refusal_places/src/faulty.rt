@@ -18,7 +18,7 @@ use kmn_lines::{Logical, parts};
 use kmn_tokens::{has_forbidden, number, starts_number};
 
 /// Returns where the first token of a logical line begins that has a fault, if there is one.
-pub(crate) fn faulty_spot(source: &str, logical: Logical) -> Option<Spot>
+pub fn faulty_spot(source: &str, logical: Logical) -> Option<Spot>
     requires few { length source.now ≤ TEXT_BYTES }
     requires placed { IsPlaced source.now logical }
     ensures { result ≡ parts_spot source.now (parts_in source.now logical) }

@@ -10,7 +10,7 @@ use kmn_lines::{Token, TokenKind};
 use source_names::{Cause, NameFault};
 
 /// Returns the name that the cause at a line lacks, or an empty name.
-pub(crate) fn name_at(line: u32, faults: &[NameFault]) -> &[u8]
+pub fn name_at(line: u32, faults: &[NameFault]) -> &[u8]
     ensures { result.now ≡ name_at line faults.now }
 {
     for fault in faults {

@@ -1,82 +1,28 @@
 //! The places of the refusals of a source.
 
-ghost use Rattle.std.specs.Prelude.{◌≡◌, ◌≤◌, length, take, drop, map, IfOk};
+ghost use Rattle.std.specs.Prelude.{◌≡◌, ◌≤◌, length, take, drop, IfOk};
 ghost use Rattle.kmn_base.specs.declared.limits.TheConstants.{TEXT_BYTES};
 ghost use Rattle.kmn_lines.specs.Lines.{logicals};
 ghost use Rattle.kmn_lines.specs.Places.{IsPlaced};
 ghost use Rattle.refusal_places.specs.Columns.{column_behind};
-ghost use Rattle.refusal_places.specs.Placed.{at_start, is_of_whole, placed, placed_among, placed_at, placed_in};
+ghost use Rattle.refusal_places.specs.Placed.{is_of_whole, placed_among, placed_at, placed_in};
 ghost use Rattle.refusal_places.specs.Spots.{spot_in};
-ghost use Rattle.source_faults.specs.Faults.{name_faults};
 
 use crate::columns::column_behind;
 use crate::names::name_at;
 use crate::placed_refusal::{Placed, at_start};
 use crate::spot::Spot;
 use crate::spots::spot_in;
-use kmn_base::limits::TEXT_BYTES;
 use kmn_base::slices::{before, behind};
-use kmn_base::{Code, Memory, Refusal, Seq};
+use kmn_base::{Code, Memory, Refusal};
 use kmn_lines::{Logical, lines};
-use source_faults::name_faults;
 use source_names::NameFault;
 use std::alloc::Global;
-use std::str;
 
-/// Returns refusals of a source in their order, each with its place. The lines of the source are read up to the one of each refusal, so
-/// this is meant for as many refusals as are printed. Errors: `Memory` if an allocation fails.
-#[tactic(auto, using(crate::proofs::PlacedBytes::long_at_starts))]
-pub fn placed(alloc: Global, source: &[u8], refusals: &[Refusal]) -> Result<Seq<Placed>, Memory>
-    ensures { IfOk result (λ list. list ≡ placed source.now refusals.now) }
-{
-    if source.len() > TEXT_BYTES {
-        return at_starts(alloc, refusals);
-    }
-    match str::from_utf8(source) {
-        Ok(text) => text_placed(alloc, text, refusals),
-        Err(_) => at_starts(alloc, refusals),
-    }
-}
-
-/// Returns refusals at the starts of their lines.
-fn at_starts(alloc: Global, refusals: &[Refusal]) -> Result<Seq<Placed>, Memory>
-    ensures { IfOk result (λ list. list ≡ map at_start refusals.now) }
-{
-    let mut list = Seq::new(alloc);
-    for refusal in refusals {
-        list.add(at_start(*refusal))?;
-    }
-    Ok(list)
-}
-
-/// Returns refusals of a source in UTF-8, each with its place.
-fn text_placed(alloc: Global, source: &str, refusals: &[Refusal]) -> Result<Seq<Placed>, Memory>
-    requires { length source.now ≤ TEXT_BYTES }
-    ensures { IfOk result (λ list. list ≡ map (placed_in source.now (name_faults source.now)) refusals.now) }
-{
-    let faults = name_faults(alloc, source)?;
-    all_placed(alloc, source, faults.as_slice(), refusals)
-}
-
-/// Returns refusals, each with its place, for the causes for which names refuse lines.
-fn all_placed(
-    alloc: Global,
-    source: &str,
-    faults: &[NameFault],
-    refusals: &[Refusal],
-) -> Result<Seq<Placed>, Memory>
-    requires { length source.now ≤ TEXT_BYTES }
-    ensures { IfOk result (λ list. list ≡ map (placed_in source.now faults.now) refusals.now) }
-{
-    let mut list = Seq::new(alloc);
-    for refusal in refusals {
-        list.add(placed_in(alloc, source, faults, *refusal)?)?;
-    }
-    Ok(list)
-}
-
-/// Returns a refusal of a source in UTF-8 with its place.
-fn placed_in(
+/// Returns a refusal of a source in UTF-8 with its place, for the causes for which names refuse lines of the source. The lines of the
+/// source are read up to the one of the refusal, so this is meant for refusals that are printed. Errors: `Memory` if an allocation fails.
+#[tactic(auto, unfolding(crate::specs::Placed::placed_in))]
+pub fn placed_in(
     alloc: Global,
     source: &str,
     faults: &[NameFault],

@@ -64,8 +64,14 @@ fn tokens_spot(
 }
 
 /// Returns the number of tokens before the one at which reading a line stops, for a refusal with this code. It is 0 if the line is read
-/// whole.
-fn stop_place(alloc: Global, line: u32, code: Code, tokens: LineTokens<'_>) -> Result<usize, Memory>
+/// whole. Errors: `Memory` if an allocation fails.
+#[tactic(auto, unfolding(crate::specs::Spots::stop_place))]
+pub fn stop_place(
+    alloc: Global,
+    line: u32,
+    code: Code,
+    tokens: LineTokens<'_>,
+) -> Result<usize, Memory>
     requires { length (texts tokens) < 2 ^ 59 }
     ensures { IfOk result (λ place. place ≡ stop_place line code (texts tokens.entry)) }
 {

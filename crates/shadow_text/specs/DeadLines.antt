@@ -11,6 +11,7 @@ use Rattle.kmx_format.specs.Writable.{IsWritable}
 use Rattle.compile_laws.specs.WellNamed.{IsWellNamed}
 use Rattle.compile_laws.specs.Compiles.{Compiles}
 use Rattle.rule_shadow.specs.Laws.{IsDead}
+use Rattle.shadow_text.specs.declared.dead_lines.DeadRule.{DeadRule}
 use Rattle.shadow_text.specs.declared.verdicts.Verdict.{Verdict}
 use Rattle.shadow_text.specs.Verdicts.{verdicts}
 
@@ -44,7 +45,18 @@ dead_among all = filter (is_dead all) (rule_lines all)
 unfoldable pub dead_lines : Tables → List ℕ
 dead_lines tables = dead_among (verdicts tables)
 
--- a dead rule, and the lines found for its records: whenever it would hold, a rule of one of these lines is earlier and holds too
+-- a dead rule with the lines found for its records: whenever it would hold, a rule of one of these lines is earlier and holds too
+abbrev pub dead_rule : List Verdict → ℕ → DeadRule
+dead_rule all line = record { line = line; before = lines_before all line }
+
+-- the rules that have something found for each of their records, in the order of lines
+unfoldable pub dead_list : List Verdict → List DeadRule
+dead_list all = map (dead_rule all) (dead_among all)
+
+unfoldable pub found_dead : Tables → List DeadRule
+found_dead tables = dead_list (verdicts tables)
+
+-- the printed line of a dead rule
 abbrev pub dead_line : List Verdict → ℕ → List ℕ
 dead_line all line =
     concat (codes "dead " ∷ decimal line ∷ codes " by " ∷ joined (map decimal (lines_before all line)) ∷ codes "\n" ∷ [])
@@ -68,3 +80,10 @@ IsDeadLine program line = (n : ℕ) (group : GroupDef) → slice_get program.gro
 abbrev pub DeadLinesAreDead : Type 0
 DeadLinesAreDead =
     (program : Program) (tables : Tables) → IsWellNamed program → Compiles program tables → IsWritable tables → All (IsDeadLine program) (dead_lines tables)
+
+abbrev pub rule_line : DeadRule → ℕ
+rule_line rule = rule.line
+
+-- the lines of the rules in `found_dead` are `dead_lines`
+abbrev pub FoundAreDeadLines : Type 0
+FoundAreDeadLines = (tables : Tables) → map rule_line (found_dead tables) ≡ dead_lines tables

@@ -1,12 +1,13 @@
 //! The printed lines for dead rules, each with its line feed.
 
-ghost use Rattle.std.specs.Prelude.{◌≡◌, ◌++◌, [], filter, flat_map, unwrap_or, IfOk, OnOk};
+ghost use Rattle.std.specs.Prelude.{◌≡◌, ◌++◌, flat_map, IfOk};
 ghost use Rattle.std.specs.String.{string_bytes};
 ghost use Rattle.kmx_format.specs.Writable.{IsWritable};
-ghost use Rattle.shadow_text.specs.DeadLines.{rule_lines, is_dead, lines_before, dead_line, end_line, dead_text};
+ghost use Rattle.shadow_text.specs.DeadLines.{dead_line, end_line, dead_text};
 
+use crate::dead_lines::{dead_among, lines_before, rule_lines};
 use crate::verdicts::{Verdict, verdicts};
-use kmn_base::{Memory, Seq, Text, rising_lines};
+use kmn_base::{Memory, Text};
 use rule_model::{Tables, put_numbers};
 use std::alloc::{AllocError, Global};
 
@@ -24,42 +25,6 @@ pub fn dead_text(alloc: Global, tables: &Tables) -> Result<Text, Memory>
     put_dead(alloc, &mut text, all.as_slice(), dead.as_slice())?;
     put_end(&mut text, lines.len(), dead.len())?;
     Ok(Text::from_string(text))
-}
-
-/// Returns the lines of the records, each once, in increasing order.
-fn rule_lines(alloc: Global, all: &[Verdict]) -> Result<Seq<u32>, Memory>
-    ensures { IfOk result (λ lines. lines ≡ rule_lines all.now) }
-{
-    let mut lines = Vec::new(alloc);
-    for verdict in all {
-        lines.push(verdict.line)?;
-    }
-    rising_lines(alloc, lines.as_slice())
-}
-
-/// Returns the lines that have something found for each of their records.
-fn dead_among(alloc: Global, all: &[Verdict], lines: &[u32]) -> Result<Vec<u32>, Memory>
-    ensures { IfOk result (λ dead. dead.items ≡ filter (is_dead all.now) lines.now) }
-{
-    let mut dead = Vec::new(alloc);
-    for line in lines {
-        if is_dead(all, *line) {
-            dead.push(*line)?;
-        }
-    }
-    Ok(dead)
-}
-
-/// Returns whether something was found for each record of a line.
-fn is_dead(all: &[Verdict], line: u32) -> bool
-    ensures { result ≡ is_dead all.now line }
-{
-    for verdict in all {
-        if verdict.line == line && verdict.by.is_none() {
-            return false;
-        }
-    }
-    true
 }
 
 /// Appends a line for each dead rule.
@@ -81,29 +46,6 @@ fn put_dead_line(alloc: Global, text: &mut String, all: &[Verdict], line: u32) -
     put_numbers(text, before.as_slice())?;
     text.push_str("\n")?;
     Ok(())
-}
-
-/// Returns the lines of the records found for the records of a line, each once, in increasing order.
-fn lines_before(alloc: Global, all: &[Verdict], line: u32) -> Result<Seq<u32>, Memory>
-    ensures { IfOk result (λ lines. lines ≡ lines_before all.now line) }
-{
-    let mut lines = Vec::new(alloc);
-    for verdict in all {
-        if verdict.line == line {
-            put_lines(&mut lines, verdict)?;
-        }
-    }
-    rising_lines(alloc, lines.as_slice())
-}
-
-/// Appends the lines of the records found for a record.
-fn put_lines(lines: &mut Vec<u32>, verdict: &Verdict) -> Result<(), AllocError>
-    ensures { OnOk result (lines.new.items ≡ lines.old.items ++ unwrap_or verdict.now.by []) }
-{
-    match &verdict.by {
-        Some(by) => lines.extend_from_slice(by.as_slice()),
-        None => Ok(()),
-    }
 }
 
 /// Appends the last line: the number of rules, and the number of dead rules.

@@ -8,7 +8,7 @@
 //! statement by what others need of it. A name that is not defined anywhere is reported once (`source_names`), and later passes see it
 //! as a store and a group. `laws` states that the first of all refusals is the one that compilation reports. `sort_by_line` returns
 //! refusals in the order of their lines. `words_of` returns the words of a line, and `add_words` those of a text. `name_faults` returns
-//! the names that lines lack.
+//! the names that lines lack, and `read_all` the statements of the lines that are read.
 #![tactic(auto)]
 
 mod found;
@@ -20,6 +20,8 @@ mod refused_lines;
 mod stubs;
 mod words;
 
+pub use found::Found;
 pub use in_lines::sort_by_line;
 pub use listing::{faults, name_faults};
+pub use reading::read_all;
 pub use words::{add_words, words_of};

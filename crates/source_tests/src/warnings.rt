@@ -49,6 +49,18 @@ store(v) 'aeiou'¶store(w) 'AEIO'¶any(v) + '^' > index(w, 1)¶+ any(v) > index(
 store(v) 'ae'¶store(w) 'A'¶store(x) outs(w) [K_B]¶any(v) + '^' > index(x, 1) ⇒ none
 == W05: each index of a rule, and the any that its offset names
 store(u) 'a'¶store(v) 'ab'¶store(w) 'abc'¶any(u) any(v) + any(w) > index(u, 2) index(v, 3) index(w, 3) index(u, 1) ⇒ W05 6 u 1 v 2, W05 6 v 2 w 3
+== W06: an element that is there before, where the other store has another element
+store(v) 'aeiaou'¶store(w) 'AEIÄOU'¶any(v) + '^' > index(w, 1) ⇒ W06 3 4 v w
+== W06: the same element, or none, in the other store
+store(v) 'aeiaou'¶store(w) 'AEIAOU'¶store(x) 'AEI'¶any(v) + '^' > index(w, 1) index(x, 1) ⇒ W05 6 x 3 v 6
+== W06: the first such element, once for each two stores, in any case
+store(v) 'aaabb'¶store(w) 'ABACD'¶store(x) 'AAACD'¶any(v) + '1' > index(w, 1)¶any(V) + '2' > index(x, 1) index(W, 1) ⇒ W06 3 2 v w, W06 3 5 V x
+== W06: deadkeys in any case, and keys, at the key too; a character is not a key
+store(v) dk(one) 'a' dk(ONE)¶store(w) 'wxy'¶store(k) 'a' [K_A] [SHIFT K_A] [K_A]¶store(x) 'wxyz'¶any(v) + '1' > index(w, 1)¶+ any(k) > index(x, 1) ⇒ W06 3 3 v w, W06 5 4 k x
+== W06: custom keys, letters in another case, and elements of another store
+store(k) [T_x] [T_y] [T_x]¶store(w) 'xyz'¶store(a) 'aA'¶store(v) outs(a) 'a'¶+ any(k) > index(w, 1)¶any(v) + '1' > index(w, 1) ⇒ W06 3 3 k w, W06 6 3 v w
+== W06: an option has no fixed elements
+store(o) 'aa'¶store(v) 'ab'¶any(o) + 'a' > index(v, 1) set(o = 'b') ⇒ none
 == W08, W10, W12
 store(o) '0'¶store(p) '0'¶+ 'a' > set(o = '1')¶if(p = '0') + 'b' > save(p) ⇒ W08 5 o, W10 6 p, W12 6 p
 == W08: once, at the first set; no condition, but a use as a store
@@ -137,6 +149,10 @@ fn write_sizes(out: &mut String, line: u32, kind: &WarningKind) -> Result<(), Al
         } => {
             let (index, any) = (name(index), name(any));
             write!(out, "W05 {line} {index} {elements} {any} {any_elements}")
+        }
+        WarningKind::RepeatedElement { place, any, index } => {
+            let (any, index) = (name(any), name(index));
+            write!(out, "W06 {line} {place} {any} {index}")
         }
         WarningKind::LongerIndex { index, any } => {
             let (index, any) = (name(index), name(any));

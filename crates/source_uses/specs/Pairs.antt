@@ -1,5 +1,6 @@
 -- Each `index` with the `any` whose place it takes.
-use Rattle.std.specs.Prelude.{ℕ, zero, suc, nat_eq, ◌||◌, if◌then◌else◌, List, [], ◌∷◌, ◌++◌, length, flat_map, slice_get, Option, Some, None}
+use Rattle.std.specs.Prelude.{ℕ, zero, suc, nat_eq, ◌||◌, if◌then◌else◌, List, [], ◌∷◌, ◌++◌, length, flat_map, slice_get, codes, Option, Some, None}
+use Rattle.std.specs.List.{concat}
 use Rattle.rule_model.specs.declared.program.SrcItem.{SrcItem}
 use Rattle.rule_model.specs.declared.program.SrcItem.TheVariants as source
 use Rattle.rule_model.specs.declared.program.RuleDef.{RuleDef}
@@ -47,3 +48,14 @@ abbrev pub new_pairs : List (List ℕ) → List Pair → List Pair
 new_pairs known [] = []
 new_pairs known (pair ∷ pairs) =
     if is_named known pair.index then new_pairs known pairs else pair ∷ new_pairs (known ++ pair.index ∷ []) pairs
+
+-- the names of both stores of a pair, with a comma, which no name has
+unfoldable pub pair_name : Pair → List ℕ
+pair_name pair = concat (pair.index ∷ codes "," ∷ pair.any ∷ [])
+
+-- the pairs whose two stores are not known, of each two stores the first
+abbrev pub distinct_pairs : List (List ℕ) → List Pair → List Pair
+distinct_pairs known [] = []
+distinct_pairs known (pair ∷ pairs) =
+    if is_named known (pair_name pair) then distinct_pairs known pairs
+    else pair ∷ distinct_pairs (known ++ pair_name pair ∷ []) pairs

@@ -1,8 +1,8 @@
 //! Each `index` with the `any` whose place it takes.
 
-ghost use Rattle.std.specs.Prelude.{◌≡◌, ◌++◌, flat_map, IfOk, OnOk};
+ghost use Rattle.std.specs.Prelude.{◌≡◌, ◌++◌, [], flat_map, IfOk, OnOk};
 ghost use Rattle.std.specs.Option.{option_copied};
-ghost use Rattle.source_uses.specs.Pairs.{any_named, item_pairs, items_pairs, new_pairs, paired, pointed, program_pairs, rule_pairs};
+ghost use Rattle.source_uses.specs.Pairs.{any_named, distinct_pairs, item_pairs, items_pairs, new_pairs, pair_name, paired, pointed, program_pairs, rule_pairs};
 
 use kmn_base::{Memory, Text};
 use rule_model::{GroupDef, Program, RuleDef, SrcItem};
@@ -32,7 +32,8 @@ impl Pair {
     }
 }
 
-/// Returns each `index` of a program with its `any`, in the order of the statements, without the stores that are options. Errors: `Memory` if an allocation fails.
+/// Returns each `index` of a program with its `any`, in the order of the statements, without the stores that are options. Errors: `Memory`
+/// if an allocation fails.
 pub fn index_pairs(
     alloc: Global,
     options: &NameTable,
@@ -171,4 +172,31 @@ pub fn new_pairs(alloc: Global, mut known: NameTable, pairs: &[Pair]) -> Result<
         }
     }
     Ok(new)
+}
+
+/// Returns the pairs of which no earlier one has the same two stores. Errors: `Memory` if an allocation fails.
+pub fn distinct_pairs(alloc: Global, pairs: &[Pair]) -> Result<Vec<Pair>, Memory>
+    ensures { IfOk result (λ new. new.items ≡ distinct_pairs [] pairs.now) }
+{
+    let mut known = NameTable::new(alloc);
+    let mut new = Vec::new(alloc);
+    for pair in pairs {
+        let name = pair_name(alloc, pair)?;
+        if !known.has(name.as_slice()) {
+            known.push(name.as_slice())?;
+            new.push(pair.copy(alloc)?)?;
+        }
+    }
+    Ok(new)
+}
+
+/// Returns the names of the two stores of a pair, with a comma between them.
+#[tactic(auto, unfolding(crate::specs::Pairs::pair_name))]
+fn pair_name(alloc: Global, pair: &Pair) -> Result<Text, Memory>
+    ensures { IfOk result (λ name. name ≡ pair_name pair.now) }
+{
+    let mut name = pair.index.copy(alloc)?;
+    name.extend_from_slice(b",")?;
+    name.extend_from_slice(pair.any.as_slice())?;
+    Ok(name)
 }

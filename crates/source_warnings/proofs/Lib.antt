@@ -1,2 +1,3 @@
 pub mod AsideBytes
+pub mod Hidden
 pub mod Pressed

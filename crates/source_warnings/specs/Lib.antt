@@ -3,5 +3,6 @@ pub mod Conditions
 pub mod Indexes
 pub mod Keys
 pub mod Patterns
+pub mod Repeated
 pub mod SameKeys
 pub mod Warnings

@@ -17,6 +17,7 @@ use Rattle.source_warnings.specs.Keys.{keys_never_pressed}
 use Rattle.name_warnings.specs.Marks.{mark_warnings}
 use Rattle.name_warnings.specs.Options.{options_never_asked, options_never_set, saved_never_set}
 use Rattle.source_warnings.specs.Patterns.{empty_patterns}
+use Rattle.source_warnings.specs.Repeated.{repeated_elements}
 use Rattle.source_warnings.specs.SameKeys.{same_keys}
 use Rattle.name_warnings.specs.Stores.{second_systems, unused_stores}
 use Rattle.name_warnings.specs.Values.{values_never_set}
@@ -25,10 +26,14 @@ use Rattle.name_warnings.specs.Values.{values_never_set}
 abbrev pub option_names : Program → List (List ℕ)
 option_names program = names_of (rule_uses role.OptionStore part.Whole program)
 
--- the warnings of names that are used nowhere, of options and conditions, and of stores and their elements
+-- the warnings of names that are used nowhere, of the stores of `index` and `any`, of options and conditions, and of stores and their
+-- elements
 abbrev pub named_warnings : Contents → Program → List (List ℕ) → List Warning
 named_warnings contents program aside =
     unused_stores program aside ++ (mark_warnings contents program aside ++ groups_never_entered program aside)
+
+unfoldable pub index_warnings : Contents → List Pair → Program → List Warning
+index_warnings contents pairs program = shorter_indexes contents pairs ++ repeated_elements contents program.stores pairs
 
 abbrev pub condition_warnings : Contents → Program → List (List ℕ) → List Warning
 condition_warnings contents program aside =
@@ -46,7 +51,7 @@ store_warnings contents options pairs program =
 unfoldable pub warnings_with : Contents → List (List ℕ) → List Pair → Program → List (List ℕ) → List Warning
 warnings_with contents options pairs program aside =
     named_warnings contents program aside
-    ++ (shorter_indexes contents pairs
+    ++ (index_warnings contents pairs program
     ++ (condition_warnings contents program aside ++ store_warnings contents options pairs program))
 
 unfoldable pub all_warnings : Program → List (List ℕ) → List Warning

@@ -13,6 +13,7 @@ mod indexes;
 mod keys;
 mod listing;
 mod patterns;
+mod repeated;
 mod same_keys;
 mod sorting;
 

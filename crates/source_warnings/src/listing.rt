@@ -1,15 +1,16 @@
 //! The warnings of a program.
 
 ghost use Rattle.std.specs.Prelude.{◌≡◌, ◌++◌, IfOk, OnOk};
-ghost use Rattle.source_warnings.specs.Warnings.{all_warnings, condition_warnings, named_warnings, option_names, store_warnings, warnings, warnings_with};
+ghost use Rattle.source_warnings.specs.Warnings.{all_warnings, condition_warnings, index_warnings, named_warnings, option_names, store_warnings, warnings, warnings_with};
 
 use crate::conditions::add_contradictions;
 use crate::indexes::{add_longer_indexes, add_shorter_indexes};
 use crate::keys::add_never_pressed;
 use crate::patterns::add_empty_patterns;
+use crate::repeated::add_repeated_elements;
 use crate::same_keys::add_same_keys;
 use crate::sorting::sort_warnings;
-use kmn_base::{Memory, Seq, Text};
+use kmn_base::{Memory, Text};
 use name_warnings::{
     Warning, add_mark_warnings, add_never_asked, add_never_entered, add_never_set,
     add_saved_never_set, add_second_systems, add_unused_stores, add_values_never_set,
@@ -19,16 +20,16 @@ use source_uses::{Contents, Pair, Part, Role, add_names, index_pairs, rule_uses}
 use std::alloc::Global;
 use store_table::NameTable;
 
-/// Returns what compiles but is probably a mistake in an accepted program, in the order of lines, and at a line in the order of codes. Names
-/// among `aside` are known to other programs, so no warning says that a statement lacks for them. Errors: `Memory` if an allocation
-/// fails.
+/// Returns what compiles but is probably a mistake in an accepted program, in the order of lines, and at a line in the order of codes.
+/// Names among `aside` are known to other programs, so no warning says that a statement lacks for them. Errors: `Memory` if an
+/// allocation fails.
 #[tactic(auto, unfolding(crate::specs::Warnings::warnings))]
-pub fn warnings(alloc: Global, program: &Program, aside: &[Text]) -> Result<Seq<Warning>, Memory>
-    ensures { IfOk result (λ found. found ≡ warnings program.now aside.now) }
+pub fn warnings(alloc: Global, program: &Program, aside: &[Text]) -> Result<Vec<Warning>, Memory>
+    ensures { IfOk result (λ found. found.items ≡ warnings program.now aside.now) }
 {
     let found = all_warnings(alloc, program, aside)?;
     let sorted = sort_warnings(found)?;
-    Ok(Seq::from_vec(sorted))
+    Ok(sorted)
 }
 
 /// Returns all warnings of a program, in the order of codes.
@@ -57,7 +58,7 @@ fn warnings_with(
 {
     let mut found = Vec::new(alloc);
     add_name_warnings(alloc, &mut found, contents, program, aside)?;
-    add_shorter_indexes(alloc, &mut found, contents, pairs)?;
+    add_index_warnings(alloc, &mut found, contents, pairs, program)?;
     add_condition_warnings(alloc, &mut found, contents, program, aside)?;
     add_store_warnings(alloc, &mut found, contents, options, pairs, program)?;
     Ok(found)
@@ -86,6 +87,21 @@ fn option_names(alloc: Global, program: &Program) -> Result<NameTable, Memory>
     let uses = rule_uses(alloc, Role::OptionStore, Part::Whole, program)?;
     add_names(&mut names, uses.as_slice())?;
     Ok(names)
+}
+
+/// Appends the warnings of the stores of `index` and `any`, W05 and W06.
+#[tactic(auto, unfolding(crate::specs::Warnings::index_warnings))]
+fn add_index_warnings(
+    alloc: Global,
+    found: &mut Vec<Warning>,
+    contents: &Contents,
+    pairs: &[Pair],
+    program: &Program,
+) -> Result<(), Memory>
+    ensures { OnOk result (found.new.items ≡ found.old.items ++ index_warnings contents.now pairs.now program.now) }
+{
+    add_shorter_indexes(alloc, found, contents, pairs)?;
+    add_repeated_elements(alloc, found, contents, program.stores.as_slice(), pairs)
 }
 
 /// Appends the warnings of options and conditions, W08 to W12.

@@ -1,7 +1,7 @@
 use Rattle.std.proofs.Common.{◌+◌, ◌*◌, Bool, ap, ap₂, sym, ◌∙◌}
 use Rattle.std.specs.Prelude.{◌&&◌}
+use Rattle.file_conversions.proofs.Steps.{one_more}
 use Rattle.core_export.specs.Readable.{are_records_pointed, are_groups_pointed}
-use Rattle.core_export.proofs.Steps.{one_more}
 use Rattle.core_export.proofs.pointing.are_groups_pointed.Goals as goal
 
 pub loop-i-preserved : goal.loop-i-preserved

@@ -1,6 +1,6 @@
 use Rattle.std.proofs.Common.{ℕ, ◌+◌, ◌*◌, List, ap, ap₂, sym, ◌∙◌}
+use Rattle.file_conversions.proofs.Steps.{one_more}
 use Rattle.core_export.specs.Export.{pointed_records, pointed_groups}
-use Rattle.core_export.proofs.Steps.{one_more}
 use Rattle.core_export.proofs.pointing.point_groups.Goals as goal
 
 pub loop-i-preserved : goal.loop-i-preserved

@@ -1,6 +1,7 @@
 use Rattle.std.proofs.Common.{◌+◌, ◌*◌, sym, ◌∙◌}
+use Rattle.file_conversions.proofs.Steps.{one_more}
 use Rattle.core_export.specs.Export.{end_in_group, end_in_groups}
-use Rattle.core_export.proofs.Steps.{one_more, none_first}
+use Rattle.core_export.proofs.Steps.{none_first}
 use Rattle.core_export.proofs.zero_units.end_in_groups.Goals as goal
 
 pub loop-i-preserved : goal.loop-i-preserved

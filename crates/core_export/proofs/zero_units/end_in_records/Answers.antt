@@ -1,8 +1,9 @@
 use Rattle.std.proofs.Common.{◌+◌, ◌*◌, sym, ◌∙◌, ap, ap₂}
 use Rattle.std.specs.Option.{option_or}
 use Rattle.kmx_format.specs.TablesOf.{word_at}
+use Rattle.file_conversions.proofs.Steps.{one_more}
 use Rattle.core_export.specs.Export.{end_of, end_in_records}
-use Rattle.core_export.proofs.Steps.{one_more, none_first}
+use Rattle.core_export.proofs.Steps.{none_first}
 use Rattle.core_export.proofs.zero_units.end_in_records.Goals as goal
 
 pub loop-i-preserved : goal.loop-i-preserved

@@ -1,0 +1,132 @@
+//! What a check prints for a source that is not refused: its warnings, and the lines of its touch layout and its script.
+
+ghost use Rattle.std.specs.Prelude.{◌≡◌, ◌+◌, ◌++◌, flat_map, IfOk, OnOk};
+ghost use Rattle.check_run.specs.Printed.{accepted_text, last_line, layout_lines, script_end, script_lines, unknown_line};
+
+use crate::error_lines::reason_error;
+use crate::findings::{InputFindings, ScriptFindings, UnknownOption};
+use crate::warning_lines::{note_count, put_counts, put_warnings, warning_count};
+use check_texts::put_shown;
+use keyman_words::{Reason, reason_line};
+use kmn_base::{Memory, Seq, Text};
+use source_warnings::Warning;
+use std::alloc::Global;
+
+/// Returns the text of a source that is not refused, with its warnings in the order of lines, and of its layout and its script.
+pub(crate) fn accepted_text(
+    alloc: Global,
+    source: &[u8],
+    layout: &[u8],
+    keys: &[u8],
+    warnings: &[Warning],
+    inputs: &InputFindings,
+) -> Result<Text, Memory>
+    ensures { IfOk result (λ text. text ≡ accepted_text source.now layout.now keys.now warnings.now inputs.now) }
+{
+    let mut text = Seq::new(alloc);
+    put_warnings(alloc, &mut text, source, warnings)?;
+    put_layout(alloc, &mut text, layout, inputs.layout)?;
+    put_script(alloc, &mut text, keys, &inputs.script)?;
+    put_last(alloc, &mut text, warnings, inputs)?;
+    Ok(text)
+}
+
+/// Appends the line of the reason why a layout is refused, if it is.
+fn put_layout(
+    alloc: Global,
+    text: &mut Text,
+    layout: &[u8],
+    why: Option<Reason>,
+) -> Result<(), Memory>
+    ensures { OnOk result (text.new ≡ text.old ++ layout_lines layout.now why) }
+{
+    match why {
+        Some(why) => text.append(reason_error(alloc, layout, why)?),
+        None => Ok(()),
+    }
+}
+
+/// Appends the line of the reason why a script is refused, or the lines of its unknown options.
+fn put_script(
+    alloc: Global,
+    text: &mut Text,
+    keys: &[u8],
+    script: &ScriptFindings,
+) -> Result<(), Memory>
+    ensures { OnOk result (text.new ≡ text.old ++ script_lines keys.now script.now) }
+{
+    match script {
+        ScriptFindings::Refused(why) => text.append(reason_error(alloc, keys, *why)?),
+        ScriptFindings::Accepted { unknown } => put_unknown(alloc, text, keys, unknown.as_slice()),
+    }
+}
+
+/// Appends the lines of unknown options.
+fn put_unknown(
+    alloc: Global,
+    text: &mut Text,
+    keys: &[u8],
+    options: &[UnknownOption],
+) -> Result<(), Memory>
+    ensures { OnOk result (text.new ≡ text.old ++ flat_map (unknown_line keys.now) options.now) }
+{
+    for option in options {
+        text.append(unknown_line(alloc, keys, option)?)?;
+    }
+    Ok(())
+}
+
+/// Returns the line of an unknown option.
+#[tactic(auto, unfolding(crate::specs::Printed::unknown_line))]
+fn unknown_line(alloc: Global, keys: &[u8], option: &UnknownOption) -> Result<Text, Memory>
+    ensures { IfOk result (λ line. line ≡ unknown_line keys.now option.now) }
+{
+    let mut line = Seq::from_slice(alloc, keys)?;
+    let place = format!(in alloc; ":{}: warning W19: the keyboard has no option '", option.line)?;
+    line.extend_from_slice(place.as_bytes())?;
+    put_shown(&mut line, option.name.as_slice())?;
+    line.extend_from_slice(b"'\n")?;
+    Ok(line)
+}
+
+/// Appends the last line.
+fn put_last(
+    alloc: Global,
+    text: &mut Text,
+    warnings: &[Warning],
+    inputs: &InputFindings,
+) -> Result<(), Memory>
+    ensures { OnOk result (text.new ≡ text.old ++ last_line warnings.now inputs.now.layout inputs.now.script) }
+{
+    match inputs.layout {
+        Some(why) => text.append(reason_line(alloc, why)?),
+        None => put_script_end(alloc, text, warnings, &inputs.script),
+    }
+}
+
+/// Appends the last line for a layout that is not refused.
+fn put_script_end(
+    alloc: Global,
+    text: &mut Text,
+    warnings: &[Warning],
+    script: &ScriptFindings,
+) -> Result<(), Memory>
+    ensures { OnOk result (text.new ≡ text.old ++ script_end warnings.now script.now) }
+{
+    match script {
+        ScriptFindings::Refused(why) => text.append(reason_line(alloc, *why)?),
+        ScriptFindings::Accepted { unknown } => {
+            let all = sum(warning_count(warnings), unknown.len())?;
+            put_counts(alloc, text, all, note_count(warnings))
+        }
+    }
+}
+
+/// Returns a sum.
+///
+/// Errors: `Memory` if the sum does not fit, since lists of that many items do not fit in memory.
+fn sum(a: usize, b: usize) -> Result<usize, Memory>
+    ensures { IfOk result (λ sum. sum ≡ a + b) }
+{
+    a.checked_add(b).ok_or(Memory)
+}

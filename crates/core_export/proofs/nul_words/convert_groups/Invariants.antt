@@ -1,6 +1,0 @@
-use Rattle.std.proofs.Common.{◌≡◌, ◌+◌, ◌-◌, ◌*◌}
-use Rattle.core_export.specs.NulWords.{nul_first_groups}
-use Rattle.core_export.proofs.nul_words.convert_groups.Given as goal
-
-abbrev pub invariant-loop-i : goal.invariant-loop-i
-invariant-loop-i l = nul_first_groups l.bytes (l.place + 24 * l.i) (l.count - l.i) l.out ≡ nul_first_groups l.bytes l.place l.count l.fn.out

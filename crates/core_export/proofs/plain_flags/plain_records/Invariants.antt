@@ -1,6 +1,0 @@
-use Rattle.std.proofs.Common.{◌≡◌, ◌+◌, ◌-◌, ◌*◌}
-use Rattle.core_export.specs.Converted.{plain_records}
-use Rattle.core_export.proofs.plain_flags.plain_records.Given as goal
-
-abbrev pub invariant-loop-i : goal.invariant-loop-i
-invariant-loop-i l = plain_records l.bytes (l.place + 20 * l.i) (l.count - l.i) l.out ≡ plain_records l.bytes l.place l.count l.fn.out

@@ -1,0 +1,2 @@
+pub mod DeadRules
+pub mod Laws

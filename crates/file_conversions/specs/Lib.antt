@@ -1,0 +1,5 @@
+pub mod Words
+pub mod NulWords
+pub mod PlainFlags
+pub mod NomatchWords
+pub mod Conversions

@@ -1,0 +1,3 @@
+pub mod ExplainedBytes
+pub mod LikeSystems
+pub mod MeantKeys

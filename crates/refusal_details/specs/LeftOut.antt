@@ -1,0 +1,47 @@
+-- The word of a line that is not supported.
+use Rattle.std.specs.Prelude.{ℕ, Bool, true, false, not, ◌&&◌, ◌||◌, if◌then◌else◌, List, [], ◌∷◌, codes}
+use Rattle.kmn_base.specs.Names.{same_name}
+use Rattle.kmn_lines.specs.declared.token.TokenKind.{TokenKind}
+use Rattle.kmn_lines.specs.declared.token.TokenKind.TheVariants as kind
+use Rattle.kmn_items.specs.TokenTexts.{LineToken, is_open, text_at}
+
+-- the kinds of two tokens: [ and >
+abbrev pub is_bracket_open : TokenKind → Bool
+is_bracket_open kind.BracketOpen = true
+is_bracket_open other = false
+
+abbrev pub is_arrow : TokenKind → Bool
+is_arrow kind.Arrow = true
+is_arrow other = false
+
+-- the word before a token that is a parenthesis, or no word if the token is none
+abbrev pub opened_by : List ℕ → TokenKind → List ℕ
+opened_by previous kind = if is_open kind then previous else []
+
+-- the name of the first call, after a text and after the word of a parenthesis that opens there
+abbrev pub called : List ℕ → List ℕ → List LineToken → List ℕ
+called previous word [] = []
+called previous word (token ∷ tokens) =
+    if same_name (codes "call") word then token.text else called token.text (opened_by previous token.kind) tokens
+
+-- whether a word begins an item that is not supported anywhere
+unfoldable pub is_left_out : List ℕ → Bool
+is_left_out text =
+    same_name (codes "switch") text || same_name (codes "clearcontext") text || same_name (codes "fix") text
+    || same_name (codes "baselayout") text
+
+-- whether a token begins something that is not supported, after an opening parenthesis or not, and in an output or not: such a word, which
+-- is a name after a parenthesis, or a virtual key in an output
+unfoldable pub begins_left_out : Bool → Bool → TokenKind → List ℕ → Bool
+begins_left_out opened output kind text = (not opened && is_left_out text) || (output && is_bracket_open kind)
+
+-- the text of the first token that begins something that is not supported, or an empty text
+abbrev pub item_left_out : Bool → Bool → List LineToken → List ℕ
+item_left_out opened output [] = []
+item_left_out opened output (token ∷ tokens) =
+    if begins_left_out opened output token.kind token.text then token.text
+    else item_left_out (is_open token.kind) (output || is_arrow token.kind) tokens
+
+-- the name of a store statement, or the text of the first token of a rule that begins something that is not supported
+unfoldable pub left_out : List LineToken → List ℕ
+left_out tokens = if same_name (codes "store") (text_at 0 tokens) then text_at 2 tokens else item_left_out false false tokens

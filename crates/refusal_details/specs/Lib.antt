@@ -1,0 +1,11 @@
+pub mod Definitions
+pub mod Defined
+pub mod Letters
+pub mod LeftOut
+pub mod Faulty
+pub mod Words
+pub mod Nearest
+pub mod Keys
+pub mod Systems
+pub mod Details
+pub mod Explained
