@@ -18,9 +18,7 @@ pub(crate) enum ScriptFindings {
     /// The script is refused.
     Refused(Reason),
     /// The script is accepted, or there is none. Its unknown options are in the order of its entries.
-    Accepted {
-        unknown: Seq<UnknownOption>,
-    },
+    Accepted { unknown: Seq<UnknownOption> },
 }
 
 /// What a check finds in the touch layout and in the script for a source that compiles.

@@ -82,7 +82,10 @@ fn unknown_line(alloc: Global, keys: &[u8], option: &UnknownOption) -> Result<Te
     ensures { IfOk result (λ line. line ≡ unknown_line keys.now option.now) }
 {
     let mut line = Seq::from_slice(alloc, keys)?;
-    let place = format!(in alloc; ":{}: warning W19: the keyboard has no option '", option.line)?;
+    let place = format!(in alloc;
+        ":{}: warning W19: the keyboard has no option '",
+        option.line
+    )?;
     line.extend_from_slice(place.as_bytes())?;
     put_shown(&mut line, option.name.as_slice())?;
     line.extend_from_slice(b"'\n")?;

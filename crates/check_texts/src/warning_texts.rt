@@ -55,11 +55,7 @@ pub fn is_note(kind: &WarningKind) -> bool
 ///
 /// Errors: `Memory` if an allocation fails.
 #[tactic(auto, unfolding(crate::specs::WarningTexts::warning_text))]
-pub fn put_warning_text(
-    alloc: Global,
-    line: &mut Text,
-    kind: &WarningKind,
-) -> Result<(), Memory>
+pub fn put_warning_text(alloc: Global, line: &mut Text, kind: &WarningKind) -> Result<(), Memory>
     ensures { OnOk result (line.new ≡ line.old ++ warning_text kind.now) }
 {
     put_named_text(line, kind)?;

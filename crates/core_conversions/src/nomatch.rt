@@ -48,7 +48,10 @@ pub fn nomatch_rule(group: &Group) -> Option<usize>
         return None;
     }
     let rule = first_empty(group.rules.as_slice());
-    if can_have_nomatch(group.on_match.as_slice(), behind(group.rules.as_slice(), rule)) {
+    if can_have_nomatch(
+        group.on_match.as_slice(),
+        behind(group.rules.as_slice(), rule),
+    ) {
         Some(rule)
     } else {
         None

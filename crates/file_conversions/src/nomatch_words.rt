@@ -93,7 +93,11 @@ fn groups_use_keys(bytes: &[u8], place: u32, count: u32) -> bool
     ensures { result ≡ groups_use_keys bytes.now place count }
 {
     for i in 0..count as usize {
-        if word_at(bytes, place as usize + GROUP_BYTES * i + GROUP_USING_KEYS_AT) == 0 {
+        if word_at(
+            bytes,
+            place as usize + GROUP_BYTES * i + GROUP_USING_KEYS_AT,
+        ) == 0
+        {
             return false;
         }
     }

@@ -106,8 +106,14 @@ const FILES: &[(&str, &str)] = &[
         r#"{"phone":{"layer":[{"id":"default","row":[{"key":[{"id":"K_A"},{"id":"T_y"}]}]}]}}"#,
     ),
     ("open.keyman-touch-layout", "{"),
-    ("good.keys", "option o '1'¶option O '1'¶option &layer 's'¶[K_A] [T_x]"),
-    ("quikc.keys", "option quikc '0'¶[K_A]¶option o '1'¶option O2 '1'"),
+    (
+        "good.keys",
+        "option o '1'¶option O '1'¶option &layer 's'¶[K_A] [T_x]",
+    ),
+    (
+        "quikc.keys",
+        "option quikc '0'¶[K_A]¶option o '1'¶option O2 '1'",
+    ),
     ("bad.keys", "[K_A]¶[T_y]"),
 ];
 
@@ -151,11 +157,7 @@ fn input_folder(alloc: Global) -> Result<MemoryFolder, Fail> {
             Seq::from_slice(alloc, text.as_bytes())?,
         ))?;
     }
-    Ok(MemoryFolder::new(
-        alloc,
-        Seq::from_vec(files),
-        Seq::new(alloc),
-    ))
+    Ok(MemoryFolder::new(alloc, Seq::from_vec(files), Seq::new(alloc)))
 }
 
 /// Returns whether a run over the files of the table has the exit status and the printed text of its row.
