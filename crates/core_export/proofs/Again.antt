@@ -12,7 +12,7 @@ use Rattle.kmx_format.specs.File.{word}
 use Rattle.kmx_format.specs.TablesOf.{word_at}
 use Rattle.kmx_view.specs.View.{store_count, group_count}
 use Rattle.file_conversions.specs.Words.{with_word}
-use Rattle.file_conversions.proofs.Words.{is_replaced, overwritten}
+use Rattle.file_conversions.proofs.ReplacedWords.{is_replaced, overwritten}
 use Rattle.core_export.specs.Checksum.{checksum}
 use Rattle.core_export.specs.Readable.{is_pointed, is_record_pointed, are_contents_pointed, are_records_pointed, are_groups_pointed}
 use Rattle.core_export.specs.Export.{pointed, pointed_stores, pointed_record, pointed_records, pointed_groups, played_version, replaced}

@@ -8,7 +8,7 @@ use Rattle.kmx_format.specs.declared.sizes.TheConstants.{STORE_BYTES, GROUP_BYTE
 use Rattle.kmx_format.specs.TablesOf.{word_at}
 use Rattle.kmx_view.specs.View.{store_count, group_count}
 use Rattle.file_conversions.specs.Words.{with_word}
-use Rattle.file_conversions.proofs.Words.{length-with_word, before_same, behind_same}
+use Rattle.file_conversions.proofs.ReplacedWords.{length-with_word, before_same, behind_same}
 use Rattle.core_export.specs.Checksum.{checksum}
 use Rattle.core_export.specs.Export.{pointed, pointed_stores, pointed_record, pointed_records, pointed_groups, played_version, summed, replaced, exported, IsInWord, IsInZero, IsInContents, IsInRecords, IsInGroups, InChecksum, InVersion, InContent, InOutput, InContext, OnlyReplaced}
 

@@ -20,7 +20,7 @@ use Rattle.kmx_view.specs.View.{store_count, group_count}
 use Rattle.kmx_verifier.specs.FaultOf.{IsValid}
 use Rattle.kmx_verifier.proofs.FileValid.{file_of_valid}
 use Rattle.file_conversions.specs.Words.{with_word}
-use Rattle.file_conversions.proofs.Words.{half_there}
+use Rattle.file_conversions.proofs.ReplacedWords.{half_there}
 use Rattle.core_export.specs.Checksum.{checksum}
 use Rattle.core_export.specs.Export.{zero_unit, pointed_stores, pointed_groups, played_version, replaced, exported, SaysTheSame}
 use Rattle.core_export.specs.ExportLaws.{WrittenFilesAreExported}

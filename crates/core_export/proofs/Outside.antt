@@ -6,7 +6,7 @@ use Rattle.std.proofs.lemmas.Bool.Decides.{eqb_tells}
 use Rattle.std.proofs.lemmas.List.{drop-drop, drop-take, take-take}
 use Rattle.kmx_format.specs.TablesOf.{half_at, word_at}
 use Rattle.file_conversions.specs.Words.{with_word}
-use Rattle.file_conversions.proofs.Words.{length-with_word, before_same, behind_same, read_there, same_words}
+use Rattle.file_conversions.proofs.ReplacedWords.{length-with_word, before_same, behind_same, read_there, same_words}
 use Rattle.core_export.specs.Export.{pointed, pointed_stores, pointed_record, pointed_records, pointed_groups}
 
 -- ---- equal bytes

@@ -3,7 +3,7 @@ use Rattle.std.proofs.Common.{◌≡◌, ℕ, ◌^◌, ◌<◌, ◌≤◌, List,
 use Rattle.kmx_format.specs.declared.places.TheConstants.{CHECKSUM_AT, VERSION_AT}
 use Rattle.kmx_format.specs.TablesOf.{word_at}
 use Rattle.file_conversions.specs.Words.{with_word}
-use Rattle.file_conversions.proofs.Words.{length-with_word, read_there, read_before, overwritten}
+use Rattle.file_conversions.proofs.ReplacedWords.{length-with_word, read_there, read_before, overwritten}
 use Rattle.core_export.specs.Checksum.{checksum}
 
 -- the checksum that is written into its word is that of the bytes with 0 there

@@ -3,4 +3,4 @@ pub mod NomatchWords
 pub mod NulWords
 pub mod PlainFlags
 pub mod Steps
-pub mod Words
+pub mod ReplacedWords

@@ -18,7 +18,7 @@ use Rattle.kmx_verifier.specs.FaultOf.{fault_of, IsValid}
 use Rattle.core_conversions.specs.Conversions.{has_empty_context, can_have_nomatch, nomatch_rule}
 use Rattle.file_conversions.specs.Words.{with_word}
 use Rattle.file_conversions.specs.NomatchWords.{output_word, nomatch_from, nomatch_groups, nomatch_bytes, groups_use_keys, all_use_keys}
-use Rattle.file_conversions.proofs.Words.{length-with_word}
+use Rattle.file_conversions.proofs.ReplacedWords.{length-with_word}
 
 -- a valid file isn't refused
 pub never_refused : (bytes : List ℕ) (fault : Fault) (A : Type 0) → IsValid bytes → fault_of bytes ≡ Some fault → A

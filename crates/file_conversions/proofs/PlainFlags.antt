@@ -5,7 +5,7 @@ use Rattle.kmx_format.specs.TablesOf.{word_at}
 use Rattle.kmx_view.specs.View.{group_count}
 use Rattle.core_conversions.specs.Conversions.{plain_flags}
 use Rattle.file_conversions.specs.PlainFlags.{plain_record, plain_records, plain_group, plain_groups, plain_bytes}
-use Rattle.file_conversions.proofs.Words.{length-with_word}
+use Rattle.file_conversions.proofs.ReplacedWords.{length-with_word}
 
 module _ (bytes : List ℕ) where
   records_size : (place count : ℕ) (out : List ℕ) → length (plain_records bytes place count out) ≡ length out
