@@ -73,7 +73,7 @@ unfoldable pub one_line : ℕ → List ℕ
 one_line line = concat (codes "line " ∷ decimal line ∷ [])
 
 -- the line that defines a name first, and a name with this line
-abbrev pub first_text : ℕ → List ℕ
+unfoldable pub first_text : ℕ → List ℕ
 first_text line = codes ", already defined in " ++ one_line line
 
 unfoldable pub defined_text : List ℕ → ℕ → List ℕ

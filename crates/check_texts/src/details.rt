@@ -45,6 +45,7 @@ fn put_defined(alloc: Global, text: &mut Text, name: &[u8], line: u32) -> Result
 }
 
 /// Appends the line that defines a name first.
+#[tactic(auto, unfolding(crate::specs::Details::first_text))]
 fn put_first(alloc: Global, text: &mut Text, line: u32) -> Result<(), Memory>
     ensures { OnOk result (text.new ≡ text.old ++ first_text line) }
 {
