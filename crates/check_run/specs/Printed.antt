@@ -21,6 +21,7 @@ use Rattle.keyman_words.specs.declared.status.Status.TheVariants as status
 use Rattle.keyman_run.specs.Endings.{Ending}
 use Rattle.keyman_run.specs.declared.preparing.Stop.{Stop}
 use Rattle.keyman_run.specs.declared.preparing.Stop.TheVariants as stop
+use Rattle.check_texts.specs.Advice.{detail_advice}
 use Rattle.check_texts.specs.Details.{detail_text, shown_text}
 use Rattle.check_texts.specs.Meanings.{meaning}
 use Rattle.check_texts.specs.WarningTexts.{is_note, warning_code, warning_text}
@@ -36,11 +37,12 @@ use Rattle.check_run.specs.Inputs.{is_sound}
 unfoldable pub place_text : Placed → List ℕ
 place_text placed = concat (codes ":" ∷ decimal placed.line ∷ codes ":" ∷ decimal placed.column ∷ codes ": error " ∷ [])
 
--- the line of a refusal, in the form that editors read: the given name of the file, the place, the code with its meaning, and the detail
+-- the line of a refusal, in the form that editors read: the given name of the file, the place, the code with its meaning, and the detail with
+-- its advice
 unfoldable pub error_line : List ℕ → Explained → List ℕ
 error_line file error = concat (
     file ∷ place_text error.placed ∷ code_text error.placed.code ∷ codes ": " ∷ meaning error.placed.code ∷ detail_text error.detail
-    ∷ codes "\n" ∷ [])
+    ∷ detail_advice error.placed.code error.detail ∷ codes "\n" ∷ [])
 
 -- the line for refusals that are not printed
 abbrev pub rest_line : ℕ → List ℕ
