@@ -168,7 +168,7 @@ abbrev pub key_advice : List ℕ → List ℕ
 key_advice word = advice_or (advised_in key_rows word) (begun_in key_starts word)
 
 -- the advice for a word with which a line is refused, by the code
-abbrev pub word_advice : Code → List ℕ → List ℕ
+unfoldable pub word_advice : Code → List ℕ → List ℕ
 word_advice L04 word = begun_in number_starts word
 word_advice S01 word = advice_or (advised_in statement_rows word) (other_advice word)
 word_advice S05 word = advice_or (context_advice word) (other_advice word)
@@ -184,6 +184,6 @@ unfoldable pub advice_text : List ℕ → List ℕ
 advice_text advice = if length advice == 0 then [] else concat (codes "; " ∷ advice ∷ [])
 
 -- the advice for the detail of a refusal with a code
-abbrev pub detail_advice : Code → Detail → List ℕ
+unfoldable pub detail_advice : Code → Detail → List ℕ
 detail_advice code (detail.Word word near) = advice_text (word_advice code word)
 detail_advice code other = []

@@ -13,6 +13,7 @@ use refusal_details::Detail;
 /// Appends the advice for the detail of a refusal with a code, if there is any.
 ///
 /// Errors: `Memory` if an allocation fails.
+#[tactic(auto, unfolding(crate::specs::Advice::detail_advice))]
 pub fn put_advice(text: &mut Text, code: Code, detail: &Detail) -> Result<(), Memory>
     ensures { OnOk result (text.new ≡ text.old ++ detail_advice code detail.now) }
 {
@@ -35,6 +36,7 @@ fn put_advice_text(text: &mut Text, advice: &str) -> Result<(), Memory>
 }
 
 /// Returns the advice for a word with which a line is refused, by the code.
+#[tactic(auto, unfolding(crate::specs::Advice::word_advice))]
 fn word_advice(code: Code, word: &[u8]) -> &'static str
     ensures { result.now ≡ word_advice code word.now }
 {

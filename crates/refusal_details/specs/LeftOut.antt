@@ -42,6 +42,29 @@ item_left_out opened output (token ∷ tokens) =
     if begins_left_out opened output token.kind token.text then token.text
     else item_left_out (is_open token.kind) (output || is_arrow token.kind) tokens
 
+-- whether a word after begin is one that only the language of Keyman Developer has there
+unfoldable pub is_other_begin : List ℕ → Bool
+is_other_begin word = same_name (codes "NewContext") word || same_name (codes "PostKeystroke") word
+
+-- the word after begin if it is such a word, or an empty text
+abbrev pub other_begin : List ℕ → List ℕ
+other_begin word = if is_other_begin word then word else []
+
+-- whether a token with this text is the word readonly, and not a name after a parenthesis
+unfoldable pub is_readonly : Bool → List ℕ → Bool
+is_readonly opened text = not opened && same_name (codes "readonly") text
+
+-- the first word readonly, after an opening parenthesis or not, or an empty text
+abbrev pub readonly_in : Bool → List LineToken → List ℕ
+readonly_in opened [] = []
+readonly_in opened (token ∷ tokens) = if is_readonly opened token.text then token.text else readonly_in (is_open token.kind) tokens
+
+-- the word of a begin or a group statement that only the language of Keyman Developer has, or an empty text
+unfoldable pub statement_left_out : List LineToken → List ℕ
+statement_left_out tokens =
+    if same_name (codes "begin") (text_at 0 tokens) then other_begin (text_at 1 tokens)
+    else (if same_name (codes "group") (text_at 0 tokens) then readonly_in false tokens else [])
+
 -- the name of a store statement, or the text of the first token of a rule that begins something that is not supported
 unfoldable pub left_out : List LineToken → List ℕ
 left_out tokens = if same_name (codes "store") (text_at 0 tokens) then text_at 2 tokens else item_left_out false false tokens
