@@ -34,7 +34,7 @@ is_other_quote first second third =
     (nat_eq first 0xC2 && (nat_eq second 0xAB || nat_eq second 0xBB))
     || (nat_eq first 0xE2 && nat_eq second 0x80 && ((nat_le 0x98 third && nat_le third 0x9F) || nat_eq third 0xB9 || nat_eq third 0xBA))
 
--- whether a word with these first bytes begins with a blank that is no space: U+00A0, U+2000 to U+200A, U+202F or U+3000
+-- whether a word with these first bytes begins with another blank than a space: U+00A0, U+2000 to U+200A, U+202F or U+3000
 unfoldable pub is_other_blank : ℕ → ℕ → ℕ → Bool
 is_other_blank first second third =
     (nat_eq first 0xC2 && nat_eq second 0xA0)
@@ -138,7 +138,7 @@ number_starts =
     (codes "8", codes "a number is octal, unless d comes before its digits") ∷
     (codes "9", codes "a number is octal, unless d comes before its digits") ∷ []
 
--- the advice for the name of a system store that there is not, and for one where an ordinary store is named
+-- the advice for an unknown system store, and for one where an ordinary store is named
 unfoldable pub system_rows : List (List ℕ × List ℕ)
 system_rows = (codes "&oldcharposmatching", codes "instead: nothing") ∷ []
 

@@ -104,7 +104,7 @@ fn is_other_quote(first: u8, second: u8, third: u8) -> bool
             && ((0x98 <= third && third <= 0x9F) || third == 0xB9 || third == 0xBA))
 }
 
-/// Returns whether a word with these first bytes begins with a blank that is no space.
+/// Returns whether a word with these first bytes begins with another blank than a space.
 #[tactic(auto, unfolding(crate::specs::Advice::is_other_blank))]
 fn is_other_blank(first: u8, second: u8, third: u8) -> bool
     ensures { result ≡ is_other_blank first second third }
