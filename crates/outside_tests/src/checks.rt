@@ -104,6 +104,10 @@ const FILES: &[(&str, &str)] = &[
         "noted",
         "begin Unicode > use(main)¶group(main) using keys¶+ 'a' > 'a'¶+ 'b' > 'B'",
     ),
+    (
+        "keyed",
+        "begin Unicode > use(main)¶group(main) using keys¶+ [T_a] > 'a'¶+ [SHIFT t_A] > 'b'¶+ [U_0103] > 'c'¶+ [K_A] > 'd'",
+    ),
     ("empty", ""),
     (
         "good.json",
@@ -112,6 +116,14 @@ const FILES: &[(&str, &str)] = &[
     (
         "bad.json",
         r#"{"phone":{"layer":[{"id":"default","row":[{"key":[{"id":"K_A"},{"id":"T_y"}]}]}]}}"#,
+    ),
+    (
+        "other.json",
+        r#"{"phone":{"layer":[{"id":"default","row":[{"key":[{"id":"K_A"}]}]}]}}"#,
+    ),
+    (
+        "sub.json",
+        r#"{"phone":{"layer":[{"id":"default","row":[{"key":[{"id":"K_A","sk":[{"id":"T_A"}],"flick":{"n":{"id":"U_0103"}}}]}]}]}}"#,
     ),
     ("open.keyman-touch-layout", "{"),
     (
@@ -135,6 +147,13 @@ in good.json good.keys ⇒ 0 checked warnings=0 notes=0¶
 == a layout that is refused
 in bad.json ⇒ 1 bad.json:1:1: error T5: a key that does nothing: platform 1 layer 1 row 1 key 2¶refused T5 platform 1 layer 1 row 1 key 2¶
 in open.keyman-touch-layout ⇒ 1 open.keyman-touch-layout:1:1: error T1: a layout that is no JSON: platform 0 layer 0 row 0 key 0¶refused T1 platform 0 layer 0 row 0 key 0¶
+== W17: custom keys of rules that a layout lacks, each once, and after the other warnings of the source
+in other.json ⇒ 0 in:6: warning W17: no key of the layout is 'T_x'¶checked warnings=1 notes=0¶
+keyed other.json ⇒ 0 keyed:3: warning W17: no key of the layout is 'T_a'¶keyed:5: warning W17: no key of the layout is 'U_0103'¶checked warnings=2 notes=0¶
+keyed sub.json ⇒ 0 checked warnings=0 notes=0¶
+noted other.json ⇒ 0 noted:3: note W15: the key gives this without a rule¶checked warnings=0 notes=1¶
+in other.json quikc.keys ⇒ 0 in:6: warning W17: no key of the layout is 'T_x'¶quikc.keys:1: warning W19: the keyboard has no option 'quikc'¶quikc.keys:4: warning W19: the keyboard has no option 'O2'¶checked warnings=3 notes=0¶
+in other.json bad.keys ⇒ 1 in:6: warning W17: no key of the layout is 'T_x'¶bad.keys:2:1: error P03: a bracket that is no key press¶refused P03 line 2¶
 == a script that is refused
 in bad.keys ⇒ 1 bad.keys:2:1: error P03: a bracket that is no key press¶refused P03 line 2¶
 == options that the keyboard does not have
