@@ -25,7 +25,7 @@ meant_below word (suc code) = meant_below word code ++ meant_key word (key_name 
 abbrev pub like_row : List ℕ → List ℕ × ℕ → List (List ℕ)
 like_row word row = like_name word row.0
 
--- the name of the key at the place of the board that a word gives, if it gives one
+-- the name of the key at the place of the board that a word is, if it is one
 abbrev pub placed_name : List ℕ → Option (List ℕ)
 placed_name word = option_and_then key_name (named_in key_places word)
 
@@ -33,7 +33,7 @@ abbrev pub placed_names : Option (List ℕ) → List (List ℕ)
 placed_names None = []
 placed_names (Some name) = name ∷ []
 
--- the name of the key at the place that a word gives, the names of keys that it means, and the modifiers that it is like
+-- the name of the key at the place that a word is, the names of keys that it means, and the modifiers that it is like
 unfoldable pub meant_names : List ℕ → List (List ℕ)
 meant_names word = placed_names (placed_name word) ++ (meant_below word FIRST_OWN_CODE ++ flat_map (like_row word) shift_flags)
 

@@ -34,7 +34,7 @@ fn is_known(word: &[u8]) -> bool
     key_named(word).is_some() || modifier_named(word).is_some() || is_own_key(word)
 }
 
-/// Returns the name of the key at the place that a word gives, the names of keys that it means, and the modifiers that it is like.
+/// Returns the name of the key at the place that a word is, the names of keys that it means, and the modifiers that it is like.
 #[tactic(auto, unfolding(crate::specs::Keys::meant_names))]
 fn meant_names(alloc: Global, word: &[u8]) -> Result<Seq<Text>, Memory>
     ensures { IfOk result (λ names. names ≡ meant_names word.now) }
@@ -45,7 +45,7 @@ fn meant_names(alloc: Global, word: &[u8]) -> Result<Seq<Text>, Memory>
     Ok(names)
 }
 
-/// Returns the name of the key at the place of the board that a word gives, if it gives one.
+/// Returns the name of the key at the place of the board that a word is, if it is one.
 fn placed_name(word: &[u8]) -> Option<&'static [u8]>
     ensures { option_map (λ name. name.now) result ≡ placed_name word.now }
 {

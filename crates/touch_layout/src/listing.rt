@@ -15,7 +15,7 @@ use serde_json::Value;
 use std::alloc::Global;
 
 /// Returns the ids of all keys of a layout, including subkeys, in the order of their places. The id of a key without an id is empty. Bytes
-/// that are no layout have no ids. Errors: `Memory` if an allocation fails.
+/// that are not a layout have no ids. Errors: `Memory` if an allocation fails.
 pub fn layout_ids(alloc: Global, bytes: &[u8]) -> Result<Seq<Text>, Memory>
     ensures { IfOk result (λ ids. ids ≡ layout_ids bytes.now) }
 {
