@@ -145,7 +145,7 @@ system_rows = (codes "&oldcharposmatching", codes "instead: nothing") ∷ []
 unfoldable pub name_rows : List (List ℕ × List ℕ)
 name_rows = (codes "&layer", codes "only if and set have it") ∷ []
 
--- the advice for something that is not supported
+-- the advice for a word or a system store that is not supported
 unfoldable pub left_out_rows : List (List ℕ × List ℕ)
 left_out_rows =
     (codes "clearcontext", codes "instead: nul") ∷
@@ -160,7 +160,14 @@ left_out_rows =
     (codes "&version", codes "instead: 6.0, 7.0, 8.0, 9.0, 10.0, or 14.0 to 17.0") ∷
     (codes "&mnemoniclayout", codes "instead: 0") ∷ []
 
--- the advice for an item before the >, and for a word in brackets
+-- the advice for another system store in a condition or in set
+unfoldable pub left_out_starts : List (List ℕ × List ℕ)
+left_out_starts = (codes "&", codes "instead: an option store that the application sets or reads") ∷ []
+
+-- the advice for something that is not supported, for an item before the >, and for a word in brackets
+abbrev pub left_out_advice : List ℕ → List ℕ
+left_out_advice word = advice_or (advised_in left_out_rows word) (begun_in left_out_starts word)
+
 abbrev pub context_advice : List ℕ → List ℕ
 context_advice word = advice_or (advised_in context_rows word) (begun_in context_starts word)
 
@@ -176,7 +183,7 @@ word_advice S06 word = advice_or (advised_in output_rows word) (other_advice wor
 word_advice S11 word = key_advice word
 word_advice S12 word = advised_in system_rows word
 word_advice C05 word = advised_in name_rows word
-word_advice C12 word = advised_in left_out_rows word
+word_advice C12 word = left_out_advice word
 word_advice other word = []
 
 -- the printed form of an advice

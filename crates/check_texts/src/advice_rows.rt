@@ -1,7 +1,7 @@
 //! The tables of advice: words that are wrong, and what is printed of them.
 
 ghost use Rattle.std.specs.Prelude.{◌≡◌, map};
-ghost use Rattle.check_texts.specs.Advice.{advice_or, advised_in, begun_in, context_advice, context_rows, context_starts, key_advice, key_rows, key_starts, left_out_rows, name_rows, number_starts, output_rows, statement_rows, system_rows};
+ghost use Rattle.check_texts.specs.Advice.{advice_or, advised_in, begun_in, context_advice, context_rows, context_starts, key_advice, key_rows, key_starts, left_out_advice, left_out_rows, left_out_starts, name_rows, number_starts, output_rows, statement_rows, system_rows};
 
 use kmn_base::names::same_name;
 use kmn_base::slices::before;
@@ -124,7 +124,7 @@ static SYSTEMS: [(&str, &str); 1] = [("&oldcharposmatching", "instead: nothing")
 /// The advice for a system store where an ordinary store is named.
 static NAMES: [(&str, &str); 1] = [("&layer", "only if and set have it")];
 
-/// The advice for something that is not supported.
+/// The advice for a word or a system store that is not supported.
 static LEFT_OUT: [(&str, &str); 11] = [
     ("clearcontext", "instead: nul"),
     ("fix", "instead: nul"),
@@ -150,6 +150,12 @@ static LEFT_OUT: [(&str, &str); 11] = [
     ),
     ("&mnemoniclayout", "instead: 0"),
 ];
+
+/// The advice for another system store in a condition or in `set`.
+static LEFT_OUT_STARTS: [(&str, &str); 1] = [(
+    "&",
+    "instead: an option store that the application sets or reads",
+)];
 
 /// Returns an advice, or another one if it is empty.
 pub(crate) fn advice_or(advice: &'static str, other: &'static str) -> &'static str
@@ -205,11 +211,26 @@ pub(crate) fn name_advice(word: &[u8]) -> &'static str
 }
 
 /// Returns the advice for something that is not supported.
-#[tactic(auto, unfolding(crate::specs::Advice::left_out_rows))]
 pub(crate) fn left_out_advice(word: &[u8]) -> &'static str
+    ensures { result.now ≡ left_out_advice word.now }
+{
+    advice_or(listed_left_out(word), begun_left_out(word))
+}
+
+/// Returns the advice for a word or a system store that is not supported.
+#[tactic(auto, unfolding(crate::specs::Advice::left_out_rows))]
+fn listed_left_out(word: &[u8]) -> &'static str
     ensures { result.now ≡ advised_in left_out_rows word.now }
 {
     advised_in(&LEFT_OUT, word)
+}
+
+/// Returns the advice for another system store in a condition or in `set`.
+#[tactic(auto, unfolding(crate::specs::Advice::left_out_starts))]
+fn begun_left_out(word: &[u8]) -> &'static str
+    ensures { result.now ≡ begun_in left_out_starts word.now }
+{
+    begun_in(&LEFT_OUT_STARTS, word)
 }
 
 /// Returns the advice for a number.

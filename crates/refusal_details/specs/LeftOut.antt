@@ -4,6 +4,7 @@ use Rattle.kmn_base.specs.Names.{same_name}
 use Rattle.kmn_lines.specs.declared.token.TokenKind.{TokenKind}
 use Rattle.kmn_lines.specs.declared.token.TokenKind.TheVariants as kind
 use Rattle.kmn_items.specs.TokenTexts.{LineToken, is_open, text_at}
+use Rattle.kmn_items.specs.Words.{is_system_name}
 
 -- the kinds of two tokens: [ and >
 abbrev pub is_bracket_open : TokenKind → Bool
@@ -30,10 +31,17 @@ is_left_out text =
     same_name (codes "switch") text || same_name (codes "clearcontext") text || same_name (codes "fix") text
     || same_name (codes "baselayout") text
 
+-- whether a name after an opening parenthesis is that of a system store that is not supported there: a condition can test the layer and the
+-- platform, and an output can set the layer
+unfoldable pub is_other_system : Bool → List ℕ → Bool
+is_other_system output name =
+    is_system_name name && not (same_name (codes "&layer") name) && (output || not (same_name (codes "&platform") name))
+
 -- whether a token begins something that is not supported, after an opening parenthesis or not, and in an output or not: such a word, which
--- is a name after a parenthesis, or a virtual key in an output
+-- is a name after a parenthesis, such a name, or a virtual key in an output
 unfoldable pub begins_left_out : Bool → Bool → TokenKind → List ℕ → Bool
-begins_left_out opened output kind text = (not opened && is_left_out text) || (output && is_bracket_open kind)
+begins_left_out opened output kind text =
+    (not opened && is_left_out text) || (opened && is_other_system output text) || (output && is_bracket_open kind)
 
 -- the text of the first token that begins something that is not supported, or an empty text
 abbrev pub item_left_out : Bool → Bool → List LineToken → List ℕ

@@ -2,10 +2,10 @@
 
 ghost use Rattle.std.specs.Prelude.{◌≡◌, ◌||◌, [], false};
 ghost use Rattle.kmn_items.specs.TokenTexts.{is_open, texts};
-ghost use Rattle.refusal_details.specs.LeftOut.{begins_left_out, called, is_arrow, is_bracket_open, is_left_out, is_other_begin, is_readonly, item_left_out, left_out, opened_by, other_begin, readonly_in, statement_left_out};
+ghost use Rattle.refusal_details.specs.LeftOut.{begins_left_out, called, is_arrow, is_bracket_open, is_left_out, is_other_begin, is_other_system, is_readonly, item_left_out, left_out, opened_by, other_begin, readonly_in, statement_left_out};
 
 use kmn_base::names::same_name;
-use kmn_items::{LineTokens, text_in};
+use kmn_items::{LineTokens, is_system_name, text_in};
 use kmn_lines::TokenKind;
 
 /// Returns the name of the first `call` of a line, or an empty name.
@@ -126,13 +126,25 @@ fn item_left_out<'a>(tokens: LineTokens<'a>) -> &'a [u8]
     &[]
 }
 
-/// Returns whether a token begins something that is not supported: a word that is not a name after a parenthesis, or a virtual key in an
-/// output.
+/// Returns whether a token begins something that is not supported: a word that is not a name after a parenthesis, the name of a system store
+/// after one, or a virtual key in an output.
 #[tactic(auto, unfolding(crate::specs::LeftOut::begins_left_out))]
 fn begins_left_out(opened: bool, output: bool, kind: TokenKind, text: &[u8]) -> bool
     ensures { result ≡ begins_left_out opened output kind text.now }
 {
-    (!opened && is_left_out(text)) || (output && is_bracket_open(kind))
+    (!opened && is_left_out(text))
+        || (opened && is_other_system(output, text))
+        || (output && is_bracket_open(kind))
+}
+
+/// Returns whether a name after an opening parenthesis, in an output or not, is that of a system store that is not supported there.
+#[tactic(auto, unfolding(crate::specs::LeftOut::is_other_system))]
+fn is_other_system(output: bool, name: &[u8]) -> bool
+    ensures { result ≡ is_other_system output name.now }
+{
+    is_system_name(name)
+        && !same_name(b"&layer", name)
+        && (output || !same_name(b"&platform", name))
 }
 
 /// Returns whether a word begins an item that is not supported anywhere.
