@@ -3,32 +3,20 @@
 ghost use Rattle.std.specs.Prelude.{◌≡◌, option_map, IfOk};
 ghost use Rattle.name_warnings.specs.Laid.{keys_not_laid};
 ghost use Rattle.check_run.specs.Inputs.{FindsIn, LaysIn};
-ghost use Rattle.check_run.specs.Orders.{ids_work, inputs_work, layout_check_work, named_layout_work, named_script_work, script_check_work};
+ghost use Rattle.check_run.specs.Orders.{inputs_work, layout_check_work, named_layout_work, named_script_work, script_check_work};
 ghost use Rattle.keyman_run.specs.Steps.{Gives, itself};
 
 use crate::findings::{InputFindings, LayoutFindings, ScriptFindings};
+use crate::layouts::read_ids;
 use crate::unknown::unknown_options;
-use keyman_run::{Stop, key_names, read_entries, read_stop};
-use keyman_words::{FileName, Reason, read};
-use kmn_base::limits::TEXT_BYTES;
-use kmn_base::{Code, Memory, Seq, Text};
+use keyman_run::{Stop, key_names, read_entries};
+use keyman_words::FileName;
+use kmn_base::{Memory, Seq, Text};
 use kmn_outside::Folder;
 use name_warnings::{Warning, keys_not_laid};
 use rule_checker::Checked;
 use rule_model::{Entry, Tables};
 use std::alloc::Global;
-use touch_layout::{LayoutFault, LayoutPlace, check_layout, layout_ids};
-
-/// The reason for refusing a layout over the size limit. Its place is the whole layout.
-const LONG_LAYOUT: Reason = Reason::Layout(LayoutFault {
-    code: Code::T7,
-    place: LayoutPlace {
-        platform: 0,
-        layer: 0,
-        row: 0,
-        key: 0,
-    },
-});
 
 /// Reads the touch layout and then the script with these names, and checks them for a program and the tables that it compiles to. The
 /// script is read also if the layout is refused.
@@ -42,7 +30,7 @@ pub(crate) fn read_inputs<F: Folder>(
 ) -> Result<InputFindings, Stop>
     ensures { Gives itself (inputs_work checked.now tables.now (option_map (λ name. name.now) layout.entry) (option_map (λ name. name.now) keys.entry)) F.Folder folder.old folder.new result }
 {
-    let laid = check_given_layout(alloc, checked, tables, layout, folder)?;
+    let laid = check_layout(alloc, checked, tables, layout, folder)?;
     let script = check_script(alloc, checked, tables, keys, folder)?;
     Ok(InputFindings {
         layout: laid,
@@ -51,7 +39,7 @@ pub(crate) fn read_inputs<F: Folder>(
 }
 
 /// Reads the touch layout with a name, if there is one, for a program and its tables.
-fn check_given_layout<F: Folder>(
+fn check_layout<F: Folder>(
     alloc: Global,
     checked: &Checked,
     tables: &Tables,
@@ -79,24 +67,6 @@ fn check_named_layout<F: Folder>(
     ensures { Gives itself (named_layout_work checked.now tables.now layout.now) F.Folder folder.old folder.new result }
 {
     layout_findings(alloc, checked, read_ids(alloc, tables, layout, folder))
-}
-
-/// Reads a touch layout by name, checks it against the keyboard of the tables, and returns the ids of its keys.
-fn read_ids<F: Folder>(
-    alloc: Global,
-    tables: &Tables,
-    name: &FileName<'_>,
-    folder: &mut F,
-) -> Result<Seq<Text>, Stop>
-    ensures { Gives itself (ids_work tables.now name.now) F.Folder folder.old folder.new result }
-{
-    let layout = read(alloc, name, TEXT_BYTES, folder).map_err(|error| read_stop(
-        error,
-        LONG_LAYOUT,
-    ))?;
-    let bytes = layout.as_slice();
-    check_layout(alloc, bytes, tables)?;
-    Ok(layout_ids(alloc, bytes)?)
 }
 
 /// Returns what is found in a layout by the result of reading the ids of its keys.

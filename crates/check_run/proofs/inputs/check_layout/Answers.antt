@@ -3,7 +3,7 @@ use Rattle.keyman_run.specs.Steps.{itself}
 use Rattle.keyman_run.proofs.RunLaws.{gives_as, gives_value}
 use Rattle.check_run.specs.declared.findings.LayoutFindings.TheVariants as layouts
 use Rattle.check_run.specs.Orders.{named_layout_work}
-use Rattle.check_run.proofs.inputs.check_given_layout.Goals as goal
+use Rattle.check_run.proofs.inputs.check_layout.Goals as goal
 
 pub returns-in-Some : goal.returns-in-Some
 returns-in-Some g c =

@@ -10,7 +10,7 @@ use Rattle.keyman_run.proofs.RunLaws.{gives_handed}
 use Rattle.check_run.specs.Inputs.{ids_in}
 use Rattle.check_run.specs.Orders.{ids_work}
 use Rattle.check_run.proofs.LayoutIds.{ids_stated, broken_stated}
-use Rattle.check_run.proofs.inputs.read_ids.Goals as goal
+use Rattle.check_run.proofs.layouts.read_ids.Goals as goal
 
 pub returns-in_err-layout : goal.returns-in_err-layout
 returns-in_err-layout g c =
