@@ -1,8 +1,8 @@
-# Explains a refusal of a touch layout, of a script or of bytes that are not UTF-8 in the file that it refers to, with the functions of the
-# other files. The variables are `code`, `line`, `rest` (the rest of the refusal after the code), `bytes` (the size of the file) and
-# `importing` (1 after `--import`). The first printed line states what the refusal means there, or is empty if the code says enough. It ends
-# with a tab and `=` if it is a whole explanation. The second line is a hint or empty. The third is the number of the line that has the
-# error, or 0 if no line has it. Then come the beginning of that line and a full stop. A byte 0 must be replaced: set LC_ALL=C.
+# Explains a refusal of a touch layout, a script or another input that is not a source in the file that it refers to, with the functions of
+# the other files. The variables are `code`, `line`, `rest` (the rest of the refusal after the code) and `bytes` (the size of the file). The
+# first printed line states what the refusal means there, or is empty if the code says enough. It ends with a tab and `=` if it is a whole
+# explanation. The second line is a hint or empty. The third is the number of the line that has the error, or 0 if no line has it. Then come
+# the beginning of that line and a full stop. A byte 0 must be replaced: set LC_ALL=C.
 BEGIN {
     counted["P07"] = "event 100,001"
     counted["H2"] = "field 65"
@@ -38,9 +38,8 @@ function take_line(s) {
     if (row == 1) sub(/^\357\273\277/, "", s)
     if (row == 1 && s ~ /^(\377\376|\376\377|[^\001]\001[^\001]\001|\001[^\001]\001[^\001])/) {
         utf16 = 1; meaning = "the text is in UTF-16"; hint = "Save it as UTF-8."
-        if (code == "L01" && !importing && s ~ /^(\377\376|\376\377)/) hint = hint " keyman --import writes it."
     }
-    if (code ~ /^[LP]01$/ && meaning == "") find_bytes(s)
+    if (code == "P01" && meaning == "") find_bytes(s)
     if (of_layout && code != "T7" && !utf16) read_layout(s)
     if (code ~ /^V0[12]$/ && row == 1 && s !~ /^KXTS/) hint = "If the file is a source, compile it first."
     if (code ~ /^E/ && !line) count_events(s)

@@ -220,3 +220,20 @@ fn checks(rt: HostRuntime) -> Result<(), Fail> {
     }
     Ok(())
 }
+
+/// Returns whether a source that is not UTF-8 is refused at its first such byte. Its lines end with CR LF, LF and CR.
+fn is_placed(alloc: Global) -> Result<bool, Fail> {
+    let words = words(alloc, "in")?;
+    let mut folder = empty_folder(alloc, 0, 0)?;
+    folder.write(alloc, b"in", b"c\r\n\nc\r\xC3\xA9\xFF")?;
+    let mut sink = sink(alloc, 0)?;
+    let ended = check_run(alloc, words.as_slice(), &mut folder, &mut sink);
+    let printed = b"in:4:2: error L01: a source that is not UTF-8\nrefused L01 line 1\n";
+    Ok(ended.number() == 1 && sink.written() == printed.as_slice())
+}
+
+#[test]
+fn bytes(rt: HostRuntime) -> Result<(), Fail> {
+    assert!(rt; is_placed(rt.alloc())?);
+    Ok(())
+}
