@@ -1,3 +1,3 @@
 pub mod AsideBytes
-pub mod Hidden
+pub mod HiddenElements
 pub mod Pressed

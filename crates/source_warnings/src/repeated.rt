@@ -180,7 +180,7 @@ fn element_names(alloc: Global, elements: &[StoreElement]) -> Result<NameTable, 
 }
 
 /// Returns the number, from 1, of the first element whose partner is hidden, for elements with these names.
-#[tactic(auto, using(crate::proofs::Hidden::hidden_step))]
+#[tactic(auto, using(crate::proofs::HiddenElements::hidden_step))]
 fn first_hidden(
     alloc: Global,
     names: &NameTable,
