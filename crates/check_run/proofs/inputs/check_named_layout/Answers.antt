@@ -1,4 +1,4 @@
-use Rattle.check_run.proofs.Inputs.{layout_found}
+use Rattle.check_run.proofs.FoundInputs.{layout_found}
 use Rattle.check_run.proofs.inputs.check_named_layout.Goals as goal
 
 pub returns : goal.returns
