@@ -123,5 +123,5 @@ abbrev pub check_work : (source : List ℕ) → (layout keys : Option (List ℕ)
 check_work source layout keys = concluded (check_ending source layout keys) (stopped_ending source) (findings_work source layout keys)
 
 -- the same for one name after that of the source: it is the name of a layout by its end, else that of a script
-abbrev pub last_work : (source last : List ℕ) → Work Ending
+unfoldable pub last_work : (source last : List ℕ) → Work Ending
 last_work source last = if is_layout last then check_work source (Some last) None else check_work source None (Some last)

@@ -98,10 +98,13 @@ abbrev pub layout_lines : (source layout : List ℕ) → LayoutFindings → List
 layout_lines source layout (layouts.Refused why) = reason_error layout why
 layout_lines source layout (layouts.Accepted warnings) = flat_map (warning_line source) warnings
 
+-- what is printed of W19 before the name of the option
+unfoldable pub no_option : List ℕ
+no_option = codes ": warning W19: the keyboard has no option '"
+
 -- W19: the line of an option that a script sets and that the keyboard doesn't have, in the form of the line of a warning
 unfoldable pub unknown_line : List ℕ → UnknownOption → List ℕ
-unknown_line file unknown = concat (
-    file ∷ codes ":" ∷ decimal unknown.line ∷ codes ": warning W19: the keyboard has no option '" ∷ shown_text unknown.name ∷ codes "'\n" ∷ [])
+unknown_line file unknown = concat (file ∷ codes ":" ∷ decimal unknown.line ∷ no_option ∷ shown_text unknown.name ∷ codes "'\n" ∷ [])
 
 -- the lines of a script: the line of the reason why it is refused, or those of its unknown options
 abbrev pub script_lines : List ℕ → ScriptFindings → List ℕ

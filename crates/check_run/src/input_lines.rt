@@ -1,7 +1,7 @@
 //! What a check prints for a source that is not refused: its warnings, and the lines of its touch layout and its script.
 
 ghost use Rattle.std.specs.Prelude.{◌≡◌, ◌+◌, ◌++◌, flat_map, IfOk, OnOk};
-ghost use Rattle.check_run.specs.Printed.{accepted_text, last_line, layout_lines, script_end, script_lines, unknown_line};
+ghost use Rattle.check_run.specs.Printed.{accepted_text, last_line, layout_lines, no_option, script_end, script_lines, unknown_line};
 
 use crate::error_lines::reason_error;
 use crate::findings::{InputFindings, LayoutFindings, ScriptFindings, UnknownOption};
@@ -85,14 +85,20 @@ fn unknown_line(alloc: Global, keys: &[u8], option: &UnknownOption) -> Result<Te
     ensures { IfOk result (λ line. line ≡ unknown_line keys.now option.now) }
 {
     let mut line = Seq::from_slice(alloc, keys)?;
-    let place = format!(in alloc;
-        ":{}: warning W19: the keyboard has no option '",
-        option.line
-    )?;
+    let place = format!(in alloc; ":{}", option.line)?;
     line.extend_from_slice(place.as_bytes())?;
+    line.extend_from_slice(no_option().as_bytes())?;
     put_shown(&mut line, option.name.as_slice())?;
     line.extend_from_slice(b"'\n")?;
     Ok(line)
+}
+
+/// Returns what is printed of W19 before the name of the option.
+#[tactic(auto, unfolding(crate::specs::Printed::no_option))]
+fn no_option() -> &'static str
+    ensures { result.now ≡ no_option }
+{
+    ": warning W19: the keyboard has no option '"
 }
 
 /// Appends the last line.

@@ -57,7 +57,6 @@ fn name_of<'a>(name: Option<&'a Text>) -> &'a [u8]
 }
 
 /// Prints what a check finds in a source that is not refused, in a layout and in a script.
-#[tactic(auto, using(crate::proofs::Endings::sound_tells, crate::proofs::Endings::broken_tells))]
 fn print_accepted<S: Sink>(
     alloc: Global,
     source: &[u8],
