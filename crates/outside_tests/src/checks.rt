@@ -1,7 +1,8 @@
 //! Tests what a check prints for small sources, layouts and scripts, and its exit status.
 
 use check_run::check_run;
-use kmn_outside::Folder;
+use kmn_base::Seq;
+use kmn_outside::{Folder, MemoryFolder, MemorySink};
 use run_tests::commands::{empty_folder, sink, words};
 use source_tests::fixtures::{is_row, parted, source_of};
 use std::alloc::Global;
