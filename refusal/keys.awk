@@ -1,4 +1,4 @@
-# The names of keys, modifiers and system stores, and the names nearest to a word.
+# The names of keys and modifiers for a touch layout and a script, and the names nearest to a word.
 
 BEGIN {
     for (i = 0; i < 36; i++) know("key", "K_" substr("ABCDEFGHIJKLMNOPQRSTUVWXYZ0123456789", i + 1, 1))
@@ -10,9 +10,6 @@ BEGIN {
     know_all("modifier", "LCTRL RCTRL CTRL LALT RALT ALT SHIFT CAPS NCAPS")
     know_all("layout", "K_SHIFT K_CONTROL K_ALT K_CAPS K_NUMLOCK K_SCROLL K_LOPT K_ROPT K_NUMERALS K_SYMBOLS K_CURRENCIES K_UPPER " \
         "K_LOWER K_ALPHA K_SHIFTED K_ALTGR K_TABBACK K_TABFWD K_LSHIFT K_RSHIFT K_LCONTROL K_RCONTROL K_LCTRL K_RCTRL K_LALT K_RALT")
-    know_all("system", "&bitmap &copyright &hotkey &keyboardversion &layoutfile &message &mnemoniclayout &name &targets &version " \
-        "&visualkeyboard &casedkeys &ethnologuecode &windowslanguages &language &layout &languagename &displaymap &kmw_rtl " \
-        "&kmw_helpfile &kmw_helptext &kmw_embedjs &kmw_embedcss")
 }
 
 function know_all(what, names,    all, count, i) {

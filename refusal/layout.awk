@@ -286,15 +286,22 @@ function layer_fault(    i, id) {
     return quoted(beginning(id)) ", which is also the id of the layer in line " layer_row[wanted_platform, i]
 }
 
-# Names the key that a rule of keys is about: the first one of the place that breaks the rule.
-function key_meaning(    at, found) {
-    for (at = list; at >= 1; at--) if (breaks_rule(at) && !(code == "T5" && is_ruled(member[at, "id"]))) found = at
-    for (at = list; at >= 1 && !found; at--) if (breaks_rule(at)) found = at
+# Names the key that a rule of keys is about: the first one of the place that breaks the rule. The rules of the source decide which of
+# several keys do nothing, and are not known here.
+function key_meaning(    at, found, others) {
+    for (at = list; at >= 1; at--) if (breaks_rule(at)) { found = at; others++ }
     if (!found) found = 1
     line = key_row[found]
     text = key_text[found]
     hint = rule_hint(found)
+    if (code == "T5" && others > 1) return several_keys(found) where_found(1)
     return key_name(found) where_found(found)
+}
+
+# Returns the names of the keys from a position on that may do nothing.
+function several_keys(found,    at, all) {
+    for (at = found; at <= list; at++) if (breaks_rule(at)) all = all (all == "" ? "" : " or ") key_name(at)
+    return all
 }
 
 function breaks_rule(at,    id) {
@@ -328,14 +335,4 @@ function rule_hint(at,    next_layer, i) {
             return "Its `nextlayer` is " quoted(next_layer) "; the nearest layer is " quoted(layer_id[wanted_platform, i]) "."
     }
     return "Its `nextlayer` is " quoted(beginning(next_layer)) "."
-}
-
-# Returns whether the source has a virtual key with a name. The source is read once.
-function is_ruled(id,    s) {
-    if (!source_read) {
-        source_read = 1
-        while ((getline s < ENVIRON["source"]) > 0) { sub(/\r$/, "", s); read_tokens(s) }
-        close(ENVIRON["source"])
-    }
-    return tolower(id) in ruled
 }

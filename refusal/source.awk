@@ -1,5 +1,6 @@
-# Reads a source as docs/LANGUAGE.md defines, byte by byte: set LC_ALL=C. A byte 0 must be replaced, since not each awk can read it.
-# Another file defines `take`, which gets each physical line, and `finish`, which gets the tokens of each logical line.
+# Reads a source as docs/LANGUAGE.md defines, byte by byte, to find the name of its bitmap: set LC_ALL=C. A byte 0 must be replaced, since
+# not each awk can read it. `bitmap.awk` defines `take`, which gets each physical line, and `finish`, which gets the tokens of each logical
+# line.
 
 {
     sub(/\r$/, "")
@@ -72,38 +73,9 @@ function word(at) {
     return at <= tokens && kind[at] == "w" ? tolower(token[at]) : ""
 }
 
-function characters(value) {
-    gsub(/[\200-\277]/, "", value)
-    return length(value)
-}
-
-# Returns the position of the first occurrence of a symbol, or one past the end.
-function place_of(value,    at) {
-    for (at = 1; at <= tokens && !sign(at, value); at++);
-    return at
-}
-
-# Returns the number of items or elements at these positions, including the elements of stores that `outs` and `$` name.
-function items(from, to,    at, sum, name) {
-    for (at = from; at <= to; at++) {
-        name = put_at(at)
-        if (kind[at] == "q") sum += characters(token[at])
-        else if (name != "") sum += size[name]
-        else sum++
-        if (sign(at, "[")) while (at <= to && !sign(at, "]")) at++
-        if (sign(at + 1, "(")) while (at <= to && !sign(at, ")")) at++
-    }
-    return sum + 0
-}
-
 # Returns the store that `outs` or `$` names at a position.
 function put_at(at,    value) {
     value = word(at)
     if (value ~ /^\$./) return substr(value, 2)
     return value == "outs" && sign(at + 1, "(") ? tolower(token[at + 2]) : ""
-}
-
-# Returns whether a position has a virtual key, or `outs` or `$` of a store that contains one.
-function gives_key(at) {
-    return sign(at, "[") || put_at(at) in with_key
 }

@@ -1,5 +1,5 @@
-" Compiles the current keyboard source with `keyman`, into a file of the same name with the suffix .kmx. `:make` adds an error to the
-" quickfix list.
+" Checks the current keyboard source with `keyman --check`, and compiles it into a file of the same name with the suffix .kmx if it has no
+" error. `:make` adds the errors, warnings and notes to the quickfix list.
 if exists("current_compiler")
   finish
 endif
@@ -8,17 +8,16 @@ let current_compiler = "keyman"
 let s:save_cpo = &cpo
 set cpo&vim
 
-" The program prints the line of an error but not the file, so the name of the file is printed before it, and `%P` reads it. The braces
-" keep both commands together, since Vim redirects the output of the whole.
-CompilerSet makeprg={\ echo\ %:S;\ keyman\ compile\ %:S\ %:r:S.kmx;\ }
-" `refused C05 line 9`, `refused C24 size 1048577`, and the messages of the launcher, except about the unproved program.
+" The braces keep both commands together, since Vim redirects the output of the whole.
+CompilerSet makeprg={\ keyman\ --check\ %:S\ &&\ keyman\ compile\ %:S\ %:r:S.kmx;\ }
+" Errors with a column, warnings and notes without one, and the messages of the launcher, except about the unproved program. The column
+" counts characters, and Vim has none such: %c counts bytes, and %v columns of the screen.
 CompilerSet errorformat=
-      \refused\ %m\ line\ %l,
-      \refused\ %m,
+      \%f:%l:%v:\ %trror\ %m,
+      \%f:%l:\ %tarning\ %m,
+      \%f:%l:\ %tote\ %m,
       \%-Gkeyman:\ building\ an\ unproved\ program%.%#,
-      \%-Gkeyman:\ this\ program\ is\ not\ proved%.%#,
       \keyman:\ %m,
-      \%-P%f,
       \%-G%.%#
 
 let &cpo = s:save_cpo

@@ -1,4 +1,5 @@
 pub mod Checks
 pub mod Concluding
 pub mod Endings
-pub mod Inputs
+pub mod FoundInputs
+pub mod LayoutIds

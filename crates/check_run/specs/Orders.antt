@@ -17,7 +17,7 @@ use Rattle.keyman_words.specs.LayoutNames.{is_layout}
 use Rattle.keyman_words.specs.declared.reason.Reason.{Reason}
 use Rattle.keyman_run.specs.Endings.{Ending}
 use Rattle.keyman_run.specs.Inputs.{by_line}
-use Rattle.keyman_run.specs.Orders.{file_work, keys_work, script_work}
+use Rattle.keyman_run.specs.Orders.{file_work, script_work}
 use Rattle.keyman_run.specs.Steps.{at_line_one}
 use Rattle.keyman_run.specs.Work.{Reading, Work, given, and_then}
 use Rattle.keyman_run.specs.Work.Reading.{Bytes, Over}
@@ -25,9 +25,11 @@ use Rattle.keyman_run.specs.Work.Work.{Give, Refuse, Read}
 use Rattle.check_run.specs.declared.findings.Findings.{Findings}
 use Rattle.check_run.specs.declared.findings.Findings.TheVariants as findings
 use Rattle.check_run.specs.declared.findings.InputFindings.{InputFindings}
+use Rattle.check_run.specs.declared.findings.LayoutFindings.{LayoutFindings}
+use Rattle.check_run.specs.declared.findings.LayoutFindings.TheVariants as layouts
 use Rattle.check_run.specs.declared.findings.ScriptFindings.{ScriptFindings}
 use Rattle.check_run.specs.declared.findings.ScriptFindings.TheVariants as script
-use Rattle.check_run.specs.Inputs.{no_reason, script_read}
+use Rattle.check_run.specs.Inputs.{ids_in, layout_read, script_read}
 use Rattle.check_run.specs.Shown.{refused_lines}
 use Rattle.check_run.specs.Printed.{check_ending, stopped_ending}
 
@@ -46,14 +48,18 @@ concluded good bad (Give value) = Give (good value)
 concluded good bad (Refuse why) = Give (bad why)
 concluded good bad (Read name limit next) = Read name limit (λ reading. concluded good bad (next reading))
 
--- read a touch layout and check it for the keyboard of tables: the reason why it is refused, if it is
-abbrev pub named_layout_work : Tables → (layout : List ℕ) → Work (Option Reason)
-named_layout_work tables layout = concluded no_reason Some (keys_work tables layout)
+-- read a touch layout and check it for the keyboard of tables: the ids of its keys
+abbrev pub ids_work : Tables → (layout : List ℕ) → Work (List (List ℕ))
+ids_work tables layout = Read layout TEXT_BYTES (λ reading. given (ids_in tables reading))
+
+-- read a touch layout for a program with these tables: the reason why it is refused, or the rules whose keys it lacks
+abbrev pub named_layout_work : Program → Tables → (layout : List ℕ) → Work LayoutFindings
+named_layout_work program tables layout = concluded (layout_read program) layouts.Refused (ids_work tables layout)
 
 -- the same for a layout that may not be given
-abbrev pub layout_check_work : Tables → (layout : Option (List ℕ)) → Work (Option Reason)
-layout_check_work tables None = Give None
-layout_check_work tables (Some layout) = named_layout_work tables layout
+abbrev pub layout_check_work : Program → Tables → (layout : Option (List ℕ)) → Work LayoutFindings
+layout_check_work program tables None = Give (layouts.Accepted [])
+layout_check_work program tables (Some layout) = named_layout_work program tables layout
 
 -- read a script for a program with these tables: the reason why it is refused, or its options that the keyboard doesn't have
 abbrev pub named_script_work : Program → Tables → (keys : List ℕ) → Work ScriptFindings
@@ -65,16 +71,16 @@ script_check_work program tables None = Give (script.Accepted [])
 script_check_work program tables (Some keys) = named_script_work program tables keys
 
 -- what is found in a layout and in a script
-abbrev pub inputs_given : Option Reason → ScriptFindings → Work InputFindings
-inputs_given broken found = Give (record { layout = broken; script = found })
+abbrev pub inputs_given : LayoutFindings → ScriptFindings → Work InputFindings
+inputs_given laid played = Give (record { layout = laid; script = played })
 
 -- read the script after the layout, also if the layout is refused
-abbrev pub after_layout_work : Program → Tables → (keys : Option (List ℕ)) → Option Reason → Work InputFindings
-after_layout_work program tables keys broken = and_then (script_check_work program tables keys) (inputs_given broken)
+abbrev pub after_layout_work : Program → Tables → (keys : Option (List ℕ)) → LayoutFindings → Work InputFindings
+after_layout_work program tables keys laid = and_then (script_check_work program tables keys) (inputs_given laid)
 
 -- read and check the layout and the script that are given, for a program with these tables
 abbrev pub inputs_work : Program → Tables → (layout keys : Option (List ℕ)) → Work InputFindings
-inputs_work program tables layout keys = and_then (layout_check_work tables layout) (after_layout_work program tables keys)
+inputs_work program tables layout keys = and_then (layout_check_work program tables layout) (after_layout_work program tables keys)
 
 -- the warnings of the program of bytes and of the tables that it compiles to, except those that lines for other programs may explain
 unfoldable pub warnings_in : (bytes : List ℕ) → Program → Tables → List Warning
@@ -117,5 +123,5 @@ abbrev pub check_work : (source : List ℕ) → (layout keys : Option (List ℕ)
 check_work source layout keys = concluded (check_ending source layout keys) (stopped_ending source) (findings_work source layout keys)
 
 -- the same for one name after that of the source: it is the name of a layout by its end, else that of a script
-abbrev pub last_work : (source last : List ℕ) → Work Ending
+unfoldable pub last_work : (source last : List ℕ) → Work Ending
 last_work source last = if is_layout last then check_work source (Some last) None else check_work source None (Some last)

@@ -21,12 +21,15 @@ use Rattle.keyman_words.specs.declared.status.Status.TheVariants as status
 use Rattle.keyman_run.specs.Endings.{Ending}
 use Rattle.keyman_run.specs.declared.preparing.Stop.{Stop}
 use Rattle.keyman_run.specs.declared.preparing.Stop.TheVariants as stop
+use Rattle.check_texts.specs.Advice.{detail_advice}
 use Rattle.check_texts.specs.Details.{detail_text, shown_text}
 use Rattle.check_texts.specs.Meanings.{meaning}
 use Rattle.check_texts.specs.WarningTexts.{is_note, warning_code, warning_text}
 use Rattle.check_run.specs.declared.findings.Findings.{Findings}
 use Rattle.check_run.specs.declared.findings.Findings.TheVariants as findings
 use Rattle.check_run.specs.declared.findings.InputFindings.{InputFindings}
+use Rattle.check_run.specs.declared.findings.LayoutFindings.{LayoutFindings}
+use Rattle.check_run.specs.declared.findings.LayoutFindings.TheVariants as layouts
 use Rattle.check_run.specs.declared.findings.ScriptFindings.{ScriptFindings}
 use Rattle.check_run.specs.declared.findings.ScriptFindings.TheVariants as script
 use Rattle.check_run.specs.declared.findings.UnknownOption.{UnknownOption}
@@ -36,11 +39,12 @@ use Rattle.check_run.specs.Inputs.{is_sound}
 unfoldable pub place_text : Placed → List ℕ
 place_text placed = concat (codes ":" ∷ decimal placed.line ∷ codes ":" ∷ decimal placed.column ∷ codes ": error " ∷ [])
 
--- the line of a refusal, in the form that editors read: the given name of the file, the place, the code with its meaning, and the detail
+-- the line of a refusal, in the form that editors read: the given name of the file, the place, the code with its meaning, and the detail with
+-- its advice
 unfoldable pub error_line : List ℕ → Explained → List ℕ
 error_line file error = concat (
     file ∷ place_text error.placed ∷ code_text error.placed.code ∷ codes ": " ∷ meaning error.placed.code ∷ detail_text error.detail
-    ∷ codes "\n" ∷ [])
+    ∷ detail_advice error.placed.code error.detail ∷ codes "\n" ∷ [])
 
 -- the line for refusals that are not printed
 abbrev pub rest_line : ℕ → List ℕ
@@ -89,15 +93,18 @@ reason_error file (reason.Size code size) = error_line file (unexplained (record
 reason_error file (reason.Layout fault) = layout_line file fault
 reason_error file other = []
 
--- the line of the reason why a touch layout is refused, if it is
-abbrev pub layout_lines : List ℕ → Option Reason → List ℕ
-layout_lines file None = []
-layout_lines file (Some why) = reason_error file why
+-- the lines of a touch layout: the line of the reason why it is refused, or the lines of the source's rules whose keys it lacks
+abbrev pub layout_lines : (source layout : List ℕ) → LayoutFindings → List ℕ
+layout_lines source layout (layouts.Refused why) = reason_error layout why
+layout_lines source layout (layouts.Accepted warnings) = flat_map (warning_line source) warnings
+
+-- what is printed of W19 before the name of the option
+unfoldable pub no_option : List ℕ
+no_option = codes ": warning W19: the keyboard has no option '"
 
 -- W19: the line of an option that a script sets and that the keyboard doesn't have, in the form of the line of a warning
 unfoldable pub unknown_line : List ℕ → UnknownOption → List ℕ
-unknown_line file unknown = concat (
-    file ∷ codes ":" ∷ decimal unknown.line ∷ codes ": warning W19: the keyboard has no option '" ∷ shown_text unknown.name ∷ codes "'\n" ∷ [])
+unknown_line file unknown = concat (file ∷ codes ":" ∷ decimal unknown.line ∷ no_option ∷ shown_text unknown.name ∷ codes "'\n" ∷ [])
 
 -- the lines of a script: the line of the reason why it is refused, or those of its unknown options
 abbrev pub script_lines : List ℕ → ScriptFindings → List ℕ
@@ -105,21 +112,22 @@ script_lines file (script.Refused why) = reason_error file why
 script_lines file (script.Accepted unknown) = flat_map (unknown_line file) unknown
 
 -- the last line if no layout is refused: the line that a command prints for a refused script, or the numbers of warnings and of notes,
--- where an unknown option is a warning
-abbrev pub script_end : List Warning → ScriptFindings → List ℕ
-script_end warnings (script.Refused why) = reason_line why
-script_end warnings (script.Accepted unknown) = counts_line (count_by is_warned warnings + length unknown) (count_by is_noted warnings)
+-- where the warnings of a layout and the unknown options are more warnings
+abbrev pub script_end : List Warning → List Warning → ScriptFindings → List ℕ
+script_end warnings more (script.Refused why) = reason_line why
+script_end warnings more (script.Accepted unknown) =
+    counts_line (count_by is_warned warnings + (length more + length unknown)) (count_by is_noted warnings)
 
 -- the last line: a command prints it for the first input that is refused
-abbrev pub last_line : List Warning → Option Reason → ScriptFindings → List ℕ
-last_line warnings (Some why) found = reason_line why
-last_line warnings None found = script_end warnings found
+abbrev pub last_line : List Warning → LayoutFindings → ScriptFindings → List ℕ
+last_line warnings (layouts.Refused why) found = reason_line why
+last_line warnings (layouts.Accepted more) found = script_end warnings more found
 
 -- the text of a source that is not refused: the lines of its warnings, those of the layout and of the script, and the last line
 abbrev pub accepted_text : (source layout keys : List ℕ) → List Warning → InputFindings → List ℕ
 accepted_text source layout keys warnings inputs =
     flat_map (warning_line source) warnings
-    ++ (layout_lines layout inputs.layout ++ (script_lines keys inputs.script ++ last_line warnings inputs.layout inputs.script))
+    ++ (layout_lines source layout inputs.layout ++ (script_lines keys inputs.script ++ last_line warnings inputs.layout inputs.script))
 
 -- the status of a check of a source that is not refused: warnings refuse no input
 unfoldable pub input_status : InputFindings → Status

@@ -4,7 +4,7 @@ ghost use Rattle.std.specs.Prelude.{◌≡◌, ◌++◌, flat_map, IfOk, OnOk};
 ghost use Rattle.check_run.specs.Printed.{error_line, layout_line, place_text, reason_error};
 ghost use Rattle.refusal_details.specs.Explained.{unexplained};
 
-use check_texts::{put_detail, put_meaning};
+use check_texts::{put_advice, put_detail, put_meaning};
 use keyman_words::Reason;
 use kmn_base::{Memory, Refusal, Seq, Text};
 use refusal_details::{Explained, unexplained};
@@ -58,6 +58,7 @@ fn error_line(alloc: Global, file: &[u8], error: &Explained) -> Result<Text, Mem
     line.extend_from_slice(b": ")?;
     put_meaning(&mut line, error.placed.code)?;
     put_detail(alloc, &mut line, &error.detail)?;
+    put_advice(&mut line, error.placed.code, &error.detail)?;
     line.extend_from_slice(b"\n")?;
     Ok(line)
 }

@@ -12,6 +12,15 @@ pub(crate) struct UnknownOption {
     pub name: Text,
 }
 
+/// What a check finds in a touch layout.
+#[derive(Drop)]
+pub(crate) enum LayoutFindings {
+    /// The layout is refused.
+    Refused(Reason),
+    /// The layout is accepted, or there is none. The warnings are those of rules whose keys it lacks (W17), in the order of the rules.
+    Accepted { warnings: Seq<Warning> },
+}
+
 /// What a check finds in a script.
 #[derive(Drop)]
 pub(crate) enum ScriptFindings {
@@ -24,8 +33,7 @@ pub(crate) enum ScriptFindings {
 /// What a check finds in the touch layout and in the script for a source that compiles.
 #[derive(Drop)]
 pub(crate) struct InputFindings {
-    /// The reason why the layout is refused. `None` if it is valid, or if there is none.
-    pub layout: Option<Reason>,
+    pub layout: LayoutFindings,
     pub script: ScriptFindings,
 }
 

@@ -6,7 +6,7 @@ ghost use Rattle.check_run.specs.Printed.{PrintsStopped, accepted_text, check_st
 ghost use Rattle.keyman_words.specs.Tells.{Tells};
 
 use crate::error_lines::{put_lines, reason_error};
-use crate::findings::{Findings, InputFindings, ScriptFindings};
+use crate::findings::{Findings, InputFindings, LayoutFindings, ScriptFindings};
 use crate::input_lines::accepted_text;
 use keyman_run::Stop;
 use keyman_words::{Reason, Status, print_result, reason_line};
@@ -57,7 +57,6 @@ fn name_of<'a>(name: Option<&'a Text>) -> &'a [u8]
 }
 
 /// Prints what a check finds in a source that is not refused, in a layout and in a script.
-#[tactic(auto, using(crate::proofs::Endings::sound_tells, crate::proofs::Endings::broken_tells))]
 fn print_accepted<S: Sink>(
     alloc: Global,
     source: &[u8],
@@ -82,9 +81,9 @@ fn print_accepted<S: Sink>(
 fn is_sound(inputs: &InputFindings) -> bool
     ensures { result ≡ is_sound inputs.now }
 {
-    match inputs.layout {
-        Some(_) => false,
-        None => is_accepted(&inputs.script),
+    match &inputs.layout {
+        LayoutFindings::Refused(_) => false,
+        LayoutFindings::Accepted { .. } => is_accepted(&inputs.script),
     }
 }
 

@@ -33,6 +33,7 @@ pub fn check_run<F: Folder, S: Sink>(
 }
 
 /// Checks a source with the touch layout of a name, or with the script of this name.
+#[tactic(auto, unfolding(crate::specs::Orders::last_work))]
 fn check_last<F: Folder, S: Sink>(
     alloc: Global,
     source: &Text,

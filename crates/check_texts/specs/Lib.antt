@@ -1,3 +1,4 @@
 pub mod Meanings
 pub mod Details
+pub mod Advice
 pub mod WarningTexts

@@ -26,6 +26,7 @@ warning_code (kind.KeysNeverPressed store count keys) = codes "W13"
 warning_code (kind.PatternWithoutElements store) = codes "W14"
 warning_code kind.KeyGivesTheSame = codes "W15"
 warning_code kind.SecondSystemStore = codes "W16"
+warning_code (kind.KeyNotLaid key) = codes "W17"
 warning_code (kind.LongerIndex index any) = codes "W18"
 
 -- whether a warning is only a note: the application may put it right, it is often intended, or it is about a search that was not made
@@ -54,6 +55,7 @@ named_text (kind.OptionNeverAsked option) = around (codes "option '") option (co
 named_text (kind.OptionNeverSet option) = around (codes "option '") option (codes "' is asked for, and nothing sets it")
 named_text (kind.SavedNeverSet option) = around (codes "option '") option (codes "' is saved, and nothing sets it")
 named_text (kind.PatternWithoutElements store) = around (codes "store '") store (codes "' has no character and no deadkey")
+named_text (kind.KeyNotLaid key) = around (codes "no key of the layout is '") key (codes "'")
 named_text other = []
 
 -- parts of texts that have numbers: two sizes, a place twice, and how many keys

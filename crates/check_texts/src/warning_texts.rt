@@ -32,6 +32,7 @@ pub fn warning_code(kind: &WarningKind) -> &'static str
         WarningKind::PatternWithoutElements { .. } => "W14",
         WarningKind::KeyGivesTheSame => "W15",
         WarningKind::SecondSystemStore => "W16",
+        WarningKind::KeyNotLaid { .. } => "W17",
         WarningKind::LongerIndex { .. } => "W18",
     }
 }
@@ -107,6 +108,12 @@ fn put_named_text(line: &mut Text, kind: &WarningKind) -> Result<(), Memory>
                 b"' has no character and no deadkey",
             )
         }
+        WarningKind::KeyNotLaid { key } => put_around(
+            line,
+            b"no key of the layout is '",
+            key,
+            b"'",
+        ),
         _ => Ok(()),
     }
 }

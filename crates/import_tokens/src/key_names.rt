@@ -141,9 +141,9 @@ fn place_tokens(alloc: Global, text: &[u8]) -> Result<Option<Seq<OwnedToken>>, M
     }
 }
 
-/// Returns the code of the key at a place of the board.
+/// Returns the code of the key that a US board has at a place.
 #[tactic(auto, unfolding(crate::specs::Keys::key_places))]
-fn key_at(text: &[u8]) -> Option<u16>
+pub fn key_at(text: &[u8]) -> Option<u16>
     ensures { result ≡ named_in key_places text.now }
 {
     named_in(&KEY_PLACES, text)

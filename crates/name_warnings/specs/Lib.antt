@@ -4,3 +4,4 @@ pub mod Marks
 pub mod Groups
 pub mod Options
 pub mod Values
+pub mod Laid

@@ -17,6 +17,7 @@ kind_of concern.GroupNeverEntered name = kind.GroupNeverEntered name
 kind_of concern.OptionNeverAsked name = kind.OptionNeverAsked name
 kind_of concern.OptionNeverSet name = kind.OptionNeverSet name
 kind_of concern.SavedNeverSet name = kind.SavedNeverSet name
+kind_of concern.KeyNotLaid name = kind.KeyNotLaid name
 
 -- the warning at the use of a name
 abbrev pub warned : Concern → Use → Warning

@@ -20,6 +20,7 @@ pub(crate) enum Concern {
     OptionNeverAsked,
     OptionNeverSet,
     SavedNeverSet,
+    KeyNotLaid,
 }
 
 /// Appends a warning at the first use of each name that is not in a table.
@@ -74,6 +75,7 @@ fn kind_of(concern: Concern, name: Text) -> WarningKind
         Concern::OptionNeverAsked => WarningKind::OptionNeverAsked { option: name },
         Concern::OptionNeverSet => WarningKind::OptionNeverSet { option: name },
         Concern::SavedNeverSet => WarningKind::SavedNeverSet { option: name },
+        Concern::KeyNotLaid => WarningKind::KeyNotLaid { key: name },
     }
 }
 

@@ -79,6 +79,10 @@ pub enum WarningKind {
     KeyGivesTheSame,
     /// W16: a system store is stated again; the first statement counts. At the second.
     SecondSystemStore,
+    /// W17: a touch layout lacks the custom key of a rule. At the first rule with the key.
+    KeyNotLaid {
+        key: Text,
+    },
     /// W18, a note: the store of `index` has more elements than that of each `any` that it is used with. At its first `index`, whose `any`
     /// is named.
     LongerIndex {

@@ -1,7 +1,8 @@
 //! Tests what a check prints for small sources, layouts and scripts, and its exit status.
 
 use check_run::check_run;
-use kmn_outside::Folder;
+use kmn_base::Seq;
+use kmn_outside::{Folder, MemoryFolder, MemorySink};
 use run_tests::commands::{empty_folder, sink, words};
 use source_tests::fixtures::{is_row, parted, source_of};
 use std::alloc::Global;
@@ -26,13 +27,23 @@ begin Unicode > use(main)¶group(main) using keys¶+ 'a' > 'b'¶group(Main) ⇒ 
 == a name that is not defined, with the names that differ from it in one letter
 store(vowels) 'aeiou'¶store(vowl) 'x'¶begin Unicode > use(main)¶group(main) using keys¶+ 'a' > outs(Vowel) ⇒ 1 in:5:14: error C05: a store that is not stated: 'Vowel', perhaps vowels, perhaps vowl¶refused C05 line 5¶
 == a word in the brackets of a virtual key, with at most three names of keys and modifiers that it may mean
-begin Unicode > use(main)¶group(main) using keys¶+ [K_ENTR] > 'b'¶+ [SHFT K_A] > 'b'¶+ [TAB] > 'b'¶+ [K_1O] > 'b'¶+ [K_] > 'b'¶+ [K_A SHIFT] > 'b'¶+ [] > 'b' ⇒ 1 in:3:4: error S11: a bracket that is no virtual key: 'K_ENTR', perhaps K_ENTER¶in:4:4: error S11: a bracket that is no virtual key: 'SHFT', perhaps SHIFT¶in:5:4: error S11: a bracket that is no virtual key: 'TAB', perhaps K_TAB¶in:6:4: error S11: a bracket that is no virtual key: 'K_1O', perhaps K_1, perhaps K_O¶in:7:4: error S11: a bracket that is no virtual key: 'K_'¶in:8:8: error S11: a bracket that is no virtual key: 'SHIFT'¶in:9:4: error S11: a bracket that is no virtual key: ']'¶refused S11 line 3¶
+begin Unicode > use(main)¶group(main) using keys¶+ [K_ENTR] > 'b'¶+ [SHFT K_A] > 'b'¶+ [TAB] > 'b'¶+ [K_1O] > 'b'¶+ [K_] > 'b'¶+ [K_A SHIFT] > 'b'¶+ [] > 'b' ⇒ 1 in:3:4: error S11: a bracket that is no virtual key: 'K_ENTR', perhaps K_ENTER¶in:4:4: error S11: a bracket that is no virtual key: 'SHFT', perhaps SHIFT¶in:5:4: error S11: a bracket that is no virtual key: 'TAB', perhaps K_TAB¶in:6:4: error S11: a bracket that is no virtual key: 'K_1O', perhaps K_1, perhaps K_O¶in:7:4: error S11: a bracket that is no virtual key: 'K_'¶in:8:8: error S11: a bracket that is no virtual key: 'SHIFT'; the key comes last¶in:9:4: error S11: a bracket that is no virtual key: ']'; a bracket has a key, which comes last¶refused S11 line 3¶
 == the token at which reading a line stops, unless something is missing there
-begin Unicode > use(main)¶group(main) using keys¶+ 'a' 'b' > 'x'¶+ 'a' > ''¶+ > 'x'¶+ 'a' > 8¶+ 'a' > use main¶'a' if(o = '1') + 'b' > 'c'¶store(&hotkye) 'a'¶stoer(v) 'a' ⇒ 1 in:3:7: error S05: an item that may not stand before the >: 'b'¶in:4:1: error S06: an item that may not stand in an output or a store¶in:5:3: error S05: an item that may not stand before the >¶in:6:9: error L04: a number that is no character: '8'¶in:7:13: error S02: parentheses that are not as they should be: 'main'¶in:8:5: error S09: a condition behind a pattern: 'if'¶in:9:7: error S12: a system store that there is not: '&hotkye', perhaps &hotkey¶in:10:1: error S01: a line that is no statement: 'stoer'¶refused S05 line 3¶
+begin Unicode > use(main)¶group(main) using keys¶+ 'a' 'b' > 'x'¶+ 'a' > ''¶+ > 'x'¶+ 'a' > 8¶+ 'a' > use main¶'a' if(o = '1') + 'b' > 'c'¶store(&hotkye) 'a'¶stoer(v) 'a' ⇒ 1 in:3:7: error S05: an item that may not stand before the >: 'b'¶in:4:1: error S06: an item that may not stand in an output or a store¶in:5:3: error S05: an item that may not stand before the >¶in:6:9: error L04: a number that is no character: '8'; a number is octal, unless d comes before its digits¶in:7:13: error S02: parentheses that are not as they should be: 'main'¶in:8:5: error S09: a condition behind a pattern: 'if'¶in:9:7: error S12: a system store that there is not: '&hotkye', perhaps &hotkey¶in:10:1: error S01: a line that is no statement: 'stoer'¶refused S05 line 3¶
 == a number that is not a character, in the physical line that has it
-begin Unicode > use(main)¶group(main) using keys¶+ 'a' > 'b' \\¶  u+d800 \\¶  U+12¶+ 'c' > U+123456x ⇒ 1 in:4:3: error L04: a number that is no character: 'u+d800'¶in:6:9: error L04: a number that is no character: 'U+123456x'¶refused L04 line 3¶
+begin Unicode > use(main)¶group(main) using keys¶+ 'a' > 'b' \\¶  u+d800 \\¶  U+12¶+ 'c' > U+123456x ⇒ 1 in:4:3: error L04: a number that is no character: 'u+d800'; a character is U+ and 4 to 6 hexadecimal digits, and a range is written out¶in:6:9: error L04: a number that is no character: 'U+123456x'; a character is U+ and 4 to 6 hexadecimal digits, and a range is written out¶refused L04 line 3¶
 == the word that is not supported, not an equal name
-store(fix) 'x'¶begin Unicode > use(main)¶group(main) using keys¶+ [K_B] > outs(fix) fix¶+ 'b' > [K_A]¶store(&shiftfreescaps) '1'¶+ 'c' > call(f) ⇒ 1 in:4:1: error C12: something that is left out: 'fix'¶in:5:1: error C12: something that is left out: '['¶in:6:1: error C12: something that is left out: '&shiftfreescaps'¶in:7:1: error C11: a call: 'f'¶refused C12 line 4¶
+store(fix) 'x'¶begin Unicode > use(main)¶group(main) using keys¶+ [K_B] > outs(fix) fix¶+ 'b' > [K_A]¶store(&shiftfreescaps) '1'¶+ 'c' > call(f) ⇒ 1 in:4:1: error C12: something that is left out: 'fix'; instead: nul¶in:5:1: error C12: something that is left out: '['; instead: the characters of the key¶in:6:1: error C12: something that is left out: '&shiftfreescaps'; instead: rules for both states of caps lock¶in:7:1: error C11: a call: 'f'¶refused C12 line 4¶
+== what is written instead of an old header, and of a statement that only Keyman Developer reads
+begin Unicode > use(main)¶NAME 'x'¶version 6.0¶Caps Always Off¶begin NewContext > use(main)¶group(readonly) readonly¶group(main) using keys readonly¶+ 'a' > 'b' ⇒ 1 in:2:1: error S01: a line that is no statement: 'NAME'; instead: store(&name) and the text¶in:3:1: error S01: a line that is no statement: 'version'; instead: store(&version) and a version from 6.0 on, or nothing¶in:4:1: error S01: a line that is no statement: 'Caps'; instead: rules for both states of caps lock¶in:5:1: error S01: a line that is no statement: 'NewContext'; instead: $keymanweb: before this line and the lines of its groups¶in:6:1: error S01: a line that is no statement: 'readonly'; instead: nothing, and context first in each output of the group¶in:7:1: error S01: a line that is no statement: 'readonly'; instead: nothing, and context first in each output of the group¶refused S01 line 2¶
+== a key by its place is named, and a virtual character is told from it
+begin Unicode > use(main)¶group(main) using keys¶+ [CTRL B08] > 'x'¶+ ['a'] > 'x'¶+ [K_F13] > 'x'¶+ [U_61] > 'x' ⇒ 1 in:3:9: error S11: a bracket that is no virtual key: 'B08', perhaps K_COMMA¶in:4:4: error S11: a bracket that is no virtual key: 'a'; instead: the name of the key that types it, as in [SHIFT K_A]¶in:5:4: error S11: a bracket that is no virtual key: 'K_F13'; no rule can have this key¶in:6:4: error S11: a bracket that is no virtual key: 'U_61'; a U_ name has 4 to 6 digits¶refused S11 line 3¶
+== comments, quotes, blanks and ranges of other languages
+begin Unicode > use(main)¶group(main) using keys¶// x¶/* x */¶+ 'a' > 'b' # x¶+ 'a' > “b”¶+ 'a' >\u{A0}'b'¶store(v) 'a' .. 'e'¶store(w) 'a', 'b'¶$v + 'a' > any(v) ⇒ 1 in:3:1: error S01: a line that is no statement: '//'; a comment begins with the letter c and a space¶in:4:1: error S01: a line that is no statement: '/*'; a comment begins with the letter c and a space¶in:5:13: error S06: an item that may not stand in an output or a store: '#'; a comment begins with the letter c and a space¶in:6:9: error S06: an item that may not stand in an output or a store: '“b”'; a text has straight quotes¶in:7:8: error S06: an item that may not stand in an output or a store: '\u{A0}'; only spaces and tabs are blanks¶in:8:14: error S06: an item that may not stand in an output or a store: '..'; a range is written out, each character or key by itself¶in:9:13: error S06: an item that may not stand in an output or a store: ','; blanks separate items¶in:10:1: error S05: an item that may not stand before the >: '$v'; only an output or a store has $ and a name¶refused S01 line 3¶
+== system stores that are not supported in a condition or in set
+begin Unicode > use(main)¶group(main) using keys¶if(&newLayer = 's') + 'a' > 'b'¶if(&platform = 'web') + 'b' > set(&layer = 's') set(&platform = 'web') ⇒ 1 in:3:1: error C12: something that is left out: '&newLayer'; instead: an option store that the application sets or reads¶in:4:1: error C12: something that is left out: '&platform'; instead: an option store that the application sets or reads¶refused C12 line 3¶
+== a store with the name of something that is not supported
+begin Unicode > use(main)¶group(main) using keys¶+ 'a' > outs(fix) save(&layer) ⇒ 1 in:3:14: error C05: a store that is not stated: 'fix'¶refused C05 line 3¶
 == characters that a terminal obeys, and words of more than 80 characters
 store(b\u{1B}) 'x'¶begin Unicode > use(main)¶group(main) using keys¶+ 'a' > 'b' ⇒ 0 in:1: warning W01: store 'b?' is used nowhere¶checked warnings=1 notes=0¶
 begin Unicode > use(main)¶group(main) using keys¶+ 'a' > $v\u{1B}\u{9B}\u{E9} ⇒ 1 in:3:9: error C05: a store that is not stated: 'v?¿é'¶refused C05 line 3¶
@@ -96,6 +107,10 @@ const FILES: &[(&str, &str)] = &[
         "noted",
         "begin Unicode > use(main)¶group(main) using keys¶+ 'a' > 'a'¶+ 'b' > 'B'",
     ),
+    (
+        "keyed",
+        "begin Unicode > use(main)¶group(main) using keys¶+ [T_a] > 'a'¶+ [SHIFT t_A] > 'b'¶+ [U_0103] > 'c'¶+ [K_A] > 'd'",
+    ),
     ("empty", ""),
     (
         "good.json",
@@ -104,6 +119,14 @@ const FILES: &[(&str, &str)] = &[
     (
         "bad.json",
         r#"{"phone":{"layer":[{"id":"default","row":[{"key":[{"id":"K_A"},{"id":"T_y"}]}]}]}}"#,
+    ),
+    (
+        "other.json",
+        r#"{"phone":{"layer":[{"id":"default","row":[{"key":[{"id":"K_A"}]}]}]}}"#,
+    ),
+    (
+        "sub.json",
+        r#"{"phone":{"layer":[{"id":"default","row":[{"key":[{"id":"K_A","sk":[{"id":"T_A"}],"flick":{"n":{"id":"U_0103"}}}]}]}]}}"#,
     ),
     ("open.keyman-touch-layout", "{"),
     (
@@ -127,6 +150,13 @@ in good.json good.keys ⇒ 0 checked warnings=0 notes=0¶
 == a layout that is refused
 in bad.json ⇒ 1 bad.json:1:1: error T5: a key that does nothing: platform 1 layer 1 row 1 key 2¶refused T5 platform 1 layer 1 row 1 key 2¶
 in open.keyman-touch-layout ⇒ 1 open.keyman-touch-layout:1:1: error T1: a layout that is no JSON: platform 0 layer 0 row 0 key 0¶refused T1 platform 0 layer 0 row 0 key 0¶
+== W17: custom keys of rules that a layout lacks, each once, and after the other warnings of the source
+in other.json ⇒ 0 in:6: warning W17: no key of the layout is 'T_x'¶checked warnings=1 notes=0¶
+keyed other.json ⇒ 0 keyed:3: warning W17: no key of the layout is 'T_a'¶keyed:5: warning W17: no key of the layout is 'U_0103'¶checked warnings=2 notes=0¶
+keyed sub.json ⇒ 0 checked warnings=0 notes=0¶
+noted other.json ⇒ 0 noted:3: note W15: the key gives this without a rule¶checked warnings=0 notes=1¶
+in other.json quikc.keys ⇒ 0 in:6: warning W17: no key of the layout is 'T_x'¶quikc.keys:1: warning W19: the keyboard has no option 'quikc'¶quikc.keys:4: warning W19: the keyboard has no option 'O2'¶checked warnings=3 notes=0¶
+in other.json bad.keys ⇒ 1 in:6: warning W17: no key of the layout is 'T_x'¶bad.keys:2:1: error P03: a bracket that is no key press¶refused P03 line 2¶
 == a script that is refused
 in bad.keys ⇒ 1 bad.keys:2:1: error P03: a bracket that is no key press¶refused P03 line 2¶
 == options that the keyboard does not have
@@ -189,5 +219,22 @@ fn checks(rt: HostRuntime) -> Result<(), Fail> {
             assert!(rt; is_checked(rt.alloc(), row)?, "{row}");
         }
     }
+    Ok(())
+}
+
+/// Returns whether a source that is not UTF-8 is refused at its first such byte. Its lines end with CR LF, LF and CR.
+fn is_placed(alloc: Global) -> Result<bool, Fail> {
+    let words = words(alloc, "in")?;
+    let mut folder = empty_folder(alloc, 0, 0)?;
+    folder.write(alloc, b"in", b"c\r\n\nc\r\xC3\xA9\xFF")?;
+    let mut sink = sink(alloc, 0)?;
+    let ended = check_run(alloc, words.as_slice(), &mut folder, &mut sink);
+    let printed = b"in:4:2: error L01: a source that is not UTF-8\nrefused L01 line 1\n";
+    Ok(ended.number() == 1 && sink.written() == printed.as_slice())
+}
+
+#[test]
+fn bytes(rt: HostRuntime) -> Result<(), Fail> {
+    assert!(rt; is_placed(rt.alloc())?);
     Ok(())
 }

@@ -15,7 +15,7 @@ use Rattle.refusal_details.specs.declared.detail.Detail.TheVariants as detail
 use Rattle.refusal_details.specs.declared.words.WrongToken.{WrongToken}
 use Rattle.refusal_details.specs.declared.words.WrongToken.TheVariants as wrong
 use Rattle.refusal_details.specs.Faulty.{fault_text}
-use Rattle.refusal_details.specs.LeftOut.{called, left_out}
+use Rattle.refusal_details.specs.LeftOut.{called, left_out, statement_left_out}
 
 -- a word with the names that it may mean, or nothing for an empty word
 unfoldable pub worded : List ℕ → List (List ℕ) → Detail
@@ -44,9 +44,18 @@ wrong_text code place tokens = if is_wrong code place then kept_word (text_at pl
 unfoldable pub stop_text : ℕ → Code → List LineToken → List ℕ
 stop_text line code tokens = wrong_text code (stop_place line code tokens) tokens
 
+-- the word of a line that only the language of Keyman Developer has, or the text of another token if it is empty
+abbrev pub statement_or : List ℕ → List ℕ → List ℕ
+statement_or word stop = if length word == 0 then stop else word
+
+-- the word of a statement that only that language has, or the text of the token at which reading the line stops
+unfoldable pub statement_text : ℕ → Code → List LineToken → List ℕ
+statement_text line code tokens = statement_or (statement_left_out tokens) (stop_text line code tokens)
+
 -- the text of the token that is wrong, among the tokens of a line
 unfoldable pub tokens_text : ℕ → Code → WrongToken → List LineToken → List ℕ
 tokens_text line code wrong.Stop tokens = stop_text line code tokens
+tokens_text line code wrong.Statement tokens = statement_text line code tokens
 tokens_text line code wrong.CallName tokens = called [] [] tokens
 tokens_text line code wrong.LeftOut tokens = left_out tokens
 

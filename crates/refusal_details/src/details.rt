@@ -62,9 +62,10 @@ fn subject_of(code: Code) -> Subject
         Code::C04 => Subject::GroupAgain,
         Code::C05 => Subject::NoStore,
         Code::C06 => Subject::NoGroup,
-        Code::L04 | Code::S01 | Code::S02 | Code::S05 | Code::S06 | Code::S09 => {
+        Code::L04 | Code::S02 | Code::S05 | Code::S06 | Code::S09 => {
             Subject::Word(WrongToken::Stop)
         }
+        Code::S01 => Subject::Word(WrongToken::Statement),
         Code::S11 => Subject::KeyWord,
         Code::S12 => Subject::SystemName,
         Code::C11 => Subject::Word(WrongToken::CallName),

@@ -2,14 +2,14 @@
 
 ghost use Rattle.std.specs.Prelude.{◌≡◌, ◌≤◌, length, map, IfOk};
 ghost use Rattle.kmn_base.specs.declared.limits.TheConstants.{TEXT_BYTES};
-ghost use Rattle.refusal_details.specs.Explained.{explained, explained_in, explained_text, unexplained};
+ghost use Rattle.refusal_details.specs.Explained.{explained, explained_in, explained_text, unexplained, unreadable};
 
 use crate::definitions::{KnownNames, stated_names};
-use crate::detail::{Explained, unexplained};
+use crate::detail::{Detail, Explained, unexplained};
 use crate::details::detail_in;
 use kmn_base::limits::TEXT_BYTES;
 use kmn_base::{Memory, Refusal, Seq};
-use refusal_places::placed_in;
+use refusal_places::{behind_bytes, placed_in};
 use source_faults::name_faults;
 use source_names::NameFault;
 use std::alloc::Global;
@@ -30,7 +30,7 @@ pub fn explained(
     }
     match str::from_utf8(source) {
         Ok(text) => explained_text(alloc, text, refusals),
-        Err(_) => all_unexplained(alloc, refusals),
+        Err(error) => all_unreadable(alloc, source, error.valid_up_to(), refusals),
     }
 }
 
@@ -43,6 +43,34 @@ fn all_unexplained(alloc: Global, refusals: &[Refusal]) -> Result<Seq<Explained>
         list.add(unexplained(*refusal))?;
     }
     Ok(list)
+}
+
+/// Returns refusals of bytes at the byte after this many bytes, without details.
+fn all_unreadable(
+    alloc: Global,
+    source: &[u8],
+    size: usize,
+    refusals: &[Refusal],
+) -> Result<Seq<Explained>, Memory>
+    requires { length source.now ≤ TEXT_BYTES }
+    ensures { IfOk result (λ list. list ≡ map (unreadable source.now size) refusals.now) }
+{
+    let mut list = Seq::new(alloc);
+    for refusal in refusals {
+        list.add(unreadable(source, size, *refusal))?;
+    }
+    Ok(list)
+}
+
+/// Returns a refusal of bytes at the byte after this many bytes, without a detail.
+fn unreadable(source: &[u8], size: usize, refusal: Refusal) -> Explained
+    requires { length source.now ≤ TEXT_BYTES }
+    ensures { result ≡ unreadable source.now size refusal }
+{
+    Explained {
+        placed: behind_bytes(source, size, refusal),
+        detail: Detail::Nothing,
+    }
 }
 
 /// Returns refusals of a source in UTF-8, each with its place and its detail.

@@ -1,11 +1,12 @@
 //! The names that a word in the brackets of a virtual key may mean.
 
-ghost use Rattle.std.specs.Prelude.{◌≡◌, ◌++◌, flat_map, map, Some, IfOk, OnOk};
+ghost use Rattle.std.specs.Prelude.{◌≡◌, ◌++◌, flat_map, map, option_map, Some, IfOk, OnOk};
 ghost use Rattle.virtual_keys.specs.Keys.{key_name};
 ghost use Rattle.virtual_keys.specs.declared.dictionary.TheConstants.{FIRST_OWN_CODE};
-ghost use Rattle.refusal_details.specs.Keys.{is_known, like_row, meant, meant_below, meant_key, meant_names, means_key};
+ghost use Rattle.refusal_details.specs.Keys.{is_known, like_row, meant, meant_below, meant_key, meant_names, means_key, placed_name, placed_names};
 
 use crate::nearest::{add_like, few, is_like};
+use import_tokens::key_at;
 use kmn_base::names::same_name;
 use kmn_base::slices::behind;
 use kmn_base::{Memory, Seq, Text};
@@ -33,13 +34,35 @@ fn is_known(word: &[u8]) -> bool
     key_named(word).is_some() || modifier_named(word).is_some() || is_own_key(word)
 }
 
-/// Returns the names of keys that a word means, and the modifiers that it is like.
+/// Returns the name of the key at the place that a word is, the names of keys that it means, and the modifiers that it is like.
 #[tactic(auto, unfolding(crate::specs::Keys::meant_names))]
 fn meant_names(alloc: Global, word: &[u8]) -> Result<Seq<Text>, Memory>
     ensures { IfOk result (λ names. names ≡ meant_names word.now) }
 {
-    let mut names = meant_keys(alloc, word)?;
+    let mut names = placed_names(alloc, placed_name(word))?;
+    names.append(meant_keys(alloc, word)?)?;
     add_like_rows(alloc, &mut names, word, modifiers())?;
+    Ok(names)
+}
+
+/// Returns the name of the key at the place of the board that a word is, if it is one.
+fn placed_name(word: &[u8]) -> Option<&'static [u8]>
+    ensures { option_map (λ name. name.now) result ≡ placed_name word.now }
+{
+    match key_at(word) {
+        Some(code) => name_of(code),
+        None => None,
+    }
+}
+
+/// Returns a name as a list, or an empty list.
+fn placed_names(alloc: Global, name: Option<&[u8]>) -> Result<Seq<Text>, Memory>
+    ensures { IfOk result (λ names. names ≡ placed_names (option_map (λ text. text.now) name.entry)) }
+{
+    let mut names = Seq::new(alloc);
+    if let Some(name) = name {
+        names.add(Seq::from_slice(alloc, name)?)?;
+    }
     Ok(names)
 }
 

@@ -5,11 +5,11 @@ ghost use Rattle.kmn_base.specs.declared.limits.TheConstants.{TEXT_BYTES};
 ghost use Rattle.kmn_items.specs.TokenTexts.{texts, with_texts};
 ghost use Rattle.kmn_lines.specs.Lines.{logicals};
 ghost use Rattle.kmn_lines.specs.Places.{IsPlaced};
-ghost use Rattle.refusal_details.specs.Words.{is_general, is_wrong, kept_word, line_text, source_text, stop_text, text_among, tokens_text, worded, wrong_text};
+ghost use Rattle.refusal_details.specs.Words.{is_general, is_wrong, kept_word, line_text, source_text, statement_text, stop_text, text_among, tokens_text, worded, wrong_text};
 
 use crate::detail::Detail;
 use crate::faulty::fault_text;
-use crate::left_out::{called, left_out};
+use crate::left_out::{called, left_out, statement_left_out};
 use kmn_base::names::same_name;
 use kmn_base::{Code, CompileError, Memory, Seq, Text};
 use kmn_items::LineTokens;
@@ -23,6 +23,8 @@ use std::alloc::Global;
 pub(crate) enum WrongToken {
     /// The one at which reading the line stops.
     Stop,
+    /// The word of a statement that only the language of Keyman Developer has, else the one at which reading the line stops.
+    Statement,
     /// The name of a `call`.
     CallName,
     /// The one that is not supported.
@@ -118,8 +120,29 @@ fn tokens_text(
 {
     match wrong {
         WrongToken::Stop => stop_text(alloc, source, line, code, tokens),
+        WrongToken::Statement => statement_text(alloc, source, line, code, tokens),
         WrongToken::CallName => Seq::from_slice(alloc, called(LineTokens { source, tokens })),
         WrongToken::LeftOut => Seq::from_slice(alloc, left_out(LineTokens { source, tokens })),
+    }
+}
+
+/// Returns the word of a statement that only the language of Keyman Developer has, or the text of the token at which reading the line stops.
+#[tactic(auto, unfolding(crate::specs::Words::statement_text))]
+fn statement_text(
+    alloc: Global,
+    source: &[u8],
+    line: u32,
+    code: Code,
+    tokens: &[Token],
+) -> Result<Text, Memory>
+    requires { length tokens.now < 2 ^ 59 }
+    ensures { IfOk result (λ text. text ≡ statement_text line code (with_texts source.now tokens.now)) }
+{
+    let word = statement_left_out(LineTokens { source, tokens });
+    if word.is_empty() {
+        stop_text(alloc, source, line, code, tokens)
+    } else {
+        Seq::from_slice(alloc, word)
     }
 }
 

@@ -1,5 +1,5 @@
 -- The names that the statements of a program use.
-use Rattle.std.specs.Prelude.{ℕ, nat_eq, if◌then◌else◌, List, [], ◌∷◌, ◌++◌, map, flat_map, slice_get, option_to_list, Option, Some, None}
+use Rattle.std.specs.Prelude.{ℕ, nat_eq, ◌==◌, if◌then◌else◌, List, [], ◌∷◌, ◌++◌, length, map, flat_map, slice_get, option_to_list, Option, Some, None}
 use Rattle.rule_model.specs.declared.program.SrcItem.{SrcItem}
 use Rattle.rule_model.specs.declared.program.SrcItem.TheVariants as source
 use Rattle.rule_model.specs.declared.program.StoreDef.{StoreDef}
@@ -55,6 +55,14 @@ abbrev pub saved_option : SrcItem → Option (List ℕ)
 saved_option (source.Save store) = Some store
 saved_option item = None
 
+-- a name, unless it is empty, and the name of a custom key
+abbrev pub filled : List ℕ → Option (List ℕ)
+filled name = if length name == 0 then None else Some name
+
+abbrev pub own_key_named : SrcItem → Option (List ℕ)
+own_key_named (source.Key key) = filled key.name
+own_key_named item = None
+
 -- the name that an item uses in a role
 abbrev pub named_as : Role → SrcItem → Option (List ℕ)
 named_as role.Store item = slice_get (store_named item) 0
@@ -68,6 +76,7 @@ named_as role.Set item = set_option item
 named_as role.Saved item = saved_option item
 named_as role.Mark item = slice_get (mark_names item) 0
 named_as role.Group item = slice_get (group_named item) 0
+named_as role.OwnKey item = own_key_named item
 
 -- the use of a name at a line, if there is a name
 abbrev pub used : ℕ → Option (List ℕ) → List Use

@@ -6,7 +6,7 @@ ghost use Rattle.rule_model.specs.Naming.{mark_names};
 ghost use Rattle.rule_model.specs.Src.{pattern_uses};
 ghost use Rattle.store_table.specs.Known.{option_named};
 ghost use Rattle.store_table.specs.Names.{group_named, store_named};
-ghost use Rattle.source_uses.specs.Uses.{elements_used, index_named, matched_store, named_as, saved_option, set_option, store_read};
+ghost use Rattle.source_uses.specs.Uses.{elements_used, filled, index_named, matched_store, named_as, own_key_named, saved_option, set_option, store_read};
 
 use kmn_base::{Memory, Text};
 use rule_model::SrcItem;
@@ -44,6 +44,8 @@ pub enum Role {
     Mark,
     /// A group that `use` enters.
     Group,
+    /// A custom key.
+    OwnKey,
 }
 
 /// A part of a rule, match or nomatch statement.
@@ -85,6 +87,7 @@ pub fn named_as(role: Role, item: &SrcItem) -> Option<&Text>
         Role::Saved => saved_option(item),
         Role::Mark => mark_named(item),
         Role::Group => group_named(item),
+        Role::OwnKey => own_key_named(item),
     }
 }
 
@@ -218,4 +221,21 @@ fn group_named(item: &SrcItem) -> Option<&Text>
         SrcItem::Enter(name) => Some(name),
         _ => None,
     }
+}
+
+/// Returns the name of the custom key that an item is.
+fn own_key_named(item: &SrcItem) -> Option<&Text>
+    ensures { option_copied result ≡ own_key_named item.now }
+{
+    match item {
+        SrcItem::Key(key) => filled(&key.name),
+        _ => None,
+    }
+}
+
+/// Returns a name, unless it is empty.
+fn filled(name: &Text) -> Option<&Text>
+    ensures { option_copied result ≡ filled name.now }
+{
+    if name.is_empty() { None } else { Some(name) }
 }

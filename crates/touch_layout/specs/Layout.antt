@@ -1,5 +1,5 @@
 -- The rules of a touch layout, and the first of them that bytes break.
-use Rattle.std.specs.Prelude.{ℕ, ◌&&◌, not, nat_eq, nat_lt, Bool, if◌then◌else◌, List, [], ◌∷◌, ◌++◌, length, bytes_eq, Option, Some, None, option_map, Result, Ok, Err}
+use Rattle.std.specs.Prelude.{ℕ, ◌&&◌, not, nat_eq, nat_lt, Bool, if◌then◌else◌, List, [], ◌∷◌, ◌++◌, length, map, bytes_eq, Option, Some, None, option_map, Result, Ok, Err}
 use Rattle.std.specs.Option.{option_or}
 use Rattle.std.specs.Str.{is_utf8}
 use Rattle.std.specs.List.{list_any}
@@ -99,6 +99,17 @@ layout_fault bytes tables = rules_fault (has_record (tab tables).dictionary tabl
 abbrev pub count_of : Result Layout LayoutFault → ℕ
 count_of (Err fault) = 0
 count_of (Ok layout) = length layout.keys
+
+-- the ids of keys, and the ids of all keys in the bytes of a layout, including subkeys
+abbrev pub id_of : Key → List ℕ
+id_of key = key.id
+
+abbrev pub ids_of : Result Layout LayoutFault → List (List ℕ)
+ids_of (Err fault) = []
+ids_of (Ok layout) = map id_of layout.keys
+
+abbrev pub layout_ids : List ℕ → List (List ℕ)
+layout_ids bytes = ids_of (layout_in bytes)
 
 -- the number of keys in the bytes of a layout, including subkeys
 abbrev pub key_count : List ℕ → ℕ

@@ -63,7 +63,7 @@ pub fn check_layout(alloc: Global, bytes: &[u8], tables: &Tables) -> Result<u32,
 }
 
 /// Returns the JSON value of bytes, or `None` if they are not JSON in UTF-8.
-fn read_value(alloc: Global, bytes: &[u8]) -> Result<Option<Value>, Memory>
+pub(crate) fn read_value(alloc: Global, bytes: &[u8]) -> Result<Option<Value>, Memory>
     ensures { IfOk result (λ value. option_map view value ≡ value_of bytes.now) }
 {
     let Ok(text) = str::from_utf8(bytes) else {

@@ -3,7 +3,7 @@ use Rattle.rule_model.specs.Src.{src}
 use Rattle.keyman_run.specs.Orders.{script_work}
 use Rattle.keyman_run.specs.Steps.{itself}
 use Rattle.keyman_run.proofs.RunLaws.{gives_as}
-use Rattle.check_run.proofs.Inputs.{script_found}
+use Rattle.check_run.proofs.FoundInputs.{script_found}
 use Rattle.check_run.proofs.inputs.check_named_script.Goals as goal
 
 pub returns : goal.returns

@@ -1,6 +1,6 @@
-use Rattle.std.proofs.Common.{◌≡◌, IfOk, List, subst, arith}
+use Rattle.std.proofs.Common.{◌≡◌, ◌∙◌, IfOk, List, subst, arith}
 use Rattle.refusal_details.specs.declared.detail.Explained.{Explained}
-use Rattle.refusal_details.proofs.ExplainedBytes.{bytes_unexplained, text_is}
+use Rattle.refusal_details.proofs.ExplainedBytes.{bytes_unreadable, text_is}
 use Rattle.refusal_details.proofs.explaining.explained.Goals as goal
 
 pub returns-in-Ok : goal.returns-in-Ok
@@ -10,5 +10,6 @@ returns-in-Ok c =
 
 pub returns-in-Err : goal.returns-in-Err
 returns-in-Err c =
-    subst (λ (found : List Explained). IfOk c.all_unexplained-in-Err.result (λ list. list ≡ found))
-    (bytes_unexplained c.args.source.now c.args.refusals.now (omega (arith, c.if-source-gt-TEXT_BYTES.false)) c.in-Err.ensures.cases.0) c.all_unexplained-in-Err.ensures
+    subst (λ (found : List Explained). IfOk c.all_unreadable.result (λ list. list ≡ found))
+    (bytes_unreadable c.args.source.now c.valid_up_to.result c.args.refusals.now (omega (arith, c.if-source-gt-TEXT_BYTES.false)) c.in-Err.ensures.cases.0
+    (c.valid_up_to.ensures ∙ c.in-Err.ensures.valid_len)) c.all_unreadable.ensures
