@@ -68,13 +68,9 @@ near_text name = concat (codes ", perhaps " ∷ shown_text name ∷ [])
 unfoldable pub word_text : List ℕ → List (List ℕ) → List ℕ
 word_text word near = concat (codes ": " ∷ quoted_word word ∷ flat_map near_text near ∷ [])
 
--- a line by its number
-unfoldable pub one_line : ℕ → List ℕ
-one_line line = concat (codes "line " ∷ decimal line ∷ [])
-
 -- the line that defines a name first, and a name with this line
 unfoldable pub first_text : ℕ → List ℕ
-first_text line = codes ", already defined in " ++ one_line line
+first_text line = concat (codes ", already defined in line " ∷ decimal line ∷ [])
 
 unfoldable pub defined_text : List ℕ → ℕ → List ℕ
 defined_text name line = concat (codes ": " ∷ quoted_word name ∷ first_text line ∷ [])

@@ -4,7 +4,7 @@ use Rattle.std.specs.List.{concat}
 use Rattle.std.specs.Fmt.{decimal}
 use Rattle.name_warnings.specs.declared.warning.WarningKind.{WarningKind}
 use Rattle.name_warnings.specs.declared.warning.WarningKind.TheVariants as kind
-use Rattle.check_texts.specs.Details.{one_line, shown_text}
+use Rattle.check_texts.specs.Details.{shown_text}
 
 -- the code of a warning
 abbrev pub warning_code : WarningKind → List ℕ
@@ -75,6 +75,9 @@ unfoldable pub keys_before : ℕ → ℕ → List ℕ
 keys_before count keys = concat (decimal count ∷ codes " of " ∷ decimal keys ∷ codes " keys of '" ∷ [])
 
 -- the lines of rules: one line, or several with commas between them
+unfoldable pub one_line : ℕ → List ℕ
+one_line line = concat (codes "line " ∷ decimal line ∷ [])
+
 unfoldable pub several_lines : ℕ → List ℕ
 several_lines line = concat (codes "lines " ∷ decimal line ∷ [])
 

@@ -3,7 +3,6 @@
 ghost use Rattle.std.specs.Prelude.{◌≡◌, ◌++◌, flat_map, IfOk, OnOk};
 ghost use Rattle.check_texts.specs.Details.{begins_quote, defined_text, detail_text, first_text, near_text, quote_mark, quoted_word, word_text};
 
-use crate::line_lists::one_line;
 use crate::shown_words::put_shown;
 use kmn_base::bytes::is_quote;
 use kmn_base::{Memory, Text};
@@ -41,23 +40,16 @@ fn put_defined(alloc: Global, text: &mut Text, name: &[u8], line: u32) -> Result
 {
     text.extend_from_slice(b": ")?;
     put_quoted(text, name)?;
-    put_first(alloc, text, line)
+    text.append(first_text(alloc, line)?)
 }
 
-/// Appends the line that defines a name first.
+/// Returns the text about the line that defines a name first.
 #[tactic(auto, unfolding(crate::specs::Details::first_text))]
-fn put_first(alloc: Global, text: &mut Text, line: u32) -> Result<(), Memory>
-    ensures { OnOk result (text.new ≡ text.old ++ first_text line) }
+fn first_text(alloc: Global, line: u32) -> Result<Text, Memory>
+    ensures { IfOk result (λ text. text ≡ first_text line) }
 {
-    put_both(text, b", already defined in ", one_line(alloc, line)?)
-}
-
-/// Appends two texts.
-fn put_both(text: &mut Text, start: &[u8], end: Text) -> Result<(), Memory>
-    ensures { OnOk result (text.new ≡ text.old ++ (start.now ++ end)) }
-{
-    text.extend_from_slice(start)?;
-    text.append(end)
+    let text = format!(in alloc; ", already defined in line {line}")?;
+    Ok(Text::from_string(text))
 }
 
 /// Appends a word in quotes, unless it has quotes itself.

@@ -1,8 +1,7 @@
 //! The texts of W07, which has the lines of rules.
 
 ghost use Rattle.std.specs.Prelude.{◌≡◌, ◌++◌, flat_map, length, IfOk, OnOk};
-ghost use Rattle.check_texts.specs.Details.{one_line};
-ghost use Rattle.check_texts.specs.WarningTexts.{first_line, joined_text, listed_lines, next_line, several_lines, too_many_text};
+ghost use Rattle.check_texts.specs.WarningTexts.{first_line, joined_text, listed_lines, next_line, one_line, several_lines, too_many_text};
 
 use kmn_base::{Memory, Text};
 use name_warnings::WarningKind;
@@ -12,14 +11,7 @@ use std::alloc::Global;
 pub(crate) fn put_never_first(alloc: Global, text: &mut Text, lines: &[u32]) -> Result<(), Memory>
     ensures { OnOk result (text.new ≡ text.old ++ joined_text (WarningKind.NeverFirst lines.now)) }
 {
-    put_behind(alloc, text, b"this rule never comes first, behind ", lines)
-}
-
-/// Appends a text and lines with commas between them.
-fn put_behind(alloc: Global, text: &mut Text, start: &[u8], lines: &[u32]) -> Result<(), Memory>
-    ensures { OnOk result (text.new ≡ text.old ++ (start.now ++ listed_lines lines.now)) }
-{
-    text.extend_from_slice(start)?;
+    text.extend_from_slice(b"this rule never comes first, behind ")?;
     put_listed(alloc, text, lines)
 }
 
@@ -65,8 +57,8 @@ fn first_line(alloc: Global, more: usize, line: u32) -> Result<Text, Memory>
 }
 
 /// Returns a line that is the only one.
-#[tactic(auto, unfolding(crate::specs::Details::one_line))]
-pub(crate) fn one_line(alloc: Global, line: u32) -> Result<Text, Memory>
+#[tactic(auto, unfolding(crate::specs::WarningTexts::one_line))]
+fn one_line(alloc: Global, line: u32) -> Result<Text, Memory>
     ensures { IfOk result (λ text. text ≡ one_line line) }
 {
     let text = format!(in alloc; "line {line}")?;
