@@ -1,0 +1,3 @@
+pub mod Caught
+pub mod Marks
+pub mod Windows
