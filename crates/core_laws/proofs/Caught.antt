@@ -366,7 +366,7 @@ module _ (facts : Facts) (whole : List Pat) where
 
       place : suc before - count_by is_unmatched (take (suc before) (p ∷ ps)) ≡ suc (before - count_by is_unmatched (take before ps))
       place = omega (arith, count, rest.few)
-  item_behind p ps c catches before caught rest false matched (Some x) is = absurd (false_true (sym (ap is_some is ∙ refl) ∙ caught.kind ∙ matched ∙ refl))
+  item_behind p ps c catches before caught rest false matched (Some x) is = absurd (false_true (sym (sym (ap is_some is) ∙ caught.kind ∙ matched)))
   item_behind p ps c catches before caught rest false matched None is =
       record {
         item = rest.item;
