@@ -103,7 +103,7 @@ compared_up_to (p ∷ others) ps (suc before) some none =
     by_test true e = refl
     by_test false e = absurd (one_none e)
       where
-        one_none : 1 ≡ 0 → ⊥
+        one_none : ◌≡◌ {A = ℕ} 1 0 → ⊥
         one_none e = omega arith
 
     matched : is_matched p ≡ true
@@ -155,8 +155,11 @@ module _ (whole : List Pat) (points : (place : ℕ) (d : Pat) → place < length
 -- both tests of an empty word agree where the second finds none
 same_blanks : (value : List Element) → told.has_empty_word value ≡ false → has_empty_word value ≡ false
 same_blanks [] none = absurd (true_false none)
-same_blanks (v ∷ vs) none = λ i. (false || parts.0 i) || last_space (slice_get (v ∷ vs) (length (v ∷ vs) - 1)) parts.1 i
+same_blanks (v ∷ vs) none = λ i. some i || parts.0 i || last_space (slice_get (v ∷ vs) (length (v ∷ vs) - 1)) parts.1 i
   where
+    some : nat_eq (length (v ∷ vs)) 0 ≡ false
+    some = grind (arith, nat_tests)
+
     parts : (is_space v ≡ false) × (told.is_blank (slice_get (v ∷ vs) (length (v ∷ vs) - 1)) ≡ false)
     parts = or_parts (is_space v) (told.is_blank (slice_get (v ∷ vs) (length (v ∷ vs) - 1))) none
 

@@ -1,5 +1,6 @@
 pub mod Caught
 pub mod Compared
 pub mod Contexts
+pub mod Holds
 pub mod Marks
 pub mod Windows
