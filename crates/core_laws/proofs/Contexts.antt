@@ -99,7 +99,7 @@ compared_up_to (p ∷ others) ps (suc before) some none =
     none_behind : count_by is_unmatched (take before (others ++ ps)) ≡ 0
     none_behind = omega (arith, count, none)
 
-    by_test : (b : Bool) → cond (not b) 1 0 ≡ 0 → b ≡ true
+    by_test : (b : Bool) → ◌≡◌ {A = ℕ} (cond (not b) 1 0) 0 → b ≡ true
     by_test true e = refl
     by_test false e = absurd (one_none e)
       where

@@ -1,15 +1,15 @@
 -- A context of which nothing is told holds in Keyman's own engine if and only if it does in this product, and catches the same items.
-use Rattle.std.specs.Prelude.{◌≡◌, ℕ, zero, suc, ◌+◌, ◌-◌, ◌<◌, ◌≤◌, min, Bool, true, false, not, ◌&&◌, ◌||◌, nat_eq, nat_le, nat_lt, if◌then◌else◌, List, [], ◌∷◌, ◌++◌, length, map, take, drop, flat_map, count_by, sum_by, slice_get, is_some, Option, Some, None}
-use Rattle.std.specs.List.{All, list_all, list_any}
-use Rattle.std.proofs.Common.{refl, sym, ap, ◌∙◌, arith, inl, inr, length-append, length-drop, append_assoc, get_or}
+use Rattle.std.specs.Prelude.{◌≡◌, ℕ, zero, suc, ◌+◌, ◌-◌, ◌<◌, ◌≤◌, min, Bool, true, false, not, ◌&&◌, ◌||◌, nat_eq, nat_le, nat_lt, cond, if◌then◌else◌, List, [], ◌∷◌, ◌++◌, length, map, take, drop, flat_map, count_by, sum_by, slice_get, is_some, Option, Some, None}
+use Rattle.std.specs.List.{All, cons_option, list_all, list_any}
+use Rattle.std.proofs.Common.{◌⊎◌, refl, sym, ap, ◌∙◌, arith, inl, inr, length-append, length-drop, append_assoc}
 use Rattle.std.proofs.Math.Path.{subst}
 use Rattle.std.proofs.Math.Seq.{drop-append-add}
 use Rattle.std.proofs.lemmas.Bool.{or_parts, and_parts}
 use Rattle.std.proofs.lemmas.Bool.Decides.{leb_tells, nat_tests}
 use Rattle.std.proofs.lemmas.List.{take-append-drop}
-use Rattle.std.proofs.lemmas.List.Elements.{All-drop}
+use Rattle.std.proofs.lemmas.List.Elements.{All-drop, All-head, All-tail}
 use Rattle.std.proofs.lemmas.List.Sums.{sum_by-cons}
-use Rattle.std.proofs.lemmas.Option.{none-some, get_or_from_slice_get}
+use Rattle.std.proofs.lemmas.Option.{none-some}
 use Rattle.kmn_base.specs.declared.items.Item.{Item}
 use Rattle.kmn_base.specs.Lists.{is_mark}
 use Rattle.rule_model.specs.declared.event_state.Catch.{Catch}
@@ -19,6 +19,7 @@ use Rattle.rule_model.specs.declared.tables.Out.{Out}
 use Rattle.rule_model.specs.declared.tables.Store.{Store}
 use Rattle.rule_model.specs.Keyboard.{Platform}
 use Rattle.rule_model.specs.Match.{Content, place_caught, catches_from, nothing_caught}
+use Rattle.rule_model.specs.Act.{item_list}
 use Rattle.rule_model.specs.Hold.{is_true, is_at_start, pattern_count, has_room}
 use Rattle.rule_model.specs.Patterns.{is_matched, is_nul}
 use Rattle.rule_model.specs.Tab.{tab_pattern}
@@ -35,8 +36,8 @@ use Rattle.core_constructs.specs.Widths.{is_long, widest, width_in, with_context
 use Rattle.core_laws.proofs.Caught.{AreCaught, HasWidths, all_caught, at_least_two, items_in, units_most, caught_count, item_at}
 use Rattle.core_laws.proofs.Compared.{HasNul, Without, First, nul_of, counted, all_compared, compared_matched, text_caught, plain_matches, unput_fails}
 use Rattle.core_laws.proofs.Contexts.{HasValues, all_alike, all_tried, counts_alike}
-use Rattle.core_laws.proofs.Marks.{IsUnmarked, Unmarked, light}
-use Rattle.core_laws.proofs.Windows.{Seen, units_of_both}
+use Rattle.core_laws.proofs.Marks.{Unmarked, light, unmarked_at}
+use Rattle.core_laws.proofs.Windows.{Seen, HasLast, last_of}
 
 true_false : true ≡ false → ⊥
 true_false e = grind arith
@@ -115,11 +116,11 @@ some_matched [] n less = absurd (none_less n less)
   where
     none_less : (n : ℕ) → n < 0 → ⊥
     none_less n h = omega arith
-some_matched (p ∷ ps) n less = by_test (is_matched p) refl
+some_matched (p ∷ ps) n less = by_test (is_matched p) refl (some_matched ps n)
   where
-    by_test : (b : Bool) → is_matched p ≡ b → (b || list_any is_matched ps) ≡ true
-    by_test true is = refl
-    by_test false is = some_matched ps n (omega (arith, less, sum_by-cons (λ (q : Pat). if is_matched q then 1 else 0) p ps ∙ ap (λ (b : Bool). (if b then 1 else 0) + count_by is_matched ps) is))
+    by_test : (b : Bool) → is_matched p ≡ b → (n < count_by is_matched ps → list_any is_matched ps ≡ true) → (b || list_any is_matched ps) ≡ true
+    by_test true is rest = refl
+    by_test false is rest = rest (omega (arith, less, sum_by-cons (λ (q : Pat). cond (is_matched q) 1 0) p ps ∙ ap (λ (b : Bool). cond b 1 0 + count_by is_matched ps) is))
 
 -- ---- the width of a context
 
@@ -248,3 +249,267 @@ module _ (kb : CoreKeyboard) (facts : Facts) (stores : List Store) (count : ℕ)
         by_test : (b : Bool) → nat_le (compared_count context) (length window) ≡ b → HeldAlike facts window context (caught_of content (map (tab_pattern stores) context) left) (core_holds kb content window context)
         by_test true told = enough (fits_of (compared_count context) (length window) told) (caught_of content (map (tab_pattern stores) context) left) refl
         by_test false told = few (grind (arith, leb_tells)) (caught_of content (map (tab_pattern stores) context) left) refl
+
+-- ---- with `nul` first
+
+same_conditions : (kb : CoreKeyboard) (content : Content) (stores : List Store) (ps : List Pat) → AreTriedAlike content stores ps → list_all (core_condition kb content) ps ≡ list_all (is_true content) (map (tab_pattern stores) ps)
+same_conditions kb content stores [] alike = refl
+same_conditions kb content stores (p ∷ ps) alike = λ i. conditions_are_alike kb content stores p alike.0 i && same_conditions kb content stores ps alike.1 i
+
+no_items : (xs : List Item) → length xs ≡ 0 → xs ≡ []
+no_items [] none = refl
+no_items (x ∷ xs) none = absurd (omega (arith, none))
+
+module _ (kb : CoreKeyboard) (facts : Facts) (stores : List Store) (count : ℕ) (content : Content) (widths : HasWidths facts content)
+  (values : HasValues facts.options count stores content) (unset : content Platform ≡ stated_platform)
+  (spent : ℕ) (items : List Out) (rest : List Pat) (fair : IsFairContext facts stores count spent items (pattern.Nul ∷ rest))
+  (left window : List Item) (plain : Unmarked left) (seen : Seen spent left window) (none : list_any is_nul rest ≡ false) where
+
+  abbrev context : List Pat
+  context = pattern.Nul ∷ rest
+
+  abbrev all_count : ℕ
+  all_count = pattern_count (map (tab_pattern stores) context)
+
+  abbrev conditions : Bool
+  conditions = list_all (is_true content) (map (tab_pattern stores) rest)
+
+  count_is : all_count ≡ count_by is_matched rest
+  count_is = counted stores context ∙ sum_by-cons (λ (q : Pat). cond (is_matched q) 1 0) pattern.Nul rest ∙ omega arith
+
+  compared_count_is : compared_count context ≡ count_by is_matched rest
+  compared_count_is = all_compared rest none
+
+  no_offsets : list_any has_offset rest ≡ false
+  no_offsets = (or_parts (list_any has_offset rest) (list_any puts_by_offset items) (counts_alike context items fair.offsets).first).0
+
+  same_tests : list_all (core_condition kb content) context ≡ conditions
+  same_tests = same_conditions kb content stores context (all_tried facts.options count stores content values unset context fair.value fair.layer fair.platform fair.writable.systems fair.writable.stores)
+
+  abbrev there : Bool → Tried
+  there test = if test then core_match content rest (first_places kb.version context) [] (last_items (compared_count context) window) else (false, [])
+
+  abbrev test_there : Bool
+  test_there = (nat_le (compared_count context) (length window) && nat_le (length window) (compared_count context)) && list_all (core_condition kb content) context
+
+  window_inside : length window ≤ length left
+  window_inside = omega (arith, ap length seen.parts, length-append seen.before window)
+
+  -- the window is the whole text, if it has as many items
+  whole_window : length left ≤ length window → left ≡ window
+  whole_window more = seen.parts ∙ ap (λ (xs : List Item). xs ++ window) (no_items seen.before (omega (arith, more, ap length seen.parts, length-append seen.before window)))
+
+  same_window : length window ≡ compared_count context → last_items (compared_count context) window ≡ window
+  same_window same = ap (λ (n : ℕ). drop n window) (zero_of (length window) (compared_count context) same)
+    where
+      zero_of : (n m : ℕ) → n ≡ m → n - m ≡ 0
+      zero_of n m e = omega arith
+
+  -- what a window of that length catches
+  matches_there : length window ≡ compared_count context → is_some (catches_from content (nothing_caught ∷ []) (map (tab_pattern stores) rest) window) ≡ (core_match content rest (first_places kb.version context) [] (last_items (compared_count context) window)).0
+  matches_there same =
+      plain_matches content stores rest none no_offsets window (same ∙ compared_count_is) (nothing_caught ∷ []) (first_places kb.version context) []
+      ∙ ap (λ (xs : List Item). (core_match content rest (first_places kb.version context) [] xs).0) (sym (same_window same))
+
+  width_left : spent + sum_by (width_in facts context) context ≤ 61
+  width_left = fits_start facts spent context fair.short refl
+
+  -- here it holds, so it does there
+  some_first : (catches : List Catch) → caught_of content (map (tab_pattern stores) context) left ≡ Some catches → CatchesAlike facts window context catches (core_holds kb content window context)
+  some_first catches is =
+      record {
+        held = ap (λ (b : Bool). (there b).0) test ∙ sym (matches_there same) ∙ ap is_some caught_window;
+        caught = caught_here kb facts stores count content widths values unset spent items context fair left window plain seen catches parts.1;
+        kept =
+            items_here kb facts stores count content widths values unset spent items context fair left window plain seen catches parts.1
+            ∙ end_is ∙ whole ∙ sym (same_window same);
+        inside = omega (arith, same);
+        places = λ e. absurd (true_false e);
+      }
+    where
+      parts : (conditions && nat_eq (length left) all_count ≡ true) × (catches_from content [] (map (tab_pattern stores) context) (drop (length left - all_count) left) ≡ Some catches)
+      parts = tested (conditions && nat_eq (length left) all_count) (catches_from content [] (map (tab_pattern stores) context) (drop (length left - all_count) left)) catches is
+
+      tests : (conditions ≡ true) × (nat_eq (length left) all_count ≡ true)
+      tests = and_parts conditions (nat_eq (length left) all_count) parts.0
+
+      size : length left ≡ all_count
+      size = equal (length left) all_count tests.1
+        where
+          equal : (n m : ℕ) → nat_eq n m ≡ true → n ≡ m
+          equal n m e = grind (arith, nat_tests)
+
+      end_is : drop (length left - all_count) left ≡ left
+      end_is = ap (λ (n : ℕ). drop n left) (zero_of (length left) all_count size)
+        where
+          zero_of : (n m : ℕ) → n ≡ m → n - m ≡ 0
+          zero_of n m e = omega arith
+
+      long : length (drop (length left - all_count) left) ≤ length window
+      long = reaches_end kb facts stores count content widths values unset spent items context fair left window plain seen catches parts.1 (omega (arith, width_left))
+
+      whole : left ≡ window
+      whole = whole_window (omega (arith, long, ap length end_is))
+
+      same : length window ≡ compared_count context
+      same = omega (arith, ap length whole, size, count_is, compared_count_is)
+
+      caught_window : catches_from content (nothing_caught ∷ []) (map (tab_pattern stores) rest) window ≡ Some catches
+      caught_window = ap (catches_from content (nothing_caught ∷ []) (map (tab_pattern stores) rest)) (sym (end_is ∙ whole)) ∙ parts.1
+
+      test : test_there ≡ true
+      test = λ i. (same_length (compared_count context) (length window) (sym same) i && same_length (length window) (compared_count context) same i) && (same_tests ∙ tests.0) i
+        where
+          same_length : (n m : ℕ) → n ≡ m → nat_le n m ≡ true
+          same_length n m e = grind (arith, leb_tells)
+
+  -- there it holds, so it does here
+  none_first : caught_of content (map (tab_pattern stores) context) left ≡ None → (core_holds kb content window context).0 ≡ false
+  none_first is = by_test test_there refl
+    where
+      by_test : (b : Bool) → test_there ≡ b → (there b).0 ≡ false
+      by_test false told = refl
+      by_test true told = by_match (catches_from content (nothing_caught ∷ []) (map (tab_pattern stores) rest) window) refl
+        where
+          tests : ((nat_le (compared_count context) (length window) && nat_le (length window) (compared_count context)) ≡ true) × (list_all (core_condition kb content) context ≡ true)
+          tests = and_parts (nat_le (compared_count context) (length window) && nat_le (length window) (compared_count context)) (list_all (core_condition kb content) context) told
+
+          sizes : (nat_le (compared_count context) (length window) ≡ true) × (nat_le (length window) (compared_count context) ≡ true)
+          sizes = and_parts (nat_le (compared_count context) (length window)) (nat_le (length window) (compared_count context)) tests.0
+
+          same : length window ≡ compared_count context
+          same = omega (arith, fits_of (compared_count context) (length window) sizes.0, fits_of (length window) (compared_count context) sizes.1)
+
+          by_match : (o : Option (List Catch)) → catches_from content (nothing_caught ∷ []) (map (tab_pattern stores) rest) window ≡ o → (core_match content rest (first_places kb.version context) [] (last_items (compared_count context) window)).0 ≡ false
+          by_match None caught = sym (matches_there same) ∙ ap is_some caught
+          by_match (Some catches) caught = by_last (last_of seen.before)
+            where
+              caught_all : catches_from content [] (map (tab_pattern stores) context) window ≡ Some catches
+              caught_all = caught
+
+              window_plain : Unmarked window
+              window_plain = subst Unmarked (ap (λ (xs : List Item). drop (length seen.before) xs) seen.parts ∙ behind seen.before window) (All-drop (λ item. is_mark item ≡ false) (length seen.before) left plain)
+                where
+                  behind : (xs ys : List Item) → drop (length xs) (xs ++ ys) ≡ ys
+                  behind [] ys = refl
+                  behind (x ∷ xs) ys = behind xs ys
+
+              widest_window : units window ≤ sum_by (width_in facts context) context
+              widest_window =
+                  subst (λ (xs : List Item). units xs ≤ sum_by (width_in facts context) context) (text_caught content (map (tab_pattern stores) context) [] window catches caught_all)
+                  (units_most facts context context catches (all_caught facts content stores context widths [] context [] window catches refl tt window_plain caught_all))
+
+              by_last : (seen.before ≡ []) ⊎ HasLast seen.before → (core_match content rest (first_places kb.version context) [] (last_items (compared_count context) window)).0 ≡ false
+              by_last (inl nothing) = absurd (none-some catches (sym is ∙ found))
+                where
+                  whole : left ≡ window
+                  whole = seen.parts ∙ ap (λ (xs : List Item). xs ++ window) nothing
+
+                  size : length left ≡ all_count
+                  size = omega (arith, ap length whole, same, count_is, compared_count_is)
+
+                  zero_of : (n m : ℕ) → n ≡ m → n - m ≡ 0
+                  zero_of n m e = omega arith
+
+                  equal : (n m : ℕ) → n ≡ m → nat_eq n m ≡ true
+                  equal n m e = grind (arith, nat_tests)
+
+                  found : caught_of content (map (tab_pattern stores) context) left ≡ Some catches
+                  found =
+                      (λ i. if (sym same_tests ∙ tests.1) i && equal (length left) all_count size i then catches_from content [] (map (tab_pattern stores) context) (drop (zero_of (length left) all_count size i) left) else None)
+                      ∙ ap (catches_from content [] (map (tab_pattern stores) context)) whole
+                      ∙ caught_all
+              by_last (inr some) = absurd (too_long (seen.reaches some.front (some.last ∷ window) split few))
+                where
+                  split : left ≡ some.front ++ (some.last ∷ window)
+                  split = seen.parts ∙ ap (λ (xs : List Item). xs ++ window) some.parts ∙ append_assoc some.front (some.last ∷ []) window
+
+                  few : units (some.last ∷ window) + spent ≤ 63
+                  few = omega (arith, light some.last (unmarked_at some.front some.last window (subst Unmarked split plain)), widest_window, width_left)
+
+                  too_long : length (some.last ∷ window) ≤ length window → ⊥
+                  too_long h = omega (arith, h)
+
+  held_first : (o : Option (List Catch)) → caught_of content (map (tab_pattern stores) context) left ≡ o → HeldAlike facts window context o (core_holds kb content window context)
+  held_first None is = none_first is
+  held_first (Some catches) is = some_first catches is
+
+-- ---- with a mark that no output puts
+
+unput_caught : (facts : Facts) (whole ps : List Pat) (catches : List Catch) → AreCaught facts whole ps catches → Unmarked (items_in catches) → list_any (asks_unput []) ps ≡ true → ⊥
+unput_caught facts whole [] catches all plain some = false_true some
+unput_caught facts whole (p ∷ ps) [] all plain some = absurd all
+unput_caught facts whole (pattern.Mark m ∷ ps) (c ∷ catches) all plain some = by_item c.item refl all.0.least
+  where
+    by_item : (o : Option Item) → c.item ≡ o → 3 ≤ units (item_list o) → ⊥
+    by_item None is least = omega (arith, least)
+    by_item (Some x) is least = omega (arith, least, light x (All-head (λ item. is_mark item ≡ false) x (items_in catches) (subst (λ (o : Option Item). Unmarked (cons_option o (items_in catches))) is plain)))
+unput_caught facts whole (p ∷ ps) (c ∷ catches) all plain some = unput_caught facts whole ps catches all.1 (plain_behind c.item plain) some
+  where
+    plain_behind : (o : Option Item) → Unmarked (cons_option o (items_in catches)) → Unmarked (items_in catches)
+    plain_behind None plain = plain
+    plain_behind (Some x) plain = All-tail (λ item. is_mark item ≡ false) x (items_in catches) plain
+
+unput_behind : (ps : List Pat) → list_any (asks_unput []) ps ≡ true → list_any (asks_unput []) (behind_nul ps) ≡ true
+unput_behind [] some = some
+unput_behind (pattern.Nul ∷ ps) some = some
+unput_behind (p ∷ ps) some = some
+
+module _ (kb : CoreKeyboard) (facts : Facts) (stores : List Store) (content : Content) (widths : HasWidths facts content) (context : List Pat) (some : list_any (asks_unput []) context ≡ true)
+  (spent : ℕ) (left window : List Item) (plain : Unmarked left) (seen : Seen spent left window) where
+
+  window_unmarked : Unmarked window
+  window_unmarked = subst Unmarked (ap (λ (xs : List Item). drop (length seen.before) xs) seen.parts ∙ behind seen.before window) (All-drop (λ item. is_mark item ≡ false) (length seen.before) left plain)
+    where
+      behind : (xs ys : List Item) → drop (length xs) (xs ++ ys) ≡ ys
+      behind [] ys = refl
+      behind (x ∷ xs) ys = behind xs ys
+
+  unput_there : (test : Bool) → (if test then core_match content (behind_nul context) (first_places kb.version context) [] (last_items (compared_count context) window) else (false, [])).0 ≡ false
+  unput_there false = refl
+  unput_there true =
+      unput_fails content (behind_nul context) (unput_behind context some) (last_items (compared_count context) window)
+      (All-drop (λ item. is_mark item ≡ false) (length window - compared_count context) window window_unmarked) (first_places kb.version context) []
+
+  held_unput : (o : Option (List Catch)) → caught_of content (map (tab_pattern stores) context) left ≡ o → HeldAlike facts window context o (core_holds kb content window context)
+  held_unput None is = unput_there (has_items context window && list_all (core_condition kb content) context)
+  held_unput (Some catches) is = absurd (unput_caught facts context context catches caught plain_items some)
+    where
+      text : List Item
+      text = drop (length left - pattern_count (map (tab_pattern stores) context)) left
+
+      plain_text : Unmarked text
+      plain_text = All-drop (λ item. is_mark item ≡ false) (length left - pattern_count (map (tab_pattern stores) context)) left plain
+
+      parts : (list_all (is_true content) (map (tab_pattern stores) context) && has_room (map (tab_pattern stores) context) left ≡ true) × (catches_from content [] (map (tab_pattern stores) context) text ≡ Some catches)
+      parts = tested (list_all (is_true content) (map (tab_pattern stores) context) && has_room (map (tab_pattern stores) context) left) (catches_from content [] (map (tab_pattern stores) context) text) catches is
+
+      caught : AreCaught facts context context catches
+      caught = all_caught facts content stores context widths [] context [] text catches refl tt plain_text parts.1
+
+      plain_items : Unmarked (items_in catches)
+      plain_items = subst Unmarked (sym (text_caught content (map (tab_pattern stores) context) [] text catches parts.1)) plain_text
+
+-- ---- each context
+
+-- a context of a record that can match is fair
+abbrev pub IsFairIfMatched : Facts → List Store → (count spent : ℕ) → List Out → List Pat → Type 0
+IsFairIfMatched facts stores count spent items context = list_any (asks_unput facts.marks) context ≡ false → IsFairContext facts stores count spent items context
+
+module _ (kb : CoreKeyboard) (facts : Facts) (marks : facts.marks ≡ []) (stores : List Store) (count : ℕ) (content : Content) (widths : HasWidths facts content)
+  (values : HasValues facts.options count stores content) (unset : content Platform ≡ stated_platform)
+  (spent : ℕ) (items : List Out) (left window : List Item) (plain : Unmarked left) (seen : Seen spent left window) where
+
+  by_nul : (context : List Pat) → HasNul context → IsFairContext facts stores count spent items context → HeldAlike facts window context (caught_of content (map (tab_pattern stores) context) left) (core_holds kb content window context)
+  by_nul context (Without none first) fair = held_without kb facts stores count content widths values unset spent items context fair left window plain seen none first
+  by_nul (pattern.Nul ∷ rest) (First none) fair =
+      held_first kb facts stores count content widths values unset spent items rest fair left window plain seen none (caught_of content (map (tab_pattern stores) (pattern.Nul ∷ rest)) left) refl
+
+  pub held_alike : (context : List Pat) → IsFairIfMatched facts stores count spent items context → HeldAlike facts window context (caught_of content (map (tab_pattern stores) context) left) (core_holds kb content window context)
+  held_alike context fair = by_test (list_any (asks_unput facts.marks) context) refl
+    where
+      by_test : (b : Bool) → list_any (asks_unput facts.marks) context ≡ b → HeldAlike facts window context (caught_of content (map (tab_pattern stores) context) left) (core_holds kb content window context)
+      by_test false told = by_nul context (nul_of context (fair told).late) (fair told)
+      by_test true told =
+          held_unput kb facts stores content widths context (ap (λ (ms : List ℕ). list_any (asks_unput ms) context) (sym marks) ∙ told) spent left window plain seen
+          (caught_of content (map (tab_pattern stores) context) left) refl

@@ -2,7 +2,7 @@
 use Rattle.std.specs.Prelude.{◌≡◌, ℕ, ◌-◌, ◌<◌, ◌≤◌, Bool, true, false, nat_lt, if◌then◌else◌, List, [], ◌∷◌, ◌++◌, length}
 use Rattle.std.specs.List.{All, suffix_len}
 use Rattle.std.proofs.Common.{ap, ◌∙◌, arith}
-use Rattle.std.proofs.lemmas.List.Elements.{All-push, All-take}
+use Rattle.std.proofs.lemmas.List.Elements.{All-head, All-push, All-tail, All-take}
 use Rattle.std.proofs.lemmas.List.Sums.{suffix_len_is}
 use Rattle.kmn_base.specs.declared.items.Item.{Item}
 use Rattle.kmn_base.specs.declared.items.Item.TheVariants.{Char, Mark}
@@ -56,3 +56,8 @@ weighty (Mark m) = omega arith
 pub some_weight : (x : Item) → 1 ≤ weight x
 some_weight (Char c) = elim (nat_lt c 0x1_0000) as (λ (b : Bool). 1 ≤ (if b then 1 else 2)) [ true ↦ omega arith | false ↦ omega arith ]
 some_weight (Mark m) = omega arith
+
+-- an item of such a list is none
+pub unmarked_at : (front : List Item) (x : Item) (rest : List Item) → Unmarked (front ++ x ∷ rest) → IsUnmarked x
+unmarked_at [] x rest all = All-head (λ item. is_mark item ≡ false) x rest all
+unmarked_at (y ∷ front) x rest all = unmarked_at front x rest (All-tail (λ item. is_mark item ≡ false) y (front ++ x ∷ rest) all)

@@ -19,12 +19,12 @@ units_of_both (x ∷ items) others = rw (units_of_both items others) (omega arit
 -- ---- ends of a list
 
 -- a list is empty, or has a last item
-record HasLast (xs : List Item) : Type 0 where
-  front : List Item
-  last : Item
-  parts : xs ≡ front ++ last ∷ []
+pub record HasLast (xs : List Item) : Type 0 where
+  pub front : List Item
+  pub last : Item
+  pub parts : xs ≡ front ++ last ∷ []
 
-last_of : (xs : List Item) → (xs ≡ []) ⊎ HasLast xs
+pub last_of : (xs : List Item) → (xs ≡ []) ⊎ HasLast xs
 last_of [] = inl refl
 last_of (x ∷ xs) = by_rest (last_of xs)
   where
