@@ -253,8 +253,8 @@ module _ (kb : CoreKeyboard) (facts : Facts) (stores : List Store) (count : ℕ)
 -- ---- with `nul` first
 
 same_conditions : (kb : CoreKeyboard) (content : Content) (stores : List Store) (ps : List Pat) → AreTriedAlike content stores ps → list_all (core_condition kb content) ps ≡ list_all (is_true content) (map (tab_pattern stores) ps)
-same_conditions kb content stores [] alike = refl
-same_conditions kb content stores (p ∷ ps) alike = λ i. conditions_are_alike kb content stores p alike.0 i && same_conditions kb content stores ps alike.1 i
+same_conditions kb content stores [] tried = refl
+same_conditions kb content stores (p ∷ ps) tried = λ i. conditions_are_alike kb content stores p tried.0 i && same_conditions kb content stores ps tried.1 i
 
 no_items : (xs : List Item) → length xs ≡ 0 → xs ≡ []
 no_items [] none = refl
