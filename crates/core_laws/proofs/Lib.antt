@@ -1,8 +1,10 @@
+pub mod Alike
 pub mod Caught
 pub mod Compared
 pub mod Contexts
 pub mod Holds
 pub mod Marks
 pub mod Rising
+pub mod Saves
 pub mod Values
 pub mod Windows

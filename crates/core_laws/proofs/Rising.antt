@@ -9,7 +9,7 @@ use Rattle.std.proofs.lemmas.Bool.Decides.{nat_tests}
 use Rattle.std.proofs.lemmas.Cmp.{ranked}
 use Rattle.kmn_base.specs.Rising.{is_among, rising}
 
-false_true : false ≡ true → ⊥
+pub false_true : false ≡ true → ⊥
 false_true e = grind arith
 
 pub equal_numbers : (n m : ℕ) → nat_eq n m ≡ true → n ≡ m
