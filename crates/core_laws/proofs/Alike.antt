@@ -1,12 +1,14 @@
 -- The state of an event in Keyman's own engine and in this product: what is equal in both, and what each state keeps.
-use Rattle.std.specs.Prelude.{◌≡◌, ℕ, ◌+◌, ◌-◌, ◌<◌, ◌≤◌, Bool, true, false, nat_eq, if◌then◌else◌, List, [], ◌∷◌, ◌++◌, flat_map, length, map, slice_get, slice_set, unwrap_or, Option, Some, None, ◌⊎◌}
+use Rattle.std.specs.Prelude.{◌≡◌, ℕ, zero, suc, ◌+◌, ◌-◌, ◌<◌, ◌≤◌, Bool, true, false, nat_eq, if◌then◌else◌, List, [], ◌∷◌, ◌++◌, flat_map, length, map, slice_get, slice_set, unwrap_or, Option, Some, None, ◌⊎◌}
 use Rattle.std.specs.List.{list_any}
 use Rattle.std.proofs.Common.{refl, sym, ap, ◌∙◌, arith, inl, inr}
 use Rattle.std.proofs.Math.Path.{subst}
 use Rattle.std.proofs.lemmas.Option.{none-some, same_Some}
 use Rattle.kmn_base.specs.declared.items.Item.{Item}
+use Rattle.kmn_base.specs.declared.items.Item.TheVariants as item
 use Rattle.kmn_base.specs.declared.items.Element.{Element}
 use Rattle.kmn_base.specs.declared.items.Element.TheVariants as element
+use Rattle.kmn_base.specs.Lists.{is_mark}
 use Rattle.kmn_base.specs.Rising.{is_among}
 use Rattle.rule_model.specs.declared.event_state.EventState.{EventState}
 use Rattle.rule_model.specs.declared.tables.Out.{Out}
@@ -22,6 +24,7 @@ use Rattle.core_meaning.specs.ContextLaws.{stated_platform}
 use Rattle.core_constructs.specs.Marks.{element_marks}
 use Rattle.core_constructs.specs.Changes.{changes_option}
 use Rattle.core_laws.proofs.Marks.{IsUnmarked, Unmarked}
+use Rattle.core_laws.proofs.Rising.{equal_numbers, false_true, same_number}
 use Rattle.core_laws.proofs.Saves.{IsNoted}
 use Rattle.core_laws.proofs.Values.{all_stores, content_kept, get_set_same, get_set_other, not_platform, same_option}
 use Rattle.core_laws.proofs.Windows.{Seen, seen_more}
@@ -53,7 +56,12 @@ NoMarks value = flat_map element_marks value ≡ []
 
 -- an item that stands for an element of such a value is none
 pub plain_element : (value : List Element) (place : ℕ) (e : Element) (x : Item) → NoMarks value → slice_get value place ≡ Some e → item_of e ≡ Some x → IsUnmarked x
-plain_element value place e x none listed is = ?
+plain_element [] place e x none listed is = absurd (none-some e listed)
+plain_element (element.Char c ∷ value) zero e x none listed is = ap is_mark (sym (same_Some (item.Char c) x (ap item_of (same_Some (element.Char c) e listed) ∙ is)))
+plain_element (element.Mark m ∷ value) place e x none listed is = absurd (omega (arith, ap length none))
+plain_element (element.Key flags code ∷ value) zero e x none listed is = absurd (none-some x (ap item_of (same_Some (element.Key flags code) e listed) ∙ is))
+plain_element (element.Char c ∷ value) (suc place) e x none listed is = plain_element value place e x none listed is
+plain_element (element.Key flags code ∷ value) (suc place) e x none listed is = plain_element value place e x none listed is
 
 module _ (tables : Tables) (puts : List ℕ) where
   abbrev number : Ref → Option ℕ
@@ -93,11 +101,11 @@ module _ (tables : Tables) (puts : List ℕ) where
       by_number n among (Some other) there = by_test (nat_eq other option) refl
         where
           by_test : (b : Bool) → nat_eq other option ≡ b → NoMarks (content (stores_in tables) (slice_set current option value) (Numbered n))
-          by_test true told = here n among (there ∙ ap Some (Rattle.core_laws.proofs.Rising.equal_numbers other option told))
+          by_test true told = here n among (there ∙ ap Some (equal_numbers other option told))
           by_test false told = elsewhere n among (λ found is_found same. apart (same_Some other found (sym there ∙ is_found)) same)
             where
               apart : {found : ℕ} → other ≡ found → option ≡ found → ⊥
-              apart e same = Rattle.core_laws.proofs.Rising.false_true (sym told ∙ ap (λ (m : ℕ). nat_eq other m) (same ∙ sym e) ∙ Rattle.core_laws.proofs.Rising.same_number other)
+              apart e same = false_true (sym told ∙ ap (λ (m : ℕ). nat_eq other m) (same ∙ sym e) ∙ same_number other)
 
   -- a value that is saved
   pub sound_save : (store option : ℕ) (current : List (List Element)) (saved : List (Option (List Element))) → number (Numbered store) ≡ Some option → IsSound current saved
@@ -115,7 +123,7 @@ module _ (tables : Tables) (puts : List ℕ) where
           by_test true told = by_value (get_set_same saved option (Some value))
             where
               same : option ≡ other
-              same = Rattle.core_laws.proofs.Rising.equal_numbers option other told
+              same = equal_numbers option other told
 
               found_here : slice_get (slice_set saved option (Some value)) option ≡ Some (Some v)
               found_here = ap (slice_get (slice_set saved option (Some value))) same ∙ found
@@ -129,7 +137,7 @@ module _ (tables : Tables) (puts : List ℕ) where
           by_test false told = sound.kept n other v among there (sym (get_set_other saved option other (Some value) apart) ∙ found)
             where
               apart : option ≡ other → ⊥
-              apart same = Rattle.core_laws.proofs.Rising.false_true (sym told ∙ ap (nat_eq option) (sym same) ∙ Rattle.core_laws.proofs.Rising.same_number option)
+              apart same = false_true (sym told ∙ ap (nat_eq option) (sym same) ∙ same_number option)
 
   -- ---- states
 
@@ -151,7 +159,7 @@ module _ (tables : Tables) (puts : List ℕ) where
     pub seen : Seen spent c.event.left c.window
     pub queued : c.queued ≤ used
     pub put : s.put ≤ used
-    pub last : c.last ≡ last
+    pub remembered : c.last ≡ last
     pub noted : (n : ℕ) → is_among n c.to_save ≡ true → IsNoted (stores_in tables) n
     pub pending : (n : ℕ) → is_among n c.to_save ≡ true → list_any (changes_option changes n) rest ≡ false
 
@@ -165,7 +173,7 @@ module _ (tables : Tables) (puts : List ℕ) where
         seen = seen_more spent more c.event.left c.window few going.seen;
         queued = omega (arith, going.queued, less);
         put = omega (arith, going.put, less);
-        last = going.last;
+        remembered = going.remembered;
         noted = going.noted;
         pending = going.pending;
       }

@@ -1,3 +1,4 @@
+pub mod Actions
 pub mod Alike
 pub mod Caught
 pub mod Compared
