@@ -37,7 +37,7 @@ use Rattle.core_laws.proofs.Alike.{stores_in, core_of, own_of, NoMarks, plain_el
 use Rattle.core_laws.proofs.Rising.{among_both, equal_numbers, false_true, same_number}
 use Rattle.core_laws.proofs.Saves.{IsNoted, save_behind, save_noted, saves_current, set_before_saves, not_saved, same_saves}
 use Rattle.core_laws.proofs.Values.{content_of_plain, elements_of_own, same_option}
-use Rattle.core_laws.proofs.Windows.{queued_effect, seen_put}
+use Rattle.core_laws.proofs.Windows.{queued_effect, seen_more, seen_put}
 
 true_false : true ≡ false → ⊥
 true_false e = grind arith
@@ -338,10 +338,10 @@ module _ (version : CoreVersion) (tables : Tables) (puts : List ℕ) (changes : 
   pub act_step : (spent used : ℕ) (item : Out) (rest : List Out) (c : CoreEvent) (s : EventState) → is_use item ≡ false → is_return item ≡ false → IsFairItem tables puts context caught last item
       → used + item_effects (length context) item ≤ 1024 → is_saved_early changes item rest ≡ false → On spent used (item ∷ rest) c s
       → On (spent - put_units context item) (used + item_effects (length context) item) rest (core_act_one (core_of version tables) item c) (act_one (own_of tables) enter caught (tab_output tables.stores item) s)
-  act_step spent used (output.Char x) rest c s use return fair room early h =
+  act_step spent used (output.Char x) rest c s no_use no_return fair room early h =
       one_put_step version tables puts changes last spent used rest (item.Char x) c s room refl (on_behind spent used (output.Char x) rest c s h)
-  act_step spent used (output.Mark m) rest c s use return fair room early h = absurd fair
-  act_step spent used (output.Index store offset) rest c s use return fair room early h =
+  act_step spent used (output.Mark m) rest c s no_use no_return fair room early h = absurd fair
+  act_step spent used (output.Index store offset) rest c s no_use no_return fair room early h =
       subst (λ (o : Option Element). On (spent - 0) (used + 1) rest (put_elements (element_list o) c) (put_element (element_at (content (stores_in tables) s.current (Numbered store)) (place_for_index caught offset)) s)) (sym there)
       (subst (λ (p : Option ℕ). On (spent - 0) (used + 1) rest (put_elements (element_list element) c) (put_element (element_at (content (stores_in tables) s.current (Numbered store)) p) s)) (sym fair.here)
       (going_more tables puts changes spent (spent - 0) (used + 1) (used + 1) rest last (put_elements (element_list element) c) (put_element element s) (omega arith) (omega arith)
@@ -352,30 +352,30 @@ module _ (version : CoreVersion) (tables : Tables) (puts : List ℕ) (changes : 
 
       there : slice_get (content (stores_in tables) c.event.current (Numbered store)) (place_found c.last.places offset) ≡ element
       there = λ i. slice_get (content (stores_in tables) (h.alike.current i) (Numbered store)) ((ap (λ (l : LastMatch). place_found l.places offset) h.remembered ∙ fair.there) i)
-  act_step spent used output.Context rest c s use return fair room early h =
+  act_step spent used output.Context rest c s no_use no_return fair room early h =
       subst (λ (xs : List Item). On (spent - sum_by least_width context) (used + length context) rest (core_put_all xs c) (put_items (items_caught caught) s)) (sym (ap (λ (l : LastMatch). l.kept) h.remembered))
       (subst (λ (xs : List Item). On (spent - sum_by least_width context) (used + length context) rest (core_put_all last.kept c) (put_items xs s)) fair.kept
       (going_more tables puts changes (spent - units last.kept) (spent - sum_by least_width context) (used + length last.kept) (used + length context) rest last (core_put_all last.kept c) (put_items last.kept s) (omega (arith, fair.least)) (omega (arith, fair.count))
       (put_all_step version tables puts changes last spent used rest last.kept c s (omega (arith, room, fair.count)) fair.plain (on_behind spent used output.Context rest c s h))))
-  act_step spent used (output.ContextAt offset) rest c s use return fair room early h =
+  act_step spent used (output.ContextAt offset) rest c s no_use no_return fair room early h =
       subst (λ (o : Option Item). On (spent - put_units context (output.ContextAt offset)) (used + 1) rest (core_put_all (item_list o) c) (put_items (item_list (item_caught caught.catches offset)) s)) (sym (ap (λ (l : LastMatch). slice_get l.kept (offset - 1 - l.skipped)) h.remembered ∙ fair.there))
       (subst (λ (o : Option Item). On (spent - put_units context (output.ContextAt offset)) (used + 1) rest (core_put fair.item c) (put_items (item_list o) s)) (sym fair.here)
       (going_more tables puts changes (spent - weight fair.item) (spent - put_units context (output.ContextAt offset)) (used + 1) (used + 1) rest last (core_put fair.item c) (put_item fair.item s) (omega (arith, fair.least)) (omega arith)
       (one_put_step version tables puts changes last spent used rest fair.item c s room fair.plain (on_behind spent used (output.ContextAt offset) rest c s h))))
-  act_step spent used (output.Enter g) rest c s use return fair room early h = absurd (true_false use)
-  act_step spent used (output.Set store value) rest c s use return fair room early h =
+  act_step spent used (output.Enter g) rest c s no_use no_return fair room early h = absurd (true_false no_use)
+  act_step spent used (output.Set store value) rest c s no_use no_return fair room early h =
       going_more tables puts changes spent (spent - 0) used (used + 0) rest last _ _ (omega arith) (omega arith)
       (set_step version tables puts changes last spent used rest store value c s fair.below fair.value_below fair.other (not_noted spent used store (output.Set store value) rest c s (λ n. refl) h) fair.clean (on_behind spent used (output.Set store value) rest c s h))
-  act_step spent used (output.SetSystem id value) rest c s use return fair room early h = absurd fair
-  act_step spent used (output.Save store) rest c s use return fair room early h =
+  act_step spent used (output.SetSystem id value) rest c s no_use no_return fair room early h = absurd fair
+  act_step spent used (output.Save store) rest c s no_use no_return fair room early h =
       going_more tables puts changes spent (spent - 0) (used + 1) (used + 1) rest last _ _ (omega arith) (omega arith)
       (save_step version tables puts changes last spent used rest store c s fair.named fair.noted room early (on_behind spent used (output.Save store) rest c s h))
-  act_step spent used (output.Reset store) rest c s use return fair room early h =
+  act_step spent used (output.Reset store) rest c s no_use no_return fair room early h =
       going_more tables puts changes spent (spent - 0) used (used + 0) rest last _ _ (omega arith) (omega arith)
       (reset_step version tables puts changes last spent used rest store c s fair.below fair.noted (not_noted spent used store (output.Reset store) rest c s (λ n. refl) h) fair.clean (on_behind spent used (output.Reset store) rest c s h))
-  act_step spent used output.Nul rest c s use return fair room early h =
+  act_step spent used output.Nul rest c s no_use no_return fair room early h =
       going_more tables puts changes spent (spent - 0) used (used + 0) rest last c s (omega arith) (omega arith) (on_behind spent used output.Nul rest c s h)
-  act_step spent used output.Beep rest c s use return fair room early h =
+  act_step spent used output.Beep rest c s no_use no_return fair room early h =
       subst (λ (d : CoreEvent). On (spent - 0) (used + 1) rest d (record s { beeps = one_more s.beeps })) (sym (queued_effect (λ (c : CoreEvent). record c { event = record (c.event) { beeps = one_more c.event.beeps } }) c (omega (arith, room, h.queued))))
       (record {
         alike = record {
@@ -388,11 +388,11 @@ module _ (version : CoreVersion) (tables : Tables) (puts : List ℕ) (changes : 
         };
         going = h.going;
         entered = h.entered;
-        seen = Rattle.core_laws.proofs.Windows.seen_more spent (spent - 0) c.event.left c.window (omega arith) h.seen;
+        seen = seen_more spent (spent - 0) c.event.left c.window (omega arith) h.seen;
         queued = omega (arith, h.queued);
         put = omega (arith, h.put);
         remembered = h.remembered;
         noted = h.noted;
         pending = (on_behind spent used output.Beep rest c s h).pending;
       })
-  act_step spent used output.Stop rest c s use return fair room early h = absurd (true_false return)
+  act_step spent used output.Stop rest c s no_use no_return fair room early h = absurd (true_false no_return)

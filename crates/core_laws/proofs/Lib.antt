@@ -5,6 +5,7 @@ pub mod Compared
 pub mod Contexts
 pub mod Holds
 pub mod Marks
+pub mod Outputs
 pub mod Rising
 pub mod Saves
 pub mod Values
