@@ -1,7 +1,7 @@
 -- An output of which nothing is told does the same in Keyman's own engine and in this product, if the groups that it enters do.
 use Rattle.std.specs.Prelude.{◌≡◌, ℕ, ◌+◌, ◌-◌, ◌≤◌, ◌⊎◌, Bool, true, false, not, ◌&&◌, ◌||◌, nat_le, if◌then◌else◌, List, [], ◌∷◌, ◌++◌, flat_map, length, map, sum_by}
 use Rattle.std.specs.List.{list_any}
-use Rattle.std.proofs.Common.{refl, sym, ap, ◌∙◌, arith, inl, inr}
+use Rattle.std.proofs.Common.{refl, sym, ap, ◌∙◌, arith, inl, inr, append-nil}
 use Rattle.std.proofs.Math.Path.{subst}
 use Rattle.std.proofs.lemmas.Bool.{or_parts}
 use Rattle.std.proofs.lemmas.List.Sums.{sum_by-cons}
@@ -14,9 +14,10 @@ use Rattle.rule_model.specs.declared.tables.Out.TheVariants as output
 use Rattle.rule_model.specs.declared.tables.Tables.{Tables}
 use Rattle.rule_model.specs.Keyboard.{Ref, Numbered}
 use Rattle.rule_model.specs.Act.{enter_if_allowed, act_one, act}
-use Rattle.rule_model.specs.Tab.{tab_output}
+use Rattle.rule_model.specs.Enter.{nothing, act_if_any}
+use Rattle.rule_model.specs.Tab.{output_if_any, tab_output}
 use Rattle.core_meaning.specs.Events.{CoreVersion, LastMatch, CoreEvent}
-use Rattle.core_meaning.specs.Outputs.{Entering, Acted, end_output, core_use, behind_use, without_match, core_act_one, core_act}
+use Rattle.core_meaning.specs.Outputs.{Entering, Acted, end_output, core_use, behind_use, without_match, core_act_one, core_act, core_act_alone, then_match}
 use Rattle.core_constructs.specs.Changes.{changes_option, is_saved_early, saves_early}
 use Rattle.core_constructs.specs.Outputs.{acts_after_use, does_something, ends, is_return, is_use, live}
 use Rattle.core_constructs.specs.Queued.{item_effects}
@@ -117,7 +118,7 @@ module _ (version : CoreVersion) (tables : Tables) (puts : List ℕ) (enter_ther
 
     -- how an output ends: it goes on to the match output, or does nothing more
     pub data Ends (spent used : ℕ) (outputs more : List Out) (acted : Acted) (s : EventState) : Type 0 where
-      GoesOn : acted.1 ≡ true → IsGoing tables puts changes spent used more last acted.0 s → Ends spent used outputs more acted s
+      GoesOn : acted.1 ≡ true → ends outputs ≡ false → IsGoing tables puts changes spent used more last acted.0 s → Ends spent used outputs more acted s
       Over : acted.1 ≡ false → IsAlike tables puts acted.0 s → NoMatch outputs s → Ends spent used outputs more acted s
 
     -- what is known of an output before it runs
@@ -145,6 +146,10 @@ module _ (version : CoreVersion) (tables : Tables) (puts : List ℕ) (enter_ther
             by_use true = refl
             by_use false = used.0
         by_return true told = absurd (true_false told)
+
+    ends_behind : (item : Out) (outputs more : List Out) (spent used : ℕ) (acted : Acted) (s : EventState) → is_return item ≡ false → Ends spent used outputs more acted s → Ends spent used (item ∷ outputs) more acted s
+    ends_behind item outputs more spent used acted s stays (GoesOn alone open going) = GoesOn alone (λ i. stays i || open i) going
+    ends_behind item outputs more spent used acted s stays (Over alone alike none) = Over alone alike (later_use item outputs s stays none)
 
     -- an item that neither enters a group nor ends the output, and the rest
     next : (item : Out) (outputs more : List Out) → is_use item ≡ false → is_return item ≡ false
@@ -226,7 +231,7 @@ module _ (version : CoreVersion) (tables : Tables) (puts : List ℕ) (enter_ther
         by_end false is = inr (refl, is)
 
     pub output_alike : (outputs more : List Out) (spent used : ℕ) (c : CoreEvent) (s : EventState) → IsReady spent used outputs more → IsGoing tables puts changes spent used (live outputs ++ more) last c s → Alike spent used outputs more c s
-    output_alike [] more spent used c s ready going = GoesOn refl (going_more tables puts changes spent spent used (used + 0) more last c s (omega arith) (omega arith) going)
+    output_alike [] more spent used c s ready going = GoesOn refl refl (going_more tables puts changes spent spent used (used + 0) more last c s (omega arith) (omega arith) going)
     output_alike (output.Stop ∷ outputs) more spent used c s ready going =
         subst (λ (b : Bool). Ends (spent - 0) (used + sum_by (item_effects (length context)) (output.Stop ∷ [])) (output.Stop ∷ outputs) more (without_match (end_output c))
         (act (own_of tables) enter_here caught (map (tab_output tables.stores) outputs) (if b then s else record s { stopped = true }))) (sym going.going)
@@ -234,4 +239,73 @@ module _ (version : CoreVersion) (tables : Tables) (puts : List ℕ) (enter_ther
         (sym (stopped_stays caught outputs (record s { stopped = true }) refl))
         (Over refl (alike_ended tables puts c (record s { stopped = true }) (alike_stopped tables puts c s going.alike)) (inl refl)))
     output_alike (output.Enter g ∷ outputs) more spent used c s ready going = use_ends g outputs more spent used c s ready going
-    output_alike (item ∷ outputs) more spent used c s ready going = ?
+    output_alike (item ∷ outputs) more spent used c s ready going =
+        ends_behind item outputs more (spent_after context (live outputs) (spent - put_units context item)) (used + sum_by (item_effects (length context)) (item ∷ live outputs)) _ _ refl
+        (next item outputs more refl refl (output_alike outputs more) spent used c s ready.fair.0 ready.fair.1 ready.quiet ready.early ready.bound ready.room ready.enters going)
+
+    -- however an output ends, both states are alike
+    pub ends_alike : (spent used : ℕ) (outputs more : List Out) (acted : Acted) (s : EventState) → Ends spent used outputs more acted s → IsAlike tables puts acted.0 s
+    ends_alike spent used outputs more acted s (GoesOn alone open going) = going.alike
+    ends_alike spent used outputs more acted s (Over alone alike none) = alike
+
+-- ---- an output and the match output behind it
+
+-- the items of the match output that run behind an output
+abbrev pub behind : List Out → List Out → List Out
+behind outputs on_match = if ends outputs then [] else live on_match
+
+pub if_any : (tables : Tables) (enter : Ref → EventState → EventState) (outputs : List Out) (s : EventState)
+    → act_if_any (own_of tables) enter (output_if_any (map (tab_output tables.stores) outputs)) s ≡ act (own_of tables) enter nothing (map (tab_output tables.stores) outputs) s
+if_any tables enter [] s = refl
+if_any tables enter (item ∷ outputs) s = refl
+
+module _ (version : CoreVersion) (tables : Tables) (puts : List ℕ) (enter_there : Entering) (enter_here : Ref → EventState → EventState) (changes : List (List ℕ)) (last : LastMatch) where
+  -- what is known of a match output, if so many units are spent and effects queued before it
+  abbrev pub IsMatchReady : (most least spent used : ℕ) → least ≤ 1024 → List Out → Type 0
+  IsMatchReady most least spent used few on_match = IsReady version tables puts enter_there enter_here changes [] nothing last most least few spent used on_match []
+
+  abbrev on_match_alone : List Out → EventState → EventState
+  on_match_alone on_match s = act_if_any (own_of tables) enter_here (output_if_any (map (tab_output tables.stores) on_match)) s
+
+  -- an output without the context of a record
+  pub alone_alike : (most least spent used : ℕ) (few : least ≤ 1024) (outputs : List Out) (c : CoreEvent) (s : EventState) → IsMatchReady most least spent used few outputs → IsGoing tables puts changes spent used (live outputs) last c s
+      → IsAlike tables puts (core_act_alone (core_of version tables) enter_there outputs c) (act (own_of tables) enter_here nothing (map (tab_output tables.stores) outputs) s)
+  alone_alike most least spent used few outputs c s ready going =
+      ends_alike version tables puts enter_there enter_here changes [] nothing last most least few (spent_after [] (live outputs) spent) (used + sum_by (item_effects 0) (live outputs)) outputs [] _ _
+      (output_alike version tables puts enter_there enter_here changes [] nothing last most least few outputs [] spent used c s ready
+      (subst (λ (items : List Out). IsGoing tables puts changes spent used items last c s) (sym (append-nil (live outputs))) going))
+
+  module _ (context : List Pat) (caught : Caught) (most least : ℕ) (few : least ≤ 1024) (match_most match_least : ℕ) (match_few : match_least ≤ 1024) where
+    pub then_alike : (outputs on_match : List Out) (spent used : ℕ) (c : CoreEvent) (s : EventState)
+        → IsReady version tables puts enter_there enter_here changes context caught last most least few spent used outputs (behind outputs on_match)
+        → (ends outputs ≡ false → IsMatchReady match_most match_least (spent_after context (live outputs) spent) (used + sum_by (item_effects (length context)) (live outputs)) match_few on_match)
+        → ((list_any is_use (live outputs) && not (ends outputs)) && list_any does_something (live on_match)) ≡ false
+        → IsGoing tables puts changes spent used (live outputs ++ behind outputs on_match) last c s
+        → IsAlike tables puts (then_match (core_of version tables) enter_there on_match (core_act (core_of version tables) enter_there outputs false c))
+        (on_match_alone on_match (act (own_of tables) enter_here caught (map (tab_output tables.stores) outputs) s))
+    then_alike outputs on_match spent used c s ready match_ready unmatched going =
+        subst (λ (t : EventState). IsAlike tables puts (then_match (core_of version tables) enter_there on_match (core_act (core_of version tables) enter_there outputs false c)) t)
+        (sym (if_any tables enter_here on_match (act (own_of tables) enter_here caught (map (tab_output tables.stores) outputs) s)))
+        (by_end (core_act (core_of version tables) enter_there outputs false c) (act (own_of tables) enter_here caught (map (tab_output tables.stores) outputs) s)
+        (output_alike version tables puts enter_there enter_here changes context caught last most least few outputs (behind outputs on_match) spent used c s ready going))
+      where
+        by_end : (acted : Acted) (t : EventState)
+            → Ends version tables puts enter_there enter_here changes context caught last most least few (spent_after context (live outputs) spent) (used + sum_by (item_effects (length context)) (live outputs)) outputs (behind outputs on_match) acted t
+            → IsAlike tables puts (then_match (core_of version tables) enter_there on_match acted) (act (own_of tables) enter_here nothing (map (tab_output tables.stores) on_match) t)
+        by_end acted t (GoesOn alone open on) =
+            subst (λ (b : Bool). IsAlike tables puts ((if b then core_act_alone (core_of version tables) enter_there on_match else (λ (c : CoreEvent). c)) acted.0) (act (own_of tables) enter_here nothing (map (tab_output tables.stores) on_match) t)) (sym alone)
+            (alone_alike match_most match_least (spent_after context (live outputs) spent) (used + sum_by (item_effects (length context)) (live outputs)) match_few on_match acted.0 t (match_ready open)
+            (subst (λ (b : Bool). IsGoing tables puts changes (spent_after context (live outputs) spent) (used + sum_by (item_effects (length context)) (live outputs)) (if b then [] else live on_match) last acted.0 t) open on))
+        by_end acted t (Over alone alike none) =
+            subst (λ (b : Bool). IsAlike tables puts ((if b then core_act_alone (core_of version tables) enter_there on_match else (λ (c : CoreEvent). c)) acted.0) (act (own_of tables) enter_here nothing (map (tab_output tables.stores) on_match) t)) (sym alone)
+            (by_reason none)
+          where
+            quiet : (a b d : Bool) → ((a && not b) && d) ≡ false → a ≡ true → b ≡ false → d ≡ false
+            quiet true false d told used open = told
+            quiet true true d told used open = absurd (true_false open)
+            quiet false b d told used open = absurd (false_true used)
+
+            by_reason : (t.stopped ≡ true) ⊎ ((list_any is_use (live outputs) ≡ true) × (ends outputs ≡ false)) → IsAlike tables puts acted.0 (act (own_of tables) enter_here nothing (map (tab_output tables.stores) on_match) t)
+            by_reason (inl stopped) = subst (λ (u : EventState). IsAlike tables puts acted.0 u) (sym (stopped_stays version tables puts enter_there enter_here nothing on_match t stopped)) alike
+            by_reason (inr used) =
+                (quiet_here version tables puts enter_there enter_here nothing on_match (quiet (list_any is_use (live outputs)) (ends outputs) (list_any does_something (live on_match)) unmatched used.0 used.1) acted.0 t alike).alike
