@@ -1,6 +1,7 @@
 pub mod Actions
 pub mod Alike
 pub mod Caught
+pub mod Choice
 pub mod Compared
 pub mod Contexts
 pub mod Holds

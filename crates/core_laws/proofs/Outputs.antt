@@ -148,7 +148,7 @@ module _ (version : CoreVersion) (tables : Tables) (puts : List ℕ) (enter_ther
         by_return true told = absurd (true_false told)
 
     ends_behind : (item : Out) (outputs more : List Out) (spent used : ℕ) (acted : Acted) (s : EventState) → is_return item ≡ false → Ends spent used outputs more acted s → Ends spent used (item ∷ outputs) more acted s
-    ends_behind item outputs more spent used acted s stays (GoesOn alone open going) = GoesOn alone (λ i. stays i || open i) going
+    ends_behind item outputs more spent used acted s stays (GoesOn alone runs_on going) = GoesOn alone (λ i. stays i || runs_on i) going
     ends_behind item outputs more spent used acted s stays (Over alone alike none) = Over alone alike (later_use item outputs s stays none)
 
     -- an item that neither enters a group nor ends the output, and the rest
@@ -245,7 +245,7 @@ module _ (version : CoreVersion) (tables : Tables) (puts : List ℕ) (enter_ther
 
     -- however an output ends, both states are alike
     pub ends_alike : (spent used : ℕ) (outputs more : List Out) (acted : Acted) (s : EventState) → Ends spent used outputs more acted s → IsAlike tables puts acted.0 s
-    ends_alike spent used outputs more acted s (GoesOn alone open going) = going.alike
+    ends_alike spent used outputs more acted s (GoesOn alone runs_on going) = going.alike
     ends_alike spent used outputs more acted s (Over alone alike none) = alike
 
 -- ---- an output and the match output behind it
@@ -292,18 +292,18 @@ module _ (version : CoreVersion) (tables : Tables) (puts : List ℕ) (enter_ther
         by_end : (acted : Acted) (t : EventState)
             → Ends version tables puts enter_there enter_here changes context caught last most least few (spent_after context (live outputs) spent) (used + sum_by (item_effects (length context)) (live outputs)) outputs (behind outputs on_match) acted t
             → IsAlike tables puts (then_match (core_of version tables) enter_there on_match acted) (act (own_of tables) enter_here nothing (map (tab_output tables.stores) on_match) t)
-        by_end acted t (GoesOn alone open on) =
+        by_end acted t (GoesOn alone runs_on on) =
             subst (λ (b : Bool). IsAlike tables puts ((if b then core_act_alone (core_of version tables) enter_there on_match else (λ (c : CoreEvent). c)) acted.0) (act (own_of tables) enter_here nothing (map (tab_output tables.stores) on_match) t)) (sym alone)
-            (alone_alike match_most match_least (spent_after context (live outputs) spent) (used + sum_by (item_effects (length context)) (live outputs)) match_few on_match acted.0 t (match_ready open)
-            (subst (λ (b : Bool). IsGoing tables puts changes (spent_after context (live outputs) spent) (used + sum_by (item_effects (length context)) (live outputs)) (if b then [] else live on_match) last acted.0 t) open on))
+            (alone_alike match_most match_least (spent_after context (live outputs) spent) (used + sum_by (item_effects (length context)) (live outputs)) match_few on_match acted.0 t (match_ready runs_on)
+            (subst (λ (b : Bool). IsGoing tables puts changes (spent_after context (live outputs) spent) (used + sum_by (item_effects (length context)) (live outputs)) (if b then [] else live on_match) last acted.0 t) runs_on on))
         by_end acted t (Over alone alike none) =
             subst (λ (b : Bool). IsAlike tables puts ((if b then core_act_alone (core_of version tables) enter_there on_match else (λ (c : CoreEvent). c)) acted.0) (act (own_of tables) enter_here nothing (map (tab_output tables.stores) on_match) t)) (sym alone)
             (by_reason none)
           where
             quiet : (a b d : Bool) → ((a && not b) && d) ≡ false → a ≡ true → b ≡ false → d ≡ false
-            quiet true false d told used open = told
-            quiet true true d told used open = absurd (true_false open)
-            quiet false b d told used open = absurd (false_true used)
+            quiet true false d told used runs_on = told
+            quiet true true d told used runs_on = absurd (true_false runs_on)
+            quiet false b d told used runs_on = absurd (false_true used)
 
             by_reason : (t.stopped ≡ true) ⊎ ((list_any is_use (live outputs) ≡ true) × (ends outputs ≡ false)) → IsAlike tables puts acted.0 (act (own_of tables) enter_here nothing (map (tab_output tables.stores) on_match) t)
             by_reason (inl stopped) = subst (λ (u : EventState). IsAlike tables puts acted.0 u) (sym (stopped_stays version tables puts enter_there enter_here nothing on_match t stopped)) alike
