@@ -471,9 +471,8 @@ module _ (kb : CoreKeyboard) (facts : Facts) (stores : List Store) (content : Co
       unput_fails content (behind_nul context) (unput_behind context some) (last_items (compared_count context) window)
       (All-drop (λ item. is_mark item ≡ false) (length window - compared_count context) window window_unmarked) (first_places kb.version context) []
 
-  held_unput : (o : Option (List Catch)) → caught_of content (map (tab_pattern stores) context) left ≡ o → HeldAlike facts window context o (core_holds kb content window context)
-  held_unput None is = unput_there (has_items context window && list_all (core_condition kb content) context)
-  held_unput (Some catches) is = absurd (unput_caught facts context context catches caught plain_items some)
+  pub unput_not_caught : (catches : List Catch) → caught_of content (map (tab_pattern stores) context) left ≡ Some catches → ⊥
+  unput_not_caught catches is = unput_caught facts context context catches caught plain_items some
     where
       text : List Item
       text = drop (length left - pattern_count (map (tab_pattern stores) context)) left
@@ -489,6 +488,10 @@ module _ (kb : CoreKeyboard) (facts : Facts) (stores : List Store) (content : Co
 
       plain_items : Unmarked (items_in catches)
       plain_items = subst Unmarked (sym (text_caught content (map (tab_pattern stores) context) [] text catches parts.1)) plain_text
+
+  pub held_unput : (o : Option (List Catch)) → caught_of content (map (tab_pattern stores) context) left ≡ o → HeldAlike facts window context o (core_holds kb content window context)
+  held_unput None is = unput_there (has_items context window && list_all (core_condition kb content) context)
+  held_unput (Some catches) is = absurd (unput_not_caught catches is)
 
 -- ---- each context
 
