@@ -5,6 +5,7 @@ pub mod Choice
 pub mod Compared
 pub mod Contexts
 pub mod Holds
+pub mod Items
 pub mod Marks
 pub mod Outputs
 pub mod Rising
