@@ -4,6 +4,7 @@ pub mod Caught
 pub mod Choice
 pub mod Compared
 pub mod Contexts
+pub mod Depths
 pub mod Holds
 pub mod Items
 pub mod Marks

@@ -1,5 +1,5 @@
 -- A keyboard of which nothing is told types the same texts in Keyman's own engine and in this product.
-use Rattle.std.specs.Prelude.{◌≡◌, ℕ, Bool, false, ◌&&◌, ◌||◌, nat_eq, nat_lt, List, [], ◌∷◌, length, map, slice_get, unwrap_or, Option, Some, None}
+use Rattle.std.specs.Prelude.{◌≡◌, ℕ, Bool, true, false, ◌&&◌, ◌||◌, nat_eq, nat_lt, List, [], ◌∷◌, length, map, slice_get, unwrap_or, Option, Some, None}
 use Rattle.std.specs.List.{All, list_any}
 use Rattle.kmn_base.specs.declared.items.Item.TheVariants as item
 use Rattle.kmn_base.specs.declared.keys.KeyPress.{KeyPress}
