@@ -3,7 +3,7 @@ use Rattle.std.specs.Prelude.{◌≡◌, ℕ, zero, suc, ◌+◌, ◌-◌, ◌<�
 use Rattle.std.specs.List.{fold, list_any}
 use Rattle.std.specs.Ordering.{nat_cmp, match_ordering}
 use Rattle.std.specs.BTreeSet.{insert_key}
-use Rattle.std.proofs.Common.{refl, sym, ap, ◌∙◌, arith, inl, inr, length-set, length-replicate, Ordering, Less, Equal, Greater}
+use Rattle.std.proofs.Common.{refl, sym, ap, ◌∙◌, arith, inl, inr, Ordering, Less, Equal, Greater}
 use Rattle.std.proofs.Math.Path.{subst}
 use Rattle.std.proofs.lemmas.Bool.{or_parts}
 use Rattle.std.proofs.lemmas.Cmp.{ranked}
@@ -23,7 +23,7 @@ use Rattle.core_constructs.specs.Spent.{after_group, after_groups, after_match, 
 use Rattle.core_constructs.proofs.Depths.{reached_none, reached_more, changes_none, changes_more, spent_none, spent_more, effects_more}
 use Rattle.core_constructs.proofs.Live.{played_ended, played_on}
 use Rattle.core_laws.proofs.Items.{AllOf, all_first, all_second, all_at}
-use Rattle.core_laws.proofs.Rising.{among_left, among_right, equal_numbers, in_fold, in_rising, not_in_rising, same_number, stays_in_fold}
+use Rattle.core_laws.proofs.Rising.{among_both, among_left, among_right, equal_numbers, in_fold, in_rising, not_in_rising, same_number, stays_in_fold}
 use Rattle.core_laws.proofs.Values.{get_set_other}
 
 true_false : true ≡ false → ⊥
@@ -104,11 +104,11 @@ reached_start groups start = ap (is_among start) (reached_none groups start) ∙
 
 flat_both : (h : ℕ) (xs ys : List Out) → is_among h (flat_map entered xs) ≡ true → is_among h (flat_map entered (xs ++ ys)) ≡ true
 flat_both h [] ys among = absurd (false_true among)
-flat_both h (x ∷ xs) ys among = by_test (is_among h (entered x)) refl
+flat_both h (x ∷ xs) ys among = by_test (is_among h (entered x)) refl (flat_both h xs ys)
   where
-    by_test : (b : Bool) → is_among h (entered x) ≡ b → is_among h (entered x ++ flat_map entered (xs ++ ys)) ≡ true
-    by_test true is = among_left h (entered x) (flat_map entered (xs ++ ys)) is
-    by_test false is = among_right h (entered x) (flat_map entered (xs ++ ys)) (flat_both h xs ys ((λ i. sym is i || is_among h (flat_map entered xs)) ∙ sym (Rattle.core_laws.proofs.Rising.among_both h (entered x) (flat_map entered xs)) ∙ among))
+    by_test : (b : Bool) → is_among h (entered x) ≡ b → (is_among h (flat_map entered xs) ≡ true → is_among h (flat_map entered (xs ++ ys)) ≡ true) → is_among h (entered x ++ flat_map entered (xs ++ ys)) ≡ true
+    by_test true is rest = among_left h (entered x) (flat_map entered (xs ++ ys)) is
+    by_test false is rest = among_right h (entered x) (flat_map entered (xs ++ ys)) (rest ((λ i. sym is i || is_among h (flat_map entered xs)) ∙ sym (among_both h (entered x) (flat_map entered xs)) ∙ among))
 
 flat_second : (h : ℕ) (xs ys : List Out) → is_among h (flat_map entered ys) ≡ true → is_among h (flat_map entered (xs ++ ys)) ≡ true
 flat_second h [] ys among = among
@@ -146,7 +146,7 @@ group_at_depth d groups g group listed =
 not_changed : (f : Out → List ℕ) (n : ℕ) (items : List Out) → is_among n (flat_map f items) ≡ false → AllOf (λ (item : Out). is_among n (f item) ≡ false) items
 not_changed f n [] none = tt
 not_changed f n (item ∷ items) none =
-    let parts = or_parts (is_among n (f item)) (is_among n (flat_map f items)) (sym (Rattle.core_laws.proofs.Rising.among_both n (f item) (flat_map f items)) ∙ none) in
+    let parts = or_parts (is_among n (f item)) (is_among n (flat_map f items)) (sym (among_both n (f item) (flat_map f items)) ∙ none) in
     (parts.0, not_changed f n items parts.1)
 
 -- a store that entering a group doesn't change is changed by none of its items
@@ -188,11 +188,11 @@ within_items few many within (item ∷ items) n among = by_test (is_among n (ite
     by_test true is rest = among_left n (item_changes many item) (flat_map (item_changes many) items) (within_item few many within item n is)
     by_test false is rest =
         among_right n (item_changes many item) (flat_map (item_changes many) items)
-        (rest ((λ i. sym is i || is_among n (flat_map (item_changes few) items)) ∙ sym (Rattle.core_laws.proofs.Rising.among_both n (item_changes few item) (flat_map (item_changes few) items)) ∙ among))
+        (rest ((λ i. sym is i || is_among n (flat_map (item_changes few) items)) ∙ sym (among_both n (item_changes few item) (flat_map (item_changes few) items)) ∙ among))
 
 within_more : (d : ℕ) (groups : List Group) → IsWithin (changes_within d groups) (changes_within (d + 1) groups)
 within_more zero groups g n among = absurd (false_true (sym (ap (λ (all : List (List ℕ)). is_among n (changes_at all g)) (changes_none groups)) ∙ among))
-within_more (suc d) groups g n among = by_group (slice_get groups g) refl
+within_more (suc d) groups g n among = by_group (slice_get groups g) refl (within_more d groups)
   where
     less : suc d ≡ d + 1
     less = omega arith
@@ -200,15 +200,56 @@ within_more (suc d) groups g n among = by_group (slice_get groups g) refl
     among_less : is_among n (changes_at (changes_within (d + 1) groups) g) ≡ true
     among_less = ap (λ (m : ℕ). is_among n (changes_at (changes_within m groups) g)) (sym less) ∙ among
 
-    by_group : (o : Option Group) → slice_get groups g ≡ o → is_among n (changes_at (changes_within (suc d + 1) groups) g) ≡ true
-    by_group None listed =
+    by_group : (o : Option Group) → slice_get groups g ≡ o → IsWithin (changes_within d groups) (changes_within (d + 1) groups) → is_among n (changes_at (changes_within (suc d + 1) groups) g) ≡ true
+    by_group None listed rest =
         absurd (false_true (sym (ap (λ (all : List (List ℕ)). is_among n (changes_at all g)) (changes_more d groups)
         ∙ ap (λ (o : Option (List ℕ)). is_among n (unwrap_or o [])) (slice_get-map (group_changes (changes_within d groups)) groups g ∙ ap (option_map (group_changes (changes_within d groups))) listed)) ∙ among_less))
-    by_group (Some group) listed =
+    by_group (Some group) listed rest =
         ap (is_among n) (group_at_depth (suc d) groups g group listed)
         ∙ in_rising n (flat_map (item_changes (changes_within (suc d) groups)) (group_items group))
         (within_items (changes_within d groups) (changes_within (suc d) groups) within (group_items group) n
         (from_rising n (flat_map (item_changes (changes_within d groups)) (group_items group)) (ap (is_among n) (sym (group_at_depth d groups g group listed)) ∙ among_less)))
       where
         within : IsWithin (changes_within d groups) (changes_within (suc d) groups)
-        within h m here = ap (λ (k : ℕ). is_among m (changes_at (changes_within k groups) h)) less ∙ within_more d groups h m here
+        within h m here = ap (λ (k : ℕ). is_among m (changes_at (changes_within k groups) h)) less ∙ rest h m here
+
+within_up : (m d : ℕ) (groups : List Group) → IsWithin (changes_within d groups) (changes_within (d + m) groups)
+within_up zero d groups g n among = let same : d + 0 ≡ d = omega arith in ap (λ (k : ℕ). is_among n (changes_at (changes_within k groups) g)) same ∙ among
+within_up (suc m) d groups g n among =
+    let next : d + suc m ≡ d + m + 1 = omega arith in
+    ap (λ (k : ℕ). is_among n (changes_at (changes_within k groups) g)) next ∙ within_more (d + m) groups g n (within_up m d groups g n among)
+
+less_changed : (few many : List (List ℕ)) → IsWithin few many → (n : ℕ) (items : List Out) → list_any (changes_option many n) items ≡ false → list_any (changes_option few n) items ≡ false
+less_changed few many within n [] none = refl
+less_changed few many within n (item ∷ items) none =
+    let parts = or_parts (changes_option many n item) (list_any (changes_option many n) items) none in
+    λ i. one (changes_option few n item) refl parts.0 i || less_changed few many within n items parts.1 i
+  where
+    one : (b : Bool) → changes_option few n item ≡ b → changes_option many n item ≡ false → b ≡ false
+    one true is none = absurd (false_true (sym none ∙ within_item few many within item n is))
+    one false is none = refl
+
+less_early : (few many : List (List ℕ)) → IsWithin few many → (items : List Out) → saves_early many items ≡ false → saves_early few items ≡ false
+less_early few many within [] none = refl
+less_early few many within (item ∷ items) none =
+    let parts = or_parts (is_saved_early many item items) (saves_early many items) none in
+    λ i. one item parts.0 i || less_early few many within items parts.1 i
+  where
+    one : (item : Out) → is_saved_early many item items ≡ false → is_saved_early few item items ≡ false
+    one (output.Save store) none = less_changed few many within store items none
+    one (output.Char c) none = refl
+    one (output.Mark m) none = refl
+    one (output.Index s k) none = refl
+    one output.Context none = refl
+    one (output.ContextAt k) none = refl
+    one (output.Enter g) none = refl
+    one (output.Set s v) none = refl
+    one (output.SetSystem s v) none = refl
+    one (output.Reset s) none = refl
+    one output.Nul none = refl
+    one output.Beep none = refl
+    one output.Stop none = refl
+
+-- at less depth, fewer options change after they are saved
+pub early_below : (m d : ℕ) (groups : List Group) (items : List Out) → saves_early (changes_within (d + m) groups) items ≡ false → saves_early (changes_within d groups) items ≡ false
+early_below m d groups items none = less_early (changes_within d groups) (changes_within (d + m) groups) (within_up m d groups) items none

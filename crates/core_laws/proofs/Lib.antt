@@ -1,5 +1,6 @@
 pub mod Actions
 pub mod Alike
+pub mod Budget
 pub mod Caught
 pub mod Choice
 pub mod Compared
