@@ -18,7 +18,7 @@ use Rattle.core_constructs.specs.Reached.{entered}
 use Rattle.core_constructs.specs.Spent.{after_group, after_groups, after_match, after_number, after_rule, after_some, raised, raised_by, spent_after, spent_by, spent_within}
 use Rattle.core_constructs.proofs.Depths.{spent_none, spent_more, effects_more}
 use Rattle.core_laws.proofs.Items.{AllOf, all_first, all_second, all_at}
-use Rattle.core_laws.proofs.Rising.{equal_numbers, among_both}
+use Rattle.core_laws.proofs.Rising.{among_both, equal_numbers, same_number}
 use Rattle.core_laws.proofs.Values.{get_set_other}
 
 false_true : false ≡ true → ⊥
@@ -49,10 +49,10 @@ abbrev pub number_at : List ℕ → ℕ → ℕ
 number_at units g = unwrap_or (slice_get units g) 0
 
 -- the effects of a group at one more depth are its own and the most of a group that it enters
-record Chain (queued d : ℕ) (groups : List Group) (group : Group) : Type 0 where
-  most : ℕ
-  fits : queued + group_effects group + most ≤ 1024
-  entered : AllOf (λ (item : Out). entered_effects (effects_within d groups) item ≤ most) (group_items group)
+pub record Chain (queued d : ℕ) (groups : List Group) (group : Group) : Type 0 where
+  pub most : ℕ
+  pub fits : queued + group_effects group + most ≤ 1024
+  pub entered : AllOf (λ (item : Out). entered_effects (effects_within d groups) item ≤ most) (group_items group)
 
 pub chain_of : (queued d : ℕ) (groups : List Group) (g : ℕ) (group : Group) → slice_get groups g ≡ Some group → queued + number_at (effects_within (d + 1) groups) g ≤ 1024 → Chain queued d groups group
 chain_of queued d groups g group listed room =
@@ -154,7 +154,7 @@ raised_more spent units g = record { size = length-set units g (max spent (numbe
     by_test h false is = omega (arith, ap (λ (o : Option ℕ). unwrap_or o 0) (get_set_other units g h (max spent (number_at units g)) apart))
       where
         apart : g ≡ h → ⊥
-        apart e = false_true (sym is ∙ ap (nat_eq g) (sym e) ∙ Rattle.core_laws.proofs.Rising.same_number g)
+        apart e = false_true (sym is ∙ ap (nat_eq g) (sym e) ∙ same_number g)
 
 raised_at : (spent : ℕ) (units : List ℕ) (g : ℕ) → g < length units → spent ≤ number_at (raised spent units g) g
 raised_at spent units g less = by_place (set_is units g (max spent (number_at units g)))

@@ -1,5 +1,5 @@
 -- What the items of a context catch in this product: their places, and between which units they have.
-use Rattle.std.specs.Prelude.{◌≡◌, ℕ, zero, suc, ◌+◌, ◌-◌, ◌<◌, ◌≤◌, max, min, Bool, true, false, not, nat_eq, nat_lt, if◌then◌else◌, cond, List, [], ◌∷◌, ◌++◌, length, map, take, filter_map, count_by, sum_by, position, slice_get, is_some, unwrap_or, option_and_then, Option, Some, None}
+use Rattle.std.specs.Prelude.{◌≡◌, ℕ, zero, suc, ◌+◌, ◌-◌, ◌<◌, ◌≤◌, max, min, Bool, true, false, not, nat_eq, nat_lt, if◌then◌else◌, cond, List, [], ◌∷◌, ◌++◌, length, map, take, flat_map, filter_map, count_by, sum_by, position, slice_get, is_some, unwrap_or, option_and_then, Option, Some, None}
 use Rattle.std.specs.Option.{option_map_or}
 use Rattle.std.specs.List.{All, cons_option}
 use Rattle.std.proofs.Common.{refl, sym, ap, ◌∙◌, arith, append_assoc, append-nil, get_or}
@@ -23,6 +23,7 @@ use Rattle.rule_model.specs.Match.{Content, is_item, place_of, place_caught, ite
 use Rattle.rule_model.specs.Act.{item_list}
 use Rattle.rule_model.specs.Patterns.{is_matched}
 use Rattle.rule_model.specs.Tab.{tab_pattern}
+use Rattle.kmx_format.specs.Writable.{stores_of_pattern}
 use Rattle.core_meaning.specs.Events.{weight, units}
 use Rattle.core_meaning.specs.ContextLaws.{IsAnyItem}
 use Rattle.core_constructs.specs.declared.facts.Facts.{Facts}
@@ -116,11 +117,11 @@ found_at test elements place e =
     let found = position-Some test elements place (element.Char 0) e in
     record { element = get_or elements place (element.Char 0); listed = slice_get-get_or elements place (element.Char 0) found.0; passes = found.1 }
 
--- each element of a store that is equal to an item has at most the width of the store
-abbrev pub HasWidths : Facts → Content → Type 0
-HasWidths facts content = (store place : ℕ) (x : Item) (e : Element) → slice_get (content (Numbered store)) place ≡ Some e → is_item x e ≡ true → weight x ≤ store_width facts store
+-- each element of a store of the tables that is equal to an item has at most the width of the store
+abbrev pub HasWidths : Facts → ℕ → Content → Type 0
+HasWidths facts count content = (store place : ℕ) (x : Item) (e : Element) → store < count → slice_get (content (Numbered store)) place ≡ Some e → is_item x e ≡ true → weight x ≤ store_width facts store
 
-module _ (facts : Facts) (content : Content) (stores : List Store) (whole : List Pat) (widths : HasWidths facts content) where
+module _ (facts : Facts) (count : ℕ) (content : Content) (stores : List Store) (whole : List Pat) (widths : HasWidths facts count content) where
   abbrev Caught : Pat → Catch → Type 0
   Caught p catch = IsCaught facts whole p catch
 
@@ -143,22 +144,22 @@ module _ (facts : Facts) (content : Content) (stores : List Store) (whole : List
       let units = equal_weights x (element.Mark m) same in
       within (pattern.Mark m) x None refl refl (omega (arith, units)) (omega (arith, units)) (λ any. absurd any)
 
-  any_caught : (s : ℕ) (x : Item) (place : Option ℕ) → place_of x (content (Numbered s)) ≡ place → is_some place ≡ true → Caught (pattern.Any s) (catch_of x place)
-  any_caught s x None is found = absurd (false_true found)
-  any_caught s x (Some n) is found =
+  any_caught : (s : ℕ) → s < count → (x : Item) (place : Option ℕ) → place_of x (content (Numbered s)) ≡ place → is_some place ≡ true → Caught (pattern.Any s) (catch_of x place)
+  any_caught s less x None is found = absurd (false_true found)
+  any_caught s less x (Some n) is found =
       let at = found_at (is_item x) (content (Numbered s)) n is in
-      within (pattern.Any s) x (Some n) refl refl (some_weight x) (widths s n x at.element at.listed at.passes) (λ any. (n, refl))
+      within (pattern.Any s) x (Some n) refl refl (some_weight x) (widths s n x at.element less at.listed at.passes) (λ any. (n, refl))
 
   other_caught : (s : ℕ) (x : Item) → IsUnmarked x → Caught (pattern.NotAny s) (catch_of x None)
   other_caught s x plain = within (pattern.NotAny s) x None refl refl (some_weight x) (omega (arith, light x plain, at_least_two facts)) (λ any. absurd any)
 
-  index_caught : (s k : ℕ) (x : Item) (place : Option ℕ) → is_element x (element_at (content (Numbered s)) place) ≡ true → Caught (pattern.Index s k) (catch_of x None)
-  index_caught s k x None same = absurd (false_true same)
-  index_caught s k x (Some n) same = by_element (slice_get (content (Numbered s)) n) refl same
+  index_caught : (s k : ℕ) → s < count → (x : Item) (place : Option ℕ) → is_element x (element_at (content (Numbered s)) place) ≡ true → Caught (pattern.Index s k) (catch_of x None)
+  index_caught s k less x None same = absurd (false_true same)
+  index_caught s k less x (Some n) same = by_element (slice_get (content (Numbered s)) n) refl same
     where
       by_element : (e : Option Element) → slice_get (content (Numbered s)) n ≡ e → is_element x e ≡ true → Caught (pattern.Index s k) (catch_of x None)
       by_element None is same = absurd (false_true same)
-      by_element (Some e) is same = within (pattern.Index s k) x None refl refl (some_weight x) (widths s n x e is same) (λ any. absurd any)
+      by_element (Some e) is same = within (pattern.Index s k) x None refl refl (some_weight x) (widths s n x e less is same) (λ any. absurd any)
 
   -- an item that repeats another, which was caught before it
   repeated : (others : List Pat) (rest : List Pat) (seen : List Catch) (k : ℕ) (x : Item) → others ++ rest ≡ whole → AreCaught facts whole others seen → is_same x (item_caught seen k) ≡ true
@@ -235,45 +236,52 @@ module _ (facts : Facts) (content : Content) (stores : List Store) (whole : List
   rest_plain : (x : Item) (text : List Item) → Unmarked (x ∷ text) → Unmarked text
   rest_plain x text plain = All-tail (λ item. is_mark item ≡ false) x text plain
 
-  pub all_caught : (others ps : List Pat) (seen : List Catch) (text : List Item) → AllCaught others ps seen text
-  all_caught others [] seen [] all parts before plain e =
+  abbrev IsBelow : ℕ → Type 0
+  IsBelow store = store < count
+
+  rest_below : (ns ms : List ℕ) → All IsBelow (ns ++ ms) → All IsBelow ms
+  rest_below [] ms below = below
+  rest_below (n ∷ ns) ms below = rest_below ns ms (All-tail IsBelow n (ns ++ ms) below)
+
+  pub all_caught : (others ps : List Pat) → All IsBelow (flat_map stores_of_pattern ps) → (seen : List Catch) (text : List Item) → AllCaught others ps seen text
+  all_caught others [] below seen [] all parts before plain e =
       subst (AreCaught facts whole whole) (same_Some seen all e) (subst (λ (ps : List Pat). AreCaught facts whole ps seen) (sym (append-nil others) ∙ parts) before)
-  all_caught others [] seen (x ∷ text) all parts before plain e = absurd (none-some all e)
-  all_caught others (pattern.Char c ∷ ps) seen [] all parts before plain e = absurd (none-some all e)
-  all_caught others (pattern.Char c ∷ ps) seen (x ∷ text) all parts before plain e =
-      by_match (pattern.Char c) others ps seen (catch_of x None) text (is_item x (element.Char c)) (all_caught (others ++ pattern.Char c ∷ []) ps (seen ++ catch_of x None ∷ []) text)
+  all_caught others [] below seen (x ∷ text) all parts before plain e = absurd (none-some all e)
+  all_caught others (pattern.Char c ∷ ps) below seen [] all parts before plain e = absurd (none-some all e)
+  all_caught others (pattern.Char c ∷ ps) below seen (x ∷ text) all parts before plain e =
+      by_match (pattern.Char c) others ps seen (catch_of x None) text (is_item x (element.Char c)) (all_caught (others ++ pattern.Char c ∷ []) ps (rest_below (stores_of_pattern (pattern.Char c)) (flat_map stores_of_pattern ps) below) (seen ++ catch_of x None ∷ []) text)
       (char_caught c x) all parts before (rest_plain x text plain) e
-  all_caught others (pattern.Mark m ∷ ps) seen [] all parts before plain e = absurd (none-some all e)
-  all_caught others (pattern.Mark m ∷ ps) seen (x ∷ text) all parts before plain e =
-      by_match (pattern.Mark m) others ps seen (catch_of x None) text (is_item x (element.Mark m)) (all_caught (others ++ pattern.Mark m ∷ []) ps (seen ++ catch_of x None ∷ []) text)
+  all_caught others (pattern.Mark m ∷ ps) below seen [] all parts before plain e = absurd (none-some all e)
+  all_caught others (pattern.Mark m ∷ ps) below seen (x ∷ text) all parts before plain e =
+      by_match (pattern.Mark m) others ps seen (catch_of x None) text (is_item x (element.Mark m)) (all_caught (others ++ pattern.Mark m ∷ []) ps (rest_below (stores_of_pattern (pattern.Mark m)) (flat_map stores_of_pattern ps) below) (seen ++ catch_of x None ∷ []) text)
       (mark_caught m x) all parts before (rest_plain x text plain) e
-  all_caught others (pattern.Any s ∷ ps) seen [] all parts before plain e = absurd (none-some all e)
-  all_caught others (pattern.Any s ∷ ps) seen (x ∷ text) all parts before plain e =
+  all_caught others (pattern.Any s ∷ ps) below seen [] all parts before plain e = absurd (none-some all e)
+  all_caught others (pattern.Any s ∷ ps) below seen (x ∷ text) all parts before plain e =
       let place : Option ℕ = place_of x (content (Numbered s)) in
-      by_match (pattern.Any s) others ps seen (catch_of x place) text (is_some place) (all_caught (others ++ pattern.Any s ∷ []) ps (seen ++ catch_of x place ∷ []) text)
-      (any_caught s x place refl) all parts before (rest_plain x text plain) e
-  all_caught others (pattern.NotAny s ∷ ps) seen [] all parts before plain e = absurd (none-some all e)
-  all_caught others (pattern.NotAny s ∷ ps) seen (x ∷ text) all parts before plain e =
-      by_match (pattern.NotAny s) others ps seen (catch_of x None) text (not (is_some (place_of x (content (Numbered s))))) (all_caught (others ++ pattern.NotAny s ∷ []) ps (seen ++ catch_of x None ∷ []) text)
+      by_match (pattern.Any s) others ps seen (catch_of x place) text (is_some place) (all_caught (others ++ pattern.Any s ∷ []) ps (rest_below (stores_of_pattern (pattern.Any s)) (flat_map stores_of_pattern ps) below) (seen ++ catch_of x place ∷ []) text)
+      (any_caught s (All-head IsBelow s (flat_map stores_of_pattern ps) below) x place refl) all parts before (rest_plain x text plain) e
+  all_caught others (pattern.NotAny s ∷ ps) below seen [] all parts before plain e = absurd (none-some all e)
+  all_caught others (pattern.NotAny s ∷ ps) below seen (x ∷ text) all parts before plain e =
+      by_match (pattern.NotAny s) others ps seen (catch_of x None) text (not (is_some (place_of x (content (Numbered s))))) (all_caught (others ++ pattern.NotAny s ∷ []) ps (rest_below (stores_of_pattern (pattern.NotAny s)) (flat_map stores_of_pattern ps) below) (seen ++ catch_of x None ∷ []) text)
       (λ told. other_caught s x (All-head (λ item. is_mark item ≡ false) x text plain)) all parts before (rest_plain x text plain) e
-  all_caught others (pattern.Index s k ∷ ps) seen [] all parts before plain e = absurd (none-some all e)
-  all_caught others (pattern.Index s k ∷ ps) seen (x ∷ text) all parts before plain e =
-      by_match (pattern.Index s k) others ps seen (catch_of x None) text (is_element x (element_at (content (Numbered s)) (place_caught seen k))) (all_caught (others ++ pattern.Index s k ∷ []) ps (seen ++ catch_of x None ∷ []) text)
-      (index_caught s k x (place_caught seen k)) all parts before (rest_plain x text plain) e
-  all_caught others (pattern.ContextAt k ∷ ps) seen [] all parts before plain e = absurd (none-some all e)
-  all_caught others (pattern.ContextAt k ∷ ps) seen (x ∷ text) all parts before plain e =
-      by_match (pattern.ContextAt k) others ps seen (catch_of x None) text (is_same x (item_caught seen k)) (all_caught (others ++ pattern.ContextAt k ∷ []) ps (seen ++ catch_of x None ∷ []) text)
+  all_caught others (pattern.Index s k ∷ ps) below seen [] all parts before plain e = absurd (none-some all e)
+  all_caught others (pattern.Index s k ∷ ps) below seen (x ∷ text) all parts before plain e =
+      by_match (pattern.Index s k) others ps seen (catch_of x None) text (is_element x (element_at (content (Numbered s)) (place_caught seen k))) (all_caught (others ++ pattern.Index s k ∷ []) ps (rest_below (stores_of_pattern (pattern.Index s k)) (flat_map stores_of_pattern ps) below) (seen ++ catch_of x None ∷ []) text)
+      (index_caught s k (All-head IsBelow s (flat_map stores_of_pattern ps) below) x (place_caught seen k)) all parts before (rest_plain x text plain) e
+  all_caught others (pattern.ContextAt k ∷ ps) below seen [] all parts before plain e = absurd (none-some all e)
+  all_caught others (pattern.ContextAt k ∷ ps) below seen (x ∷ text) all parts before plain e =
+      by_match (pattern.ContextAt k) others ps seen (catch_of x None) text (is_same x (item_caught seen k)) (all_caught (others ++ pattern.ContextAt k ∷ []) ps (rest_below (stores_of_pattern (pattern.ContextAt k)) (flat_map stores_of_pattern ps) below) (seen ++ catch_of x None ∷ []) text)
       (repeated others (pattern.ContextAt k ∷ ps) seen k x parts before) all parts before (rest_plain x text plain) e
-  all_caught others (pattern.Equal s v ∷ ps) seen text all parts before plain e =
-      behind (pattern.Equal s v) others ps seen nothing_caught text (all_caught (others ++ pattern.Equal s v ∷ []) ps (seen ++ nothing_caught ∷ []) text) (uncaught (pattern.Equal s v) refl refl) all parts before plain e
-  all_caught others (pattern.Unequal s v ∷ ps) seen text all parts before plain e =
-      behind (pattern.Unequal s v) others ps seen nothing_caught text (all_caught (others ++ pattern.Unequal s v ∷ []) ps (seen ++ nothing_caught ∷ []) text) (uncaught (pattern.Unequal s v) refl refl) all parts before plain e
-  all_caught others (pattern.SystemEqual s v ∷ ps) seen text all parts before plain e =
-      behind (pattern.SystemEqual s v) others ps seen nothing_caught text (all_caught (others ++ pattern.SystemEqual s v ∷ []) ps (seen ++ nothing_caught ∷ []) text) (uncaught (pattern.SystemEqual s v) refl refl) all parts before plain e
-  all_caught others (pattern.SystemUnequal s v ∷ ps) seen text all parts before plain e =
-      behind (pattern.SystemUnequal s v) others ps seen nothing_caught text (all_caught (others ++ pattern.SystemUnequal s v ∷ []) ps (seen ++ nothing_caught ∷ []) text) (uncaught (pattern.SystemUnequal s v) refl refl) all parts before plain e
-  all_caught others (pattern.Nul ∷ ps) seen text all parts before plain e =
-      behind pattern.Nul others ps seen nothing_caught text (all_caught (others ++ pattern.Nul ∷ []) ps (seen ++ nothing_caught ∷ []) text) (uncaught pattern.Nul refl refl) all parts before plain e
+  all_caught others (pattern.Equal s v ∷ ps) below seen text all parts before plain e =
+      behind (pattern.Equal s v) others ps seen nothing_caught text (all_caught (others ++ pattern.Equal s v ∷ []) ps (rest_below (stores_of_pattern (pattern.Equal s v)) (flat_map stores_of_pattern ps) below) (seen ++ nothing_caught ∷ []) text) (uncaught (pattern.Equal s v) refl refl) all parts before plain e
+  all_caught others (pattern.Unequal s v ∷ ps) below seen text all parts before plain e =
+      behind (pattern.Unequal s v) others ps seen nothing_caught text (all_caught (others ++ pattern.Unequal s v ∷ []) ps (rest_below (stores_of_pattern (pattern.Unequal s v)) (flat_map stores_of_pattern ps) below) (seen ++ nothing_caught ∷ []) text) (uncaught (pattern.Unequal s v) refl refl) all parts before plain e
+  all_caught others (pattern.SystemEqual s v ∷ ps) below seen text all parts before plain e =
+      behind (pattern.SystemEqual s v) others ps seen nothing_caught text (all_caught (others ++ pattern.SystemEqual s v ∷ []) ps (rest_below (stores_of_pattern (pattern.SystemEqual s v)) (flat_map stores_of_pattern ps) below) (seen ++ nothing_caught ∷ []) text) (uncaught (pattern.SystemEqual s v) refl refl) all parts before plain e
+  all_caught others (pattern.SystemUnequal s v ∷ ps) below seen text all parts before plain e =
+      behind (pattern.SystemUnequal s v) others ps seen nothing_caught text (all_caught (others ++ pattern.SystemUnequal s v ∷ []) ps (rest_below (stores_of_pattern (pattern.SystemUnequal s v)) (flat_map stores_of_pattern ps) below) (seen ++ nothing_caught ∷ []) text) (uncaught (pattern.SystemUnequal s v) refl refl) all parts before plain e
+  all_caught others (pattern.Nul ∷ ps) below seen text all parts before plain e =
+      behind pattern.Nul others ps seen nothing_caught text (all_caught (others ++ pattern.Nul ∷ []) ps (rest_below (stores_of_pattern (pattern.Nul)) (flat_map stores_of_pattern ps) below) (seen ++ nothing_caught ∷ []) text) (uncaught pattern.Nul refl refl) all parts before plain e
 
 -- ---- sums and places
 

@@ -116,7 +116,7 @@ and_false false = refl
 abbrev pub plainly : List Catch → Caught
 plainly catches = record { catches = catches; key_place = None }
 
-module _ (kb : CoreKeyboard) (tables : Tables) (facts : Facts) (marks : facts.marks ≡ []) (content : Content) (widths : HasWidths facts content)
+module _ (kb : CoreKeyboard) (tables : Tables) (facts : Facts) (marks : facts.marks ≡ []) (content : Content) (widths : HasWidths facts (length tables.stores) content)
   (values : HasValues facts.options (length tables.stores) tables.stores content) (unset : content Platform ≡ stated_platform)
   (known : GroupFacts) (group : Group) (group_count : ℕ) (left window : List Item) (plain : Unmarked left) (seen : Seen known.spent left window) (press : KeyPress) (common : IsCommonPress press) where
 
@@ -198,7 +198,7 @@ module _ (kb : CoreKeyboard) (tables : Tables) (facts : Facts) (marks : facts.ma
 
       held : HeldAlike facts window rule.context caught (there rule)
       held =
-          held_alike kb facts marks tables.stores (length tables.stores) content widths values unset known.spent (live rule.output) left window plain seen rule.context
+          held_alike kb facts marks tables.stores (length tables.stores) content widths values unset known.spent (live rule.output) left window plain seen rule.context writable.context.stores
           (λ told. untold_context tables facts known group rule (fair told) group_count writable)
 
       some_item : (ps : List Pat) → list_any (asks_unput facts.marks) ps ≡ true → nat_eq (length ps) 0 ≡ false
@@ -211,7 +211,7 @@ module _ (kb : CoreKeyboard) (tables : Tables) (facts : Facts) (marks : facts.ma
       unput : list_any (asks_unput facts.marks) rule.context ≡ true → (o : Option (List Catch)) → caught ≡ o → HeldAlike facts window rule.context o (there rule) → RuleAlike rule (caught_with o (key_fits (wanted rule) press))
       unput told None is held = Neither refl (λ i. held i && core_takes group press rule) (λ keys. some_item rule.context told)
       unput told (Some catches) is held =
-          absurd (unput_not_caught kb facts tables.stores content widths rule.context (ap (λ (ms : List ℕ). list_any (asks_unput ms) rule.context) (sym marks) ∙ told) known.spent left window plain seen catches is)
+          absurd (unput_not_caught kb facts tables.stores (length tables.stores) content widths rule.context writable.context.stores (ap (λ (ms : List ℕ). list_any (asks_unput ms) rule.context) (sym marks) ∙ told) known.spent left window plain seen catches is)
 
       by_test : (b : Bool) → list_any (asks_unput facts.marks) rule.context ≡ b → RuleAlike rule (caught_with caught (key_fits (wanted rule) press))
       by_test true told = unput told caught refl held

@@ -149,7 +149,7 @@ fits_start facts spent context short first = by_sum (spent + sum_by (width_in fa
     by_sum : (n w : ℕ) → 2 ≤ w → nat_lt (63 - w) (min 64 n) ≡ false → n ≤ 61
     by_sum n w wide e = grind (arith, nat_tests)
 
-module _ (kb : CoreKeyboard) (facts : Facts) (stores : List Store) (count : ℕ) (content : Content) (widths : HasWidths facts content)
+module _ (kb : CoreKeyboard) (facts : Facts) (stores : List Store) (count : ℕ) (content : Content) (widths : HasWidths facts count content)
   (values : HasValues facts.options count stores content) (unset : content Platform ≡ stated_platform)
   (spent : ℕ) (items : List Out) (context : List Pat) (fair : IsFairContext facts stores count spent items context)
   (left window : List Item) (plain : Unmarked left) (seen : Seen spent left window) where
@@ -162,7 +162,7 @@ module _ (kb : CoreKeyboard) (facts : Facts) (stores : List Store) (count : ℕ)
 
   -- what is caught of the end of the text is known, and is not wider than the context
   caught_here : (catches : List Catch) → catches_from content [] (map (tab_pattern stores) context) text_end ≡ Some catches → AreCaught facts context context catches
-  caught_here catches e = all_caught facts content stores context widths [] context [] text_end catches refl tt (All-drop (λ item. is_mark item ≡ false) (length left - patterns_count) left plain) e
+  caught_here catches e = all_caught facts count content stores context widths [] context fair.writable.stores [] text_end catches refl tt (All-drop (λ item. is_mark item ≡ false) (length left - patterns_count) left plain) e
 
   items_here : (catches : List Catch) → catches_from content [] (map (tab_pattern stores) context) text_end ≡ Some catches → items_in catches ≡ text_end
   items_here catches e = text_caught content (map (tab_pattern stores) context) [] text_end catches e
@@ -260,7 +260,7 @@ no_items : (xs : List Item) → length xs ≡ 0 → xs ≡ []
 no_items [] none = refl
 no_items (x ∷ xs) none = absurd (omega (arith, none))
 
-module _ (kb : CoreKeyboard) (facts : Facts) (stores : List Store) (count : ℕ) (content : Content) (widths : HasWidths facts content)
+module _ (kb : CoreKeyboard) (facts : Facts) (stores : List Store) (count : ℕ) (content : Content) (widths : HasWidths facts count content)
   (values : HasValues facts.options count stores content) (unset : content Platform ≡ stated_platform)
   (spent : ℕ) (items : List Out) (rest : List Pat) (fair : IsFairContext facts stores count spent items (pattern.Nul ∷ rest))
   (left window : List Item) (plain : Unmarked left) (seen : Seen spent left window) (none : list_any is_nul rest ≡ false) where
@@ -397,7 +397,7 @@ module _ (kb : CoreKeyboard) (facts : Facts) (stores : List Store) (count : ℕ)
               widest_window : units window ≤ sum_by (width_in facts context) context
               widest_window =
                   subst (λ (xs : List Item). units xs ≤ sum_by (width_in facts context) context) (text_caught content (map (tab_pattern stores) context) [] window catches caught_all)
-                  (units_most facts context context catches (all_caught facts content stores context widths [] context [] window catches refl tt window_plain caught_all))
+                  (units_most facts context context catches (all_caught facts count content stores context widths [] context fair.writable.stores [] window catches refl tt window_plain caught_all))
 
               by_last : (seen.before ≡ []) ⊎ HasLast seen.before → (core_match content rest (first_places kb.version context) [] (last_items (compared_count context) window)).0 ≡ false
               by_last (inl nothing) = absurd (none-some catches (sym is ∙ found))
@@ -455,7 +455,7 @@ unput_behind [] some = some
 unput_behind (pattern.Nul ∷ ps) some = some
 unput_behind (p ∷ ps) some = some
 
-module _ (kb : CoreKeyboard) (facts : Facts) (stores : List Store) (content : Content) (widths : HasWidths facts content) (context : List Pat) (some : list_any (asks_unput []) context ≡ true)
+module _ (kb : CoreKeyboard) (facts : Facts) (stores : List Store) (count : ℕ) (content : Content) (widths : HasWidths facts count content) (context : List Pat) (below : All (λ store. store < count) (flat_map stores_of_pattern context)) (some : list_any (asks_unput []) context ≡ true)
   (spent : ℕ) (left window : List Item) (plain : Unmarked left) (seen : Seen spent left window) where
 
   window_unmarked : Unmarked window
@@ -484,7 +484,7 @@ module _ (kb : CoreKeyboard) (facts : Facts) (stores : List Store) (content : Co
       parts = tested (list_all (is_true content) (map (tab_pattern stores) context) && has_room (map (tab_pattern stores) context) left) (catches_from content [] (map (tab_pattern stores) context) text) catches is
 
       caught : AreCaught facts context context catches
-      caught = all_caught facts content stores context widths [] context [] text catches refl tt plain_text parts.1
+      caught = all_caught facts count content stores context widths [] context below [] text catches refl tt plain_text parts.1
 
       plain_items : Unmarked (items_in catches)
       plain_items = subst Unmarked (sym (text_caught content (map (tab_pattern stores) context) [] text catches parts.1)) plain_text
@@ -499,7 +499,7 @@ module _ (kb : CoreKeyboard) (facts : Facts) (stores : List Store) (content : Co
 abbrev pub IsFairIfMatched : Facts → List Store → (count spent : ℕ) → List Out → List Pat → Type 0
 IsFairIfMatched facts stores count spent items context = list_any (asks_unput facts.marks) context ≡ false → IsFairContext facts stores count spent items context
 
-module _ (kb : CoreKeyboard) (facts : Facts) (marks : facts.marks ≡ []) (stores : List Store) (count : ℕ) (content : Content) (widths : HasWidths facts content)
+module _ (kb : CoreKeyboard) (facts : Facts) (marks : facts.marks ≡ []) (stores : List Store) (count : ℕ) (content : Content) (widths : HasWidths facts count content)
   (values : HasValues facts.options count stores content) (unset : content Platform ≡ stated_platform)
   (spent : ℕ) (items : List Out) (left window : List Item) (plain : Unmarked left) (seen : Seen spent left window) where
 
@@ -508,11 +508,11 @@ module _ (kb : CoreKeyboard) (facts : Facts) (marks : facts.marks ≡ []) (store
   by_nul (pattern.Nul ∷ rest) (First none) fair =
       held_first kb facts stores count content widths values unset spent items rest fair left window plain seen none (caught_of content (map (tab_pattern stores) (pattern.Nul ∷ rest)) left) refl
 
-  pub held_alike : (context : List Pat) → IsFairIfMatched facts stores count spent items context → HeldAlike facts window context (caught_of content (map (tab_pattern stores) context) left) (core_holds kb content window context)
-  held_alike context fair = by_test (list_any (asks_unput facts.marks) context) refl
+  pub held_alike : (context : List Pat) → All (λ store. store < count) (flat_map stores_of_pattern context) → IsFairIfMatched facts stores count spent items context → HeldAlike facts window context (caught_of content (map (tab_pattern stores) context) left) (core_holds kb content window context)
+  held_alike context below fair = by_test (list_any (asks_unput facts.marks) context) refl
     where
       by_test : (b : Bool) → list_any (asks_unput facts.marks) context ≡ b → HeldAlike facts window context (caught_of content (map (tab_pattern stores) context) left) (core_holds kb content window context)
       by_test false told = by_nul context (nul_of context (fair told).late) (fair told)
       by_test true told =
-          held_unput kb facts stores content widths context (ap (λ (ms : List ℕ). list_any (asks_unput ms) context) (sym marks) ∙ told) spent left window plain seen
+          held_unput kb facts stores count content widths context below (ap (λ (ms : List ℕ). list_any (asks_unput ms) context) (sym marks) ∙ told) spent left window plain seen
           (caught_of content (map (tab_pattern stores) context) left) refl

@@ -5,6 +5,7 @@ pub mod Caught
 pub mod Choice
 pub mod Compared
 pub mod Contexts
+pub mod Defaults
 pub mod Depths
 pub mod Holds
 pub mod Items
@@ -13,4 +14,5 @@ pub mod Outputs
 pub mod Rising
 pub mod Saves
 pub mod Values
+pub mod Whole
 pub mod Windows

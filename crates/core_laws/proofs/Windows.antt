@@ -151,6 +151,10 @@ seen_back spent left window rest end is seen =
         shorter : length other ≤ length rest
         shorter = omega (arith, long, length-append other end, ap length is, length-append rest end)
 
+-- more than 63 spent units are counted as 64
+pub seen_capped : (spent : ℕ) (left window : List Item) → Seen spent left window → Seen (min 64 spent) left window
+seen_capped spent left window seen = record { before = seen.before; parts = seen.parts; reaches = λ front end same few. seen.reaches front end same (omega (arith, few)) }
+
 -- ---- the queue
 
 pub few_queued : (queued : ℕ) → queued < 1024 → nat_le 1024 queued ≡ false
@@ -168,7 +172,7 @@ without_last_twice n xs =
     size : length (take (length xs - 1) xs) - n ≡ length xs - suc n
     size = omega (arith, length-take (length xs - 1) xs)
 
-without_none : (xs : List Item) → without_last 0 xs ≡ xs
+pub without_none : (xs : List Item) → without_last 0 xs ≡ xs
 without_none xs = take_all (length xs - 0) xs (omega arith)
 
 -- the state after n items are deleted
