@@ -7,6 +7,7 @@ pub mod Compared
 pub mod Contexts
 pub mod Defaults
 pub mod Depths
+pub mod Groups
 pub mod Holds
 pub mod Items
 pub mod Marks

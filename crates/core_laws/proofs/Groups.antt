@@ -1,0 +1,265 @@
+-- A group of which nothing is told does the same in both engines, if the groups that it enters do.
+use Rattle.std.specs.Prelude.{◌≡◌, ℕ, zero, suc, ◌+◌, ◌-◌, ◌<◌, ◌≤◌, min, Bool, true, false, not, ◌&&◌, ◌||◌, nat_eq, nat_lt, if◌then◌else◌, List, [], ◌∷◌, ◌++◌, flat_map, length, map, take, drop, slice_get, sum_by, is_some, option_map, Option, Some, None}
+use Rattle.std.specs.List.{All, list_any, list_all}
+use Rattle.std.proofs.Common.{refl, sym, ap, ◌∙◌, arith, inl, inr, append-nil, length-append, length-drop}
+use Rattle.std.proofs.Math.Path.{subst}
+use Rattle.std.proofs.lemmas.Bool.{or_parts, and_parts}
+use Rattle.std.proofs.lemmas.Bool.Decides.{leb_tells, nat_tests}
+use Rattle.std.proofs.lemmas.List.{take-append-drop}
+use Rattle.std.proofs.lemmas.List.Elements.{All-drop}
+use Rattle.std.proofs.lemmas.List.Sums.{sum_by-cons}
+use Rattle.std.proofs.lemmas.Option.{none-some, slice_get-map, slice_get_past}
+use Rattle.kmn_base.specs.declared.items.Item.{Item}
+use Rattle.kmn_base.specs.declared.keys.KeyPress.{KeyPress}
+use Rattle.kmn_base.specs.Lists.{is_mark, without_last}
+use Rattle.kmn_base.specs.Rising.{is_among}
+use Rattle.rule_model.specs.declared.event_state.Catch.{Catch}
+use Rattle.rule_model.specs.declared.event_state.EventState.{EventState}
+use Rattle.rule_model.specs.declared.tables.Out.{Out}
+use Rattle.rule_model.specs.declared.tables.Out.TheVariants as output
+use Rattle.rule_model.specs.declared.tables.Rule.{Rule}
+use Rattle.rule_model.specs.declared.tables.Group.{Group}
+use Rattle.rule_model.specs.declared.tables.Tables.{Tables}
+use Rattle.rule_model.specs.Keyboard.{Ref, Numbered, GroupMeaning}
+use Rattle.rule_model.specs.Content.{content}
+use Rattle.rule_model.specs.Act.{act, put_item, put_items}
+use Rattle.rule_model.specs.Choose.{Chosen, first}
+use Rattle.rule_model.specs.Hold.{holds_with}
+use Rattle.rule_model.specs.Enter.{nothing, act_if_any, do_chosen, do_unmatched, do_group, in_group, enter_group}
+use Rattle.rule_model.specs.Tab.{output_if_any, tab_group, tab_output, tab_rule, tab_options}
+use Rattle.kmx_format.specs.Playable.{IsPlayable, IsPlayableGroup}
+use Rattle.kmx_format.specs.Writable.{IsWritableRule, IsWritableMatchOutput}
+use Rattle.core_meaning.specs.Events.{CoreVersion, LastMatch, CoreEvent, units, last_items, core_back}
+use Rattle.core_meaning.specs.Keys.{core_char}
+use Rattle.core_meaning.specs.Laws.{IsCommonPress}
+use Rattle.core_meaning.specs.Contexts.{Tried, Taken, core_choose, core_holds, core_takes, compared_count}
+use Rattle.core_meaning.specs.Outputs.{core_act, core_act_alone, core_done, core_output, end_output, skipped_count, then_match, with_match}
+use Rattle.core_meaning.specs.Steps.{core_default, core_enter, core_in_group, core_unmatched, do_taken_with, one_more_entered, put_press, taken_in, with_places}
+use Rattle.core_constructs.specs.declared.construct.Construct.TheVariants as construct
+use Rattle.core_constructs.specs.declared.construct.GroupConstruct.TheVariants as group_construct
+use Rattle.core_constructs.specs.declared.facts.Facts.{Facts}
+use Rattle.core_constructs.specs.declared.facts.GroupFacts.{GroupFacts}
+use Rattle.core_constructs.specs.Changes.{changes_option, changes_within, saves_early}
+use Rattle.core_constructs.specs.Contexts.{asks_from_option, asks_layer, counts_differently, has_late_nul}
+use Rattle.core_constructs.specs.Empty.{fits_nomatch, from_empty, is_nomatch_for, same_item, same_outputs}
+use Rattle.core_constructs.specs.Facts.{facts_of}
+use Rattle.core_constructs.specs.Marks.{group_items, live_items, rule_items}
+use Rattle.core_constructs.specs.Outputs.{acts, acts_after_use, does_something, ends, is_use, live, sets_from_option, sets_layer}
+use Rattle.core_constructs.specs.Queued.{effects_within, entered_effects, group_effects, item_effects}
+use Rattle.core_constructs.specs.Reached.{entered, group_entered, played, reached_within}
+use Rattle.core_constructs.specs.Records.{has_construct}
+use Rattle.core_constructs.specs.Spent.{begins_with_context, spent_after, spent_by, spent_within}
+use Rattle.core_constructs.specs.Told.{group_has}
+use Rattle.core_constructs.specs.Widths.{width_in, with_context}
+use Rattle.core_constructs.proofs.Live.{played_ended, played_on}
+use Rattle.core_laws.specs.Laws.{known_at}
+use Rattle.core_laws.proofs.Alike.{stores_in, core_of, own_of, IsAlike, IsGoing, going_more}
+use Rattle.core_laws.proofs.Budget.{Chain, Enters, chain_of, entered_most, nomatch_fits, number_at, rule_fits, spent_next, spent_size, spent_up}
+use Rattle.core_laws.proofs.Caught.{AreCaught, caught_count, items_in, units_most}
+use Rattle.core_laws.proofs.Choice.{IsUntold, AreFairRules, ChosenAlike, NoneChosen, BothChosen, HereChosen, chosen_alike, plainly}
+use Rattle.core_laws.proofs.Compared.{nul_of, compared_matched}
+use Rattle.core_laws.proofs.Defaults.{keys_alike}
+use Rattle.core_laws.proofs.Depths.{early_below, enters_match, enters_nomatch, enters_output, items_unchanged, none_of_all, reached_next, reached_up}
+use Rattle.core_laws.proofs.Holds.{CatchesAlike}
+use Rattle.core_laws.proofs.Items.{AllOf, all_at, all_first, all_joined, all_second, IsPlainItem, alone_matched, live_fair, matched_fair}
+use Rattle.core_laws.proofs.Marks.{Unmarked, unmarked_without}
+use Rattle.core_laws.proofs.Outputs.{AreFairItems, EntersAlike, Ends, GoesOn, Over, IsReady, alike_remembering, alone_alike, behind, ends_alike, if_any, output_alike, quiet_here, stopped_stays, then_alike}
+use Rattle.core_laws.proofs.Rising.{among_left}
+use Rattle.core_laws.proofs.Saves.{same_saves}
+use Rattle.core_laws.proofs.Whole.{IsWhole, all_listed, puts_of, values_hold, widths_hold}
+use Rattle.core_laws.proofs.Windows.{Seen, back_is, backed, seen_back, seen_capped, seen_more, without_none}
+
+true_false : true ≡ false → ⊥
+true_false e = grind arith
+
+false_true : false ≡ true → ⊥
+false_true e = grind arith
+
+module _ (version : CoreVersion) (tables : Tables) (playable : IsPlayable tables) (whole : IsWhole tables) (press : KeyPress) (common : IsCommonPress press) where
+  abbrev facts : Facts
+  facts = facts_of tables
+
+  abbrev puts : List ℕ
+  puts = puts_of tables
+
+  abbrev spent_at : ℕ → ℕ → ℕ
+  spent_at k g = number_at (spent_within k facts tables.groups) g
+
+  abbrev effects_at : ℕ → ℕ → ℕ
+  effects_at d g = number_at (effects_within d tables.groups) g
+
+  abbrev enter_there : ℕ → ℕ → CoreEvent → CoreEvent
+  enter_there d = core_enter d (core_of version tables) press
+
+  abbrev enter_here : ℕ → Ref → EventState → EventState
+  enter_here d = enter_group d (own_of tables) press
+
+  entered_alike : (c : CoreEvent) (s : EventState) → IsAlike tables puts c s → IsAlike tables puts (one_more_entered c) (record s { entered = s.entered + 1 })
+  entered_alike c s alike =
+      record {
+        left = alike.left;
+        current = alike.current;
+        saved = same_saves (stores_in tables) c.to_save (record (c.event) { entered = c.event.entered + 1 }) c.event refl refl ∙ alike.saved;
+        pass = alike.pass;
+        plain = alike.plain;
+        sound = alike.sound;
+      }
+
+  -- the group of a number in this product
+  own_group : (g : ℕ) (o : Option Group) → slice_get tables.groups g ≡ o → slice_get (map (tab_group tables.stores) tables.groups) g ≡ option_map (tab_group tables.stores) o
+  own_group g o listed = slice_get-map (tab_group tables.stores) tables.groups g ∙ ap (option_map (tab_group tables.stores)) listed
+
+  -- a group that the tables don't have does nothing
+  missing_alike : (d g : ℕ) (c : CoreEvent) (s : EventState) → slice_get tables.groups g ≡ None → IsAlike tables puts c s → IsAlike tables puts (enter_there d g c) (enter_here d (Numbered g) s)
+  missing_alike zero g c s none alike = record { left = alike.left; current = alike.current; saved = alike.saved; pass = alike.pass; plain = alike.plain; sound = alike.sound }
+  missing_alike (suc d) g c s none alike =
+      subst (λ (o : Option Group). IsAlike tables puts (core_in_group (core_of version tables) (enter_there d) press o (one_more_entered c)) (in_group (own_of tables) (enter_here d) press (slice_get (map (tab_group tables.stores) tables.groups) g) (record s { entered = s.entered + 1 }))) (sym none)
+      (subst (λ (o : Option GroupMeaning). IsAlike tables puts (one_more_entered c) (in_group (own_of tables) (enter_here d) press o (record s { entered = s.entered + 1 }))) (sym (own_group g None none))
+      (entered_alike c s alike))
+
+  -- groups that are entered with less depth do the same in both
+  abbrev pub EntersWithin : (d k : ℕ) → Type 0
+  EntersWithin d k =
+      (h : ℕ) → is_among h (reached_within k tables.groups tables.start_unicode) ≡ true → h < length tables.groups → (used : ℕ) → used + effects_at d h ≤ 1024 → (c : CoreEvent) (s : EventState) (known : LastMatch)
+      → IsGoing tables puts (changes_within d tables.groups) (spent_at k h) used (output.Enter h ∷ []) known c s → IsAlike tables puts (enter_there d h c) (enter_here d (Numbered h) s)
+
+  module _ (d k : ℕ) (depth : k + (d + 1) ≡ 50) (inner : EntersWithin d (k + 1)) (g : ℕ) (group : Group) (among : is_among g (reached_within k tables.groups tables.start_unicode) ≡ true) (listed : slice_get tables.groups g ≡ Some group) where
+    abbrev known : GroupFacts
+    known = known_at tables g group
+
+    abbrev changes : List (List ℕ)
+    changes = changes_within d tables.groups
+
+    reached : is_among g facts.reached ≡ true
+    reached = ap (λ (n : ℕ). is_among g (reached_within n tables.groups tables.start_unicode)) (sym depth) ∙ reached_up (d + 1) k tables.groups tables.start_unicode g among
+
+    spent_known : spent_at k g ≤ known.spent
+    spent_known = subst (λ (n : ℕ). spent_at k g ≤ number_at (spent_within n facts tables.groups) g) depth ((spent_up (d + 1) k facts tables.groups).more g)
+
+    enters : Enters facts (spent_at k g) group (spent_within (k + 1) facts tables.groups)
+    enters = spent_next k facts tables.groups g group reached listed
+
+    group_playable : IsPlayableGroup (length tables.stores) (length tables.groups) group
+    group_playable = all_listed (IsPlayableGroup (length tables.stores) (length tables.groups)) tables.groups g group playable.groups listed
+
+    plain_items : AllOf (IsPlainItem tables.stores puts) (group_items group)
+    plain_items = all_at (IsPlainItem tables.stores puts) group_items tables.groups g group whole.plain listed
+
+    -- ---- parts of what all items of the group have
+
+    output_part : (P : Out → Type 0) → AllOf P (group_items group) → (place : ℕ) (rule : Rule) → slice_get group.rules place ≡ Some rule → AllOf P (live rule.output)
+    output_part P all place rule at =
+        all_at P rule_items group.rules place rule (all_first P (flat_map rule_items group.rules) (live group.on_match) (all_first P (flat_map rule_items group.rules ++ live group.on_match) (live group.on_nomatch) all)) at
+
+    match_part : (P : Out → Type 0) → AllOf P (group_items group) → AllOf P (live group.on_match)
+    match_part P all = all_second P (flat_map rule_items group.rules) (live group.on_match) (all_first P (flat_map rule_items group.rules ++ live group.on_match) (live group.on_nomatch) all)
+
+    nomatch_part : (P : Out → Type 0) → AllOf P (group_items group) → AllOf P (live group.on_nomatch)
+    nomatch_part P all = all_second P (flat_map rule_items group.rules ++ live group.on_match) (live group.on_nomatch) all
+
+    -- a group that is entered with at most these units and effects
+    group_enters : (most least : ℕ) (h : ℕ) → is_among h (group_entered group) ≡ true → (h < length tables.groups → most ≤ spent_at (k + 1) h) → least + effects_at d h ≤ 1024
+        → (c : CoreEvent) (s : EventState) (last : LastMatch) → IsGoing tables puts changes most least (output.Enter h ∷ []) last c s → IsAlike tables puts (enter_there d h c) (enter_here d (Numbered h) s)
+    group_enters most least h enters_h bound room c s last going = by_number (nat_lt h (length tables.groups)) refl
+      where
+        by_number : (b : Bool) → nat_lt h (length tables.groups) ≡ b → IsAlike tables puts (enter_there d h c) (enter_here d (Numbered h) s)
+        by_number true told =
+            inner h (reached_next k tables.groups tables.start_unicode g h group among listed enters_h) less least room c s last
+            (going_more tables puts changes most (spent_at (k + 1) h) least least (output.Enter h ∷ []) last c s (bound less) (omega arith) going)
+          where
+            less_of : (n m : ℕ) → nat_lt n m ≡ true → n < m
+            less_of n m e = grind (arith, nat_tests)
+
+            less : h < length tables.groups
+            less = less_of h (length tables.groups) told
+        by_number false told = missing_alike d h c s (slice_get_past tables.groups h (more_of h (length tables.groups) told)) going.alike
+          where
+            more_of : (n m : ℕ) → nat_lt n m ≡ false → m ≤ n
+            more_of n m e = grind (arith, nat_tests)
+
+    inside : (h : ℕ) → h < length tables.groups → h < length (spent_within (k + 1) facts tables.groups)
+    inside h less = omega (arith, less, spent_size (k + 1) facts tables.groups)
+
+    -- ---- the match output and the nomatch output
+
+    module _ (queued : ℕ) (chain : Chain queued d tables.groups group) (last : LastMatch) where
+      abbrev Going : (spent used : ℕ) → List Out → CoreEvent → EventState → Type 0
+      Going spent used rest c s = IsGoing tables puts changes spent used rest last c s
+
+      match_told : (told : Bool) → told ≡ false → told ≡ false
+      match_told told e = e
+
+      own_values : (list_any (sets_from_option facts.options) (live group.on_match) ≡ false) × (list_any (sets_from_option facts.options) (live group.on_nomatch) ≡ false)
+      own_values = or_parts (list_any (sets_from_option facts.options) (live group.on_match)) (list_any (sets_from_option facts.options) (live group.on_nomatch)) (whole.values g group (reached, listed))
+
+      own_layers : (list_any sets_layer (live group.on_match) ≡ false) × (list_any sets_layer (live group.on_nomatch) ≡ false)
+      own_layers = or_parts (list_any sets_layer (live group.on_match)) (list_any sets_layer (live group.on_nomatch)) (whole.groups g group (reached, listed) group_construct.Layer)
+
+      own_uses : (acts_after_use (live group.on_match) ≡ false) × (acts_after_use (live group.on_nomatch) ≡ false)
+      own_uses = or_parts (acts_after_use (live group.on_match)) (acts_after_use (live group.on_nomatch)) (whole.groups g group (reached, listed) group_construct.Use)
+
+      own_saves : (saves_early facts.changes (live group.on_match) ≡ false) × (saves_early facts.changes (live group.on_nomatch) ≡ false)
+      own_saves = or_parts (saves_early facts.changes (live group.on_match)) (saves_early facts.changes (live group.on_nomatch)) (whole.groups g group (reached, listed) group_construct.Save)
+
+      early_here : (items : List Out) → saves_early facts.changes items ≡ false → saves_early changes items ≡ false
+      early_here items none = early_below (k + 1) d tables.groups items (ap (λ (n : ℕ). saves_early (changes_within n tables.groups) items) all_depth ∙ none)
+        where
+          all_depth : d + (k + 1) ≡ 50
+          all_depth = omega (arith, depth)
+
+      alone_fair : (outputs : List Out) → AllOf (IsPlainItem tables.stores puts) (live outputs) → IsWritableMatchOutput (length tables.stores) (length tables.groups) outputs → list_any (sets_from_option facts.options) (live outputs) ≡ false → list_any sets_layer (live outputs) ≡ false
+          → AreFairItems tables puts [] nothing last (live outputs)
+      alone_fair outputs plain writable value layer =
+          live_fair tables puts whole.clean whole.alone [] nothing last outputs plain writable.itself.stores value layer (alone_matched tables puts whole.clean whole.alone last outputs writable.no_context)
+
+      match_ready : (place : ℕ) (rule : Rule) → slice_get group.rules place ≡ Some rule → ends rule.output ≡ false → (used : ℕ) (few : used + sum_by (item_effects 0) (live group.on_match) ≤ 1024) → used + sum_by (item_effects 0) (live group.on_match) ≤ queued + group_effects group
+          → IsReady version tables puts (enter_there d) (enter_here d) changes [] nothing last (spent_after [] (live group.on_match) (spent_by facts rule.context (live rule.output) (spent_at k g))) (used + sum_by (item_effects 0) (live group.on_match)) few
+          (spent_by facts rule.context (live rule.output) (spent_at k g)) used group.on_match []
+      match_ready place rule at runs_on used few room =
+          record {
+            quiet = own_uses.0;
+            fair = alone_fair group.on_match (match_part (IsPlainItem tables.stores puts) plain_items) group_playable.on_match own_values.0 own_layers.0;
+            early = ap (saves_early changes) (append-nil (live group.on_match)) ∙ early_here (live group.on_match) own_saves.0;
+            bound = omega arith;
+            room = omega arith;
+            enters = λ h in_match c s recalled.
+                group_enters (spent_after [] (live group.on_match) (spent_by facts rule.context (live rule.output) (spent_at k g))) (used + sum_by (item_effects 0) (live group.on_match)) h (enters_match group place rule h at runs_on in_match)
+                (λ less. enters.by_match place rule h at runs_on in_match (inside h less))
+                (omega (arith, room, chain.fits, entered_most (effects_within d tables.groups) chain.most h (live group.on_match) (match_part (λ (item : Out). entered_effects (effects_within d tables.groups) item ≤ chain.most) chain.entered) in_match)) c s recalled;
+          }
+
+      nomatch_room : queued + sum_by (item_effects 0) (live group.on_nomatch) ≤ queued + group_effects group
+      nomatch_room = (nomatch_fits group queued (omega (arith, chain.fits))).0
+
+      nomatch_few : queued + sum_by (item_effects 0) (live group.on_nomatch) ≤ 1024
+      nomatch_few = omega (arith, nomatch_room, chain.fits)
+
+      nomatch_ready : IsReady version tables puts (enter_there d) (enter_here d) changes [] nothing last (spent_after [] (live group.on_nomatch) (spent_at k g)) (queued + sum_by (item_effects 0) (live group.on_nomatch)) nomatch_few (spent_at k g) queued group.on_nomatch []
+      nomatch_ready =
+          record {
+            quiet = own_uses.1;
+            fair = alone_fair group.on_nomatch (nomatch_part (IsPlainItem tables.stores puts) plain_items) group_playable.on_nomatch own_values.1 own_layers.1;
+            early = ap (saves_early changes) (append-nil (live group.on_nomatch)) ∙ early_here (live group.on_nomatch) own_saves.1;
+            bound = omega arith;
+            room = omega arith;
+            enters = λ h in_nomatch c s recalled.
+                group_enters (spent_after [] (live group.on_nomatch) (spent_at k g)) (queued + sum_by (item_effects 0) (live group.on_nomatch)) h (enters_nomatch group h in_nomatch)
+                (λ less. enters.by_nomatch h in_nomatch (inside h less))
+                (omega (arith, nomatch_room, chain.fits, entered_most (effects_within d tables.groups) chain.most h (live group.on_nomatch) (nomatch_part (λ (item : Out). entered_effects (effects_within d tables.groups) item ≤ chain.most) chain.entered) in_nomatch)) c s recalled;
+          }
+
+      -- however the nomatch output ends
+      nomatch_ends : (c : CoreEvent) (s : EventState) → Going (spent_at k g) queued (live group.on_nomatch) c s
+          → Ends version tables puts (enter_there d) (enter_here d) changes [] nothing last (spent_after [] (live group.on_nomatch) (spent_at k g)) (queued + sum_by (item_effects 0) (live group.on_nomatch)) nomatch_few
+          (spent_after [] (live group.on_nomatch) (spent_at k g)) (queued + sum_by (item_effects 0) (live group.on_nomatch)) group.on_nomatch []
+          (core_act (core_of version tables) (enter_there d) group.on_nomatch false c) (act (own_of tables) (enter_here d) nothing (map (tab_output tables.stores) group.on_nomatch) s)
+      nomatch_ends c s going =
+          output_alike version tables puts (enter_there d) (enter_here d) changes [] nothing last (spent_after [] (live group.on_nomatch) (spent_at k g)) (queued + sum_by (item_effects 0) (live group.on_nomatch)) nomatch_few group.on_nomatch [] (spent_at k g) queued c s nomatch_ready
+          (subst (λ (items : List Out). Going (spent_at k g) queued items c s) (sym (append-nil (live group.on_nomatch))) going)
+
+      nomatch_alike : (c : CoreEvent) (s : EventState) → Going (spent_at k g) queued (live group.on_nomatch) c s
+          → IsAlike tables puts (core_act_alone (core_of version tables) (enter_there d) group.on_nomatch c) (act (own_of tables) (enter_here d) nothing (map (tab_output tables.stores) group.on_nomatch) s)
+      nomatch_alike c s going =
+          ends_alike version tables puts (enter_there d) (enter_here d) changes [] nothing last (spent_after [] (live group.on_nomatch) (spent_at k g)) (queued + sum_by (item_effects 0) (live group.on_nomatch)) nomatch_few
+          (spent_after [] (live group.on_nomatch) (spent_at k g)) (queued + sum_by (item_effects 0) (live group.on_nomatch)) group.on_nomatch [] (core_act (core_of version tables) (enter_there d) group.on_nomatch false c)
+          (act (own_of tables) (enter_here d) nothing (map (tab_output tables.stores) group.on_nomatch) s) (nomatch_ends c s going)
