@@ -39,7 +39,7 @@ last_deleted items plain =
     ∙ no_end_marks (without_last 1 items) (unmarked_without 1 items plain)
 
 characters_count : (items : List Item) → Unmarked items → length (characters items) ≡ length items
-characters_count items plain = sym (length-map item.Char (characters items)) ∙ ap length (map-characters items plain)
+characters_count items plain = sym (length-map (characters items) item.Char) ∙ ap length (map-characters items plain)
 
 module _ (version : CoreVersion) (tables : Tables) (puts : List ℕ) (changes : List (List ℕ)) (last : LastMatch) (press : KeyPress) (spent used : ℕ) (near : spent ≤ 61) (room : used + 1 ≤ 1024) (rest : List Out)
   (c : CoreEvent) (s : EventState) (going : IsGoing tables puts changes spent used rest last c s) (plain_window : Unmarked c.window) where

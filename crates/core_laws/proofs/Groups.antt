@@ -41,10 +41,10 @@ use Rattle.core_constructs.specs.declared.facts.Facts.{Facts}
 use Rattle.core_constructs.specs.declared.facts.GroupFacts.{GroupFacts}
 use Rattle.core_constructs.specs.Changes.{changes_option, changes_within, saves_early}
 use Rattle.core_constructs.specs.Contexts.{asks_from_option, asks_layer, counts_differently, has_late_nul}
-use Rattle.core_constructs.specs.Empty.{fits_nomatch, from_empty, is_nomatch_for, same_item, same_outputs}
+use Rattle.core_constructs.specs.Empty.{fits_nomatch, has_empty_context, is_nomatch_for, same_outputs}
 use Rattle.core_constructs.specs.Facts.{facts_of}
 use Rattle.core_constructs.specs.Marks.{group_items, live_items, rule_items}
-use Rattle.core_constructs.specs.Outputs.{acts, acts_after_use, does_something, ends, is_use, live, sets_from_option, sets_layer}
+use Rattle.core_constructs.specs.Outputs.{acts, acts_after_use, does_something, ends, is_use, live, puts_match, sets_from_option, sets_layer}
 use Rattle.core_constructs.specs.Queued.{effects_within, entered_effects, group_effects, item_effects}
 use Rattle.core_constructs.specs.Reached.{entered, group_entered, played, reached_within}
 use Rattle.core_constructs.specs.Records.{has_construct}
@@ -65,6 +65,7 @@ use Rattle.core_laws.proofs.Items.{AllOf, all_at, all_first, all_joined, all_sec
 use Rattle.core_laws.proofs.Marks.{Unmarked, unmarked_without}
 use Rattle.core_laws.proofs.Outputs.{AreFairItems, EntersAlike, Ends, GoesOn, Over, IsReady, alike_remembering, alone_alike, behind, ends_alike, if_any, output_alike, quiet_here, stopped_stays, then_alike}
 use Rattle.core_laws.proofs.Rising.{among_left}
+use Rattle.core_laws.proofs.SameOutputs.{equal_outputs}
 use Rattle.core_laws.proofs.Saves.{same_saves}
 use Rattle.core_laws.proofs.Whole.{IsWhole, all_listed, puts_of, values_hold, widths_hold}
 use Rattle.core_laws.proofs.Windows.{Seen, back_is, backed, seen_back, seen_capped, seen_more, without_none}
@@ -263,3 +264,157 @@ module _ (version : CoreVersion) (tables : Tables) (playable : IsPlayable tables
           ends_alike version tables puts (enter_there d) (enter_here d) changes [] nothing last (spent_after [] (live group.on_nomatch) (spent_at k g)) (queued + sum_by (item_effects 0) (live group.on_nomatch)) nomatch_few
           (spent_after [] (live group.on_nomatch) (spent_at k g)) (queued + sum_by (item_effects 0) (live group.on_nomatch)) group.on_nomatch [] (core_act (core_of version tables) (enter_there d) group.on_nomatch false c)
           (act (own_of tables) (enter_here d) nothing (map (tab_output tables.stores) group.on_nomatch) s) (nomatch_ends c s going)
+
+    -- ---- an event in the group
+
+    module _ (queued : ℕ) (chain : Chain queued d tables.groups group) (c : CoreEvent) (s : EventState) (going : IsGoing tables puts changes (spent_at k g) queued [] c.last c s)
+      (pending : (n : ℕ) → is_among n c.to_save ≡ true → AllOf (λ (item : Out). changes_option changes n item ≡ false) (group_items group)) where
+
+      with_rest : (rest : List Out) → ((n : ℕ) → is_among n c.to_save ≡ true → list_any (changes_option changes n) rest ≡ false) → IsGoing tables puts changes (spent_at k g) queued rest c.last c s
+      with_rest rest unchanged =
+          record {
+            alike = going.alike;
+            going = going.going;
+            entered = going.entered;
+            seen = going.seen;
+            queued = going.queued;
+            put = going.put;
+            remembered = going.remembered;
+            noted = going.noted;
+            pending = unchanged;
+          }
+
+      nomatch_going : IsGoing tables puts changes (spent_at k g) queued (live group.on_nomatch) c.last c s
+      nomatch_going = with_rest (live group.on_nomatch) (λ n noted. none_of_all (changes_option changes n) (live group.on_nomatch) (nomatch_part (λ (item : Out). changes_option changes n item ≡ false) (pending n noted)))
+
+      plain_window : Unmarked c.window
+      plain_window =
+          subst Unmarked (ap (λ (xs : List Item). drop (length going.seen.before) xs) (sym going.alike.left ∙ going.seen.parts) ∙ drop_front going.seen.before c.window)
+          (All-drop (λ item. is_mark item ≡ false) (length going.seen.before) s.left going.alike.plain)
+        where
+          drop_front : (xs ys : List Item) → drop (length xs) (xs ++ ys) ≡ ys
+          drop_front [] ys = refl
+          drop_front (x ∷ xs) ys = drop_front xs ys
+
+      -- ---- no record is used
+
+      abbrev core_none : Bool → List Out → CoreEvent
+      core_none uses nomatch =
+          (if uses && not (is_some (core_char press)) then core_default press
+          else if not (nat_eq (length nomatch) 0) then core_act_alone (core_of version tables) (enter_there d) nomatch
+          else if uses then put_press (core_char press)
+          else (λ c. c))
+          c
+
+      abbrev own_none : Bool → List Out → EventState
+      own_none uses nomatch = do_unmatched (own_of tables) (enter_here d) press (output_if_any (map (tab_output tables.stores) nomatch)) uses s
+
+      no_items : (items : List Out) → nat_eq (length items) 0 ≡ true → items ≡ []
+      no_items [] none = refl
+      no_items (x ∷ items) none = absurd (none_left (length (x ∷ items)) none (omega arith))
+        where
+          none_left : (n : ℕ) → nat_eq n 0 ≡ true → 0 < n → ⊥
+          none_left n e less = grind (arith, nat_tests)
+
+      -- a nomatch output that has items acts
+      some_nomatch : (nomatch : List Out) (uses : Bool) → nat_eq (length nomatch) 0 ≡ false → own_none uses nomatch ≡ act (own_of tables) (enter_here d) nothing (map (tab_output tables.stores) nomatch) s
+      some_nomatch [] uses some = absurd (true_false some)
+      some_nomatch (x ∷ nomatch) uses some = refl
+
+      keys_none : group.using_keys ≡ true → IsAlike tables puts (core_none true group.on_nomatch) (own_none true group.on_nomatch)
+      keys_none uses =
+          subst (λ (nomatch : List Out). IsAlike tables puts (core_none true nomatch) (own_none true nomatch)) (sym (no_items group.on_nomatch (by_test (nat_eq (length group.on_nomatch) 0) told)))
+          (keys_alike version tables puts changes c.last press (spent_at k g) queued (omega (arith, spent_known, near)) (omega (arith, (nomatch_fits group queued (omega (arith, chain.fits))).1, chain.fits)) [] c s going plain_window common whole.dictionary)
+        where
+          told : not (nat_eq (length group.on_nomatch) 0) ≡ false
+          told = (λ i. sym uses i && not (nat_eq (length group.on_nomatch) 0)) ∙ whole.groups g group (reached, listed) group_construct.Nomatch
+
+          by_test : (b : Bool) → not b ≡ false → b ≡ true
+          by_test true told = refl
+          by_test false told = absurd (true_false told)
+
+          near : known.spent ≤ 61
+          near = at_most known.spent ((λ i. sym uses i && nat_lt 61 known.spent) ∙ whole.characters g group (reached, listed))
+            where
+              at_most : (n : ℕ) → nat_lt 61 n ≡ false → n ≤ 61
+              at_most n e = grind (arith, nat_tests)
+
+      alone_none : IsAlike tables puts (core_none false group.on_nomatch) (own_none false group.on_nomatch)
+      alone_none = by_test (nat_eq (length group.on_nomatch) 0) refl
+        where
+          by_test : (b : Bool) → nat_eq (length group.on_nomatch) 0 ≡ b → IsAlike tables puts ((if not b then core_act_alone (core_of version tables) (enter_there d) group.on_nomatch else (λ c. c)) c) (own_none false group.on_nomatch)
+          by_test true none = subst (λ (nomatch : List Out). IsAlike tables puts c (own_none false nomatch)) (sym (no_items group.on_nomatch none)) going.alike
+          by_test false some =
+              subst (λ (t : EventState). IsAlike tables puts (core_act_alone (core_of version tables) (enter_there d) group.on_nomatch c) t) (sym (some_nomatch group.on_nomatch false some))
+              (nomatch_alike queued chain c.last c s nomatch_going)
+
+      none_alike : IsAlike tables puts (core_unmatched (core_of version tables) (enter_there d) press group c) (own_none group.using_keys group.on_nomatch)
+      none_alike = by_keys group.using_keys refl
+        where
+          by_keys : (b : Bool) → group.using_keys ≡ b → IsAlike tables puts (core_none b group.on_nomatch) (own_none b group.on_nomatch)
+          by_keys true uses = keys_none uses
+          by_keys false uses = alone_none
+
+      -- ---- a record with an empty context is used here, and the nomatch output there
+
+      own_chosen : Chosen → EventState
+      own_chosen chosen = do_chosen (own_of tables) (enter_here d) (tab_group tables.stores group) chosen s
+
+      empty_alike : (rule : Rule) (rest : List Rule) → group.using_keys ≡ false → is_nomatch_for group (rule ∷ rest) ≡ true
+          → IsAlike tables puts (core_unmatched (core_of version tables) (enter_there d) press group c) (own_chosen (tab_rule tables.stores group.using_keys rule, nothing))
+      unfolding own_chosen
+      empty_alike rule rest uses converted =
+          subst (λ (b : Bool). IsAlike tables puts (core_none b group.on_nomatch) (own_chosen (tab_rule tables.stores group.using_keys rule, nothing))) (sym uses)
+          (subst (λ (b : Bool). IsAlike tables puts ((if not b then core_act_alone (core_of version tables) (enter_there d) group.on_nomatch else (λ c. c)) c) (own_chosen (tab_rule tables.stores group.using_keys rule, nothing))) (sym some)
+          (subst (λ (t : EventState). IsAlike tables puts (core_act_alone (core_of version tables) (enter_there d) group.on_nomatch c) t) (sym (if_any tables (enter_here d) group.on_match after))
+          (subst (λ (t : EventState). IsAlike tables puts (core_act_alone (core_of version tables) (enter_there d) group.on_nomatch c) (act (own_of tables) (enter_here d) nothing (map (tab_output tables.stores) group.on_match) t)) (sym after_is)
+          (by_end (nomatch_ends queued chain c.last c s nomatch_going)))))
+        where
+          tests : ((list_all has_empty_context rest && fits_nomatch group rule.output) ≡ true) × (same_outputs group.on_nomatch rule.output ≡ true)
+          tests = and_parts (list_all has_empty_context rest && fits_nomatch group rule.output) (same_outputs group.on_nomatch rule.output) converted
+
+          fits : fits_nomatch group rule.output ≡ true
+          fits = (and_parts (list_all has_empty_context rest) (fits_nomatch group rule.output) tests.0).1
+
+          same : group.on_nomatch ≡ rule.output
+          same = equal_outputs group.on_nomatch rule.output tests.1
+
+          parts : ((not (nat_eq (length rule.output) 0) && not (list_any puts_match rule.output)) ≡ true) × ((not (acts group.on_match) || ends rule.output) ≡ true)
+          parts = and_parts (not (nat_eq (length rule.output) 0) && not (list_any puts_match rule.output)) (not (acts group.on_match) || ends rule.output) fits
+
+          some : nat_eq (length group.on_nomatch) 0 ≡ false
+          some = by_test (nat_eq (length rule.output) 0) (ap (λ (items : List Out). nat_eq (length items) 0) same) (and_parts (not (nat_eq (length rule.output) 0)) (not (list_any puts_match rule.output)) parts.0).0
+            where
+              by_test : (b : Bool) → nat_eq (length group.on_nomatch) 0 ≡ b → not b ≡ true → nat_eq (length group.on_nomatch) 0 ≡ false
+              by_test false is told = is
+              by_test true is told = absurd (false_true told)
+
+          after : EventState
+          after = act (own_of tables) (enter_here d) nothing (map (tab_output tables.stores) rule.output) (record s { left = without_last 0 s.left })
+
+          after_is : after ≡ act (own_of tables) (enter_here d) nothing (map (tab_output tables.stores) group.on_nomatch) s
+          after_is = λ i. act (own_of tables) (enter_here d) nothing (map (tab_output tables.stores) (sym same i)) (record s { left = without_none s.left i })
+
+          abbrev there : CoreEvent
+          there = core_act_alone (core_of version tables) (enter_there d) group.on_nomatch c
+
+          by_match : (t : EventState) → IsAlike tables puts there t → (ends group.on_nomatch ≡ true → t.stopped ≡ true) → IsAlike tables puts there (act (own_of tables) (enter_here d) nothing (map (tab_output tables.stores) group.on_match) t)
+          by_match t alike stops = by_acts (acts group.on_match) refl
+            where
+              by_acts : (b : Bool) → acts group.on_match ≡ b → IsAlike tables puts there (act (own_of tables) (enter_here d) nothing (map (tab_output tables.stores) group.on_match) t)
+              by_acts false quiet = (quiet_here version tables puts (enter_there d) (enter_here d) nothing group.on_match quiet there t alike).alike
+              by_acts true loud =
+                  subst (λ (u : EventState). IsAlike tables puts there u)
+                  (sym (stopped_stays version tables puts (enter_there d) (enter_here d) nothing group.on_match t (stops (ap ends same ∙ ended (acts group.on_match) (ends rule.output) parts.1 loud)))) alike
+                where
+                  ended : (a b : Bool) → (not a || b) ≡ true → a ≡ true → b ≡ true
+                  ended true b told loud = told
+                  ended false b told loud = absurd (false_true loud)
+
+          by_end : Ends version tables puts (enter_there d) (enter_here d) changes [] nothing c.last (spent_after [] (live group.on_nomatch) (spent_at k g)) (queued + sum_by (item_effects 0) (live group.on_nomatch)) (nomatch_few queued chain c.last)
+              (spent_after [] (live group.on_nomatch) (spent_at k g)) (queued + sum_by (item_effects 0) (live group.on_nomatch)) group.on_nomatch []
+              (core_act (core_of version tables) (enter_there d) group.on_nomatch false c) (act (own_of tables) (enter_here d) nothing (map (tab_output tables.stores) group.on_nomatch) s)
+              → IsAlike tables puts there (act (own_of tables) (enter_here d) nothing (map (tab_output tables.stores) group.on_match) (act (own_of tables) (enter_here d) nothing (map (tab_output tables.stores) group.on_nomatch) s))
+          by_end (GoesOn alone runs_on on) = by_match (act (own_of tables) (enter_here d) nothing (map (tab_output tables.stores) group.on_nomatch) s) on.alike (λ told. absurd (true_false (sym told ∙ runs_on)))
+          by_end (Over alone alike (inl stopped)) = by_match (act (own_of tables) (enter_here d) nothing (map (tab_output tables.stores) group.on_nomatch) s) alike (λ told. stopped)
+          by_end (Over alone alike (inr used)) = by_match (act (own_of tables) (enter_here d) nothing (map (tab_output tables.stores) group.on_nomatch) s) alike (λ told. absurd (true_false (sym told ∙ used.1)))

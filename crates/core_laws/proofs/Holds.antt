@@ -70,7 +70,7 @@ HeldAlike facts window context (Some catches) tried = CatchesAlike facts window 
 -- ---- ends
 
 -- the last n items of the text are those of the window, if it has as many
-last_of_text : (n : ℕ) (before window : List Item) → n ≤ length window → drop (length (before ++ window) - n) (before ++ window) ≡ last_items n window
+pub last_of_text : (n : ℕ) (before window : List Item) → n ≤ length window → drop (length (before ++ window) - n) (before ++ window) ≡ last_items n window
 last_of_text n before window fits =
     ap (λ (m : ℕ). drop m (before ++ window)) (ap (λ (m : ℕ). m - n) (length-append before window) ∙ apart (length before) (length window) fits)
     ∙ drop-append-add before window (length window - n)

@@ -13,6 +13,7 @@ pub mod Items
 pub mod Marks
 pub mod Outputs
 pub mod Rising
+pub mod SameOutputs
 pub mod Saves
 pub mod Values
 pub mod Whole
