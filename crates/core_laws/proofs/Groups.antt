@@ -1,13 +1,13 @@
 -- A group of which nothing is told does the same in both engines, if the groups that it enters do.
-use Rattle.std.specs.Prelude.{◌≡◌, ℕ, zero, suc, ◌+◌, ◌-◌, ◌<◌, ◌≤◌, min, Bool, true, false, not, ◌&&◌, ◌||◌, nat_eq, nat_lt, if◌then◌else◌, List, [], ◌∷◌, ◌++◌, flat_map, length, map, take, drop, slice_get, sum_by, is_some, option_map, Option, Some, None}
+use Rattle.std.specs.Prelude.{◌≡◌, ℕ, zero, suc, ◌+◌, ◌-◌, ◌<◌, ◌≤◌, min, Bool, true, false, not, ◌&&◌, ◌||◌, nat_eq, nat_le, nat_lt, if◌then◌else◌, List, [], ◌∷◌, ◌++◌, flat_map, length, map, take, drop, slice_get, sum_by, is_some, option_map, Option, Some, None}
 use Rattle.std.specs.List.{All, list_any, list_all}
-use Rattle.std.proofs.Common.{refl, sym, ap, ◌∙◌, arith, inl, inr, append-nil, length-append, length-drop}
+use Rattle.std.proofs.Common.{refl, sym, ap, ◌∙◌, arith, inl, inr, append_assoc, append-nil, length-append, length-drop}
 use Rattle.std.proofs.Math.Path.{subst}
 use Rattle.std.proofs.lemmas.Bool.{or_parts, and_parts}
 use Rattle.std.proofs.lemmas.Bool.Decides.{leb_tells, nat_tests}
 use Rattle.std.proofs.lemmas.List.{take-append-drop}
-use Rattle.std.proofs.lemmas.List.Elements.{All-drop}
-use Rattle.std.proofs.lemmas.List.Sums.{sum_by-cons}
+use Rattle.std.proofs.lemmas.List.Elements.{All-drop, All-head, All-tail}
+use Rattle.std.proofs.lemmas.List.Sums.{sum_by-cons, count_by-le-length}
 use Rattle.std.proofs.lemmas.Option.{none-some, slice_get-map, slice_get_past}
 use Rattle.kmn_base.specs.declared.items.Item.{Item}
 use Rattle.kmn_base.specs.declared.keys.KeyPress.{KeyPress}
@@ -26,6 +26,7 @@ use Rattle.rule_model.specs.Act.{act, put_item, put_items}
 use Rattle.rule_model.specs.Choose.{Chosen, first}
 use Rattle.rule_model.specs.Hold.{holds_with}
 use Rattle.rule_model.specs.Enter.{nothing, act_if_any, do_chosen, do_unmatched, do_group, in_group, enter_group}
+use Rattle.rule_model.specs.Patterns.{is_matched}
 use Rattle.rule_model.specs.Tab.{output_if_any, tab_group, tab_output, tab_rule, tab_options}
 use Rattle.kmx_format.specs.Playable.{IsPlayable, IsPlayableGroup}
 use Rattle.kmx_format.specs.Writable.{IsWritableRule, IsWritableMatchOutput}
@@ -60,9 +61,9 @@ use Rattle.core_laws.proofs.Choice.{IsUntold, AreFairRules, ChosenAlike, NoneCho
 use Rattle.core_laws.proofs.Compared.{nul_of, compared_matched}
 use Rattle.core_laws.proofs.Defaults.{keys_alike}
 use Rattle.core_laws.proofs.Depths.{early_below, enters_match, enters_nomatch, enters_output, items_unchanged, none_of_all, reached_next, reached_up}
-use Rattle.core_laws.proofs.Holds.{CatchesAlike}
+use Rattle.core_laws.proofs.Holds.{CatchesAlike, last_of_text}
 use Rattle.core_laws.proofs.Items.{AllOf, all_at, all_first, all_joined, all_second, IsPlainItem, alone_matched, live_fair, matched_fair}
-use Rattle.core_laws.proofs.Marks.{Unmarked, unmarked_without}
+use Rattle.core_laws.proofs.Marks.{Unmarked, put_unmarked, unmarked_push, unmarked_without}
 use Rattle.core_laws.proofs.Outputs.{AreFairItems, EntersAlike, Ends, GoesOn, Over, IsReady, alike_remembering, alone_alike, behind, ends_alike, if_any, output_alike, quiet_here, stopped_stays, then_alike}
 use Rattle.core_laws.proofs.Rising.{among_left}
 use Rattle.core_laws.proofs.SameOutputs.{equal_outputs}
@@ -362,7 +363,6 @@ module _ (version : CoreVersion) (tables : Tables) (playable : IsPlayable tables
 
       empty_alike : (rule : Rule) (rest : List Rule) → group.using_keys ≡ false → is_nomatch_for group (rule ∷ rest) ≡ true
           → IsAlike tables puts (core_unmatched (core_of version tables) (enter_there d) press group c) (own_chosen (tab_rule tables.stores group.using_keys rule, nothing))
-      unfolding own_chosen
       empty_alike rule rest uses converted =
           subst (λ (b : Bool). IsAlike tables puts (core_none b group.on_nomatch) (own_chosen (tab_rule tables.stores group.using_keys rule, nothing))) (sym uses)
           (subst (λ (b : Bool). IsAlike tables puts ((if not b then core_act_alone (core_of version tables) (enter_there d) group.on_nomatch else (λ c. c)) c) (own_chosen (tab_rule tables.stores group.using_keys rule, nothing))) (sym some)
@@ -395,16 +395,13 @@ module _ (version : CoreVersion) (tables : Tables) (playable : IsPlayable tables
           after_is : after ≡ act (own_of tables) (enter_here d) nothing (map (tab_output tables.stores) group.on_nomatch) s
           after_is = λ i. act (own_of tables) (enter_here d) nothing (map (tab_output tables.stores) (sym same i)) (record s { left = without_none s.left i })
 
-          abbrev there : CoreEvent
-          there = core_act_alone (core_of version tables) (enter_there d) group.on_nomatch c
-
-          by_match : (t : EventState) → IsAlike tables puts there t → (ends group.on_nomatch ≡ true → t.stopped ≡ true) → IsAlike tables puts there (act (own_of tables) (enter_here d) nothing (map (tab_output tables.stores) group.on_match) t)
+          by_match : (t : EventState) → IsAlike tables puts (core_act_alone (core_of version tables) (enter_there d) group.on_nomatch c) t → (ends group.on_nomatch ≡ true → t.stopped ≡ true) → IsAlike tables puts (core_act_alone (core_of version tables) (enter_there d) group.on_nomatch c) (act (own_of tables) (enter_here d) nothing (map (tab_output tables.stores) group.on_match) t)
           by_match t alike stops = by_acts (acts group.on_match) refl
             where
-              by_acts : (b : Bool) → acts group.on_match ≡ b → IsAlike tables puts there (act (own_of tables) (enter_here d) nothing (map (tab_output tables.stores) group.on_match) t)
-              by_acts false quiet = (quiet_here version tables puts (enter_there d) (enter_here d) nothing group.on_match quiet there t alike).alike
+              by_acts : (b : Bool) → acts group.on_match ≡ b → IsAlike tables puts (core_act_alone (core_of version tables) (enter_there d) group.on_nomatch c) (act (own_of tables) (enter_here d) nothing (map (tab_output tables.stores) group.on_match) t)
+              by_acts false quiet = (quiet_here version tables puts (enter_there d) (enter_here d) nothing group.on_match quiet (core_act_alone (core_of version tables) (enter_there d) group.on_nomatch c) t alike).alike
               by_acts true loud =
-                  subst (λ (u : EventState). IsAlike tables puts there u)
+                  subst (λ (u : EventState). IsAlike tables puts (core_act_alone (core_of version tables) (enter_there d) group.on_nomatch c) u)
                   (sym (stopped_stays version tables puts (enter_there d) (enter_here d) nothing group.on_match t (stops (ap ends same ∙ ended (acts group.on_match) (ends rule.output) parts.1 loud)))) alike
                 where
                   ended : (a b : Bool) → (not a || b) ≡ true → a ≡ true → b ≡ true
@@ -414,7 +411,230 @@ module _ (version : CoreVersion) (tables : Tables) (playable : IsPlayable tables
           by_end : Ends version tables puts (enter_there d) (enter_here d) changes [] nothing c.last (spent_after [] (live group.on_nomatch) (spent_at k g)) (queued + sum_by (item_effects 0) (live group.on_nomatch)) (nomatch_few queued chain c.last)
               (spent_after [] (live group.on_nomatch) (spent_at k g)) (queued + sum_by (item_effects 0) (live group.on_nomatch)) group.on_nomatch []
               (core_act (core_of version tables) (enter_there d) group.on_nomatch false c) (act (own_of tables) (enter_here d) nothing (map (tab_output tables.stores) group.on_nomatch) s)
-              → IsAlike tables puts there (act (own_of tables) (enter_here d) nothing (map (tab_output tables.stores) group.on_match) (act (own_of tables) (enter_here d) nothing (map (tab_output tables.stores) group.on_nomatch) s))
+              → IsAlike tables puts (core_act_alone (core_of version tables) (enter_there d) group.on_nomatch c) (act (own_of tables) (enter_here d) nothing (map (tab_output tables.stores) group.on_match) (act (own_of tables) (enter_here d) nothing (map (tab_output tables.stores) group.on_nomatch) s))
           by_end (GoesOn alone runs_on on) = by_match (act (own_of tables) (enter_here d) nothing (map (tab_output tables.stores) group.on_nomatch) s) on.alike (λ told. absurd (true_false (sym told ∙ runs_on)))
           by_end (Over alone alike (inl stopped)) = by_match (act (own_of tables) (enter_here d) nothing (map (tab_output tables.stores) group.on_nomatch) s) alike (λ told. stopped)
           by_end (Over alone alike (inr used)) = by_match (act (own_of tables) (enter_here d) nothing (map (tab_output tables.stores) group.on_nomatch) s) alike (λ told. absurd (true_false (sym told ∙ used.1)))
+
+      -- ---- a record is used in both
+
+      module _ (rule : Rule) (place : ℕ) (at : slice_get group.rules place ≡ Some rule) (catches : List Catch) (tried : Tried) (held : CatchesAlike facts c.window rule.context catches tried)
+        (untold : IsUntold tables facts known group rule) (found : c.last.places ≡ tried.1) where
+
+        abbrev recalled : LastMatch
+        recalled = record { kept = last_items (compared_count rule.context) c.window; skipped = skipped_count version rule.context; places = tried.1 }
+
+        abbrev taken_count : ℕ
+        taken_count = compared_count rule.context
+
+        abbrev matched : CoreEvent
+        matched = with_match version rule c
+
+        abbrev deleted : EventState
+        deleted = record s { left = without_last (length (items_in catches)) s.left }
+
+        writable : IsWritableRule (length tables.stores) (length tables.groups) group.using_keys rule
+        writable = all_listed (IsWritableRule (length tables.stores) (length tables.groups) group.using_keys) group.rules place rule group_playable.rules at
+
+        late : has_late_nul rule.context ≡ false
+        unfolding has_construct
+        late = untold construct.Nul
+
+        offsets : counts_differently rule.context (live rule.output) ≡ false
+        unfolding has_construct
+        offsets = untold construct.Offset
+
+        values : list_any (sets_from_option facts.options) (live rule.output) ≡ false
+        unfolding has_construct
+        values = (or_parts (list_any (asks_from_option facts.options) rule.context) (list_any (sets_from_option facts.options) (live rule.output)) (untold construct.Value)).1
+
+        layers : list_any sets_layer (live rule.output) ≡ false
+        unfolding has_construct
+        layers = (or_parts (list_any asks_layer rule.context) (list_any sets_layer (live rule.output)) (untold construct.Layer)).1
+
+        uses_told : acts_after_use (live rule.output) ≡ false
+        unfolding has_construct
+        uses_told = untold construct.Use
+
+        match_told_so : ((list_any is_use (live rule.output) && not (ends rule.output)) && acts group.on_match) ≡ false
+        unfolding has_construct
+        match_told_so = untold construct.Match
+
+        save_told : saves_early facts.changes (played group rule) ≡ false
+        unfolding has_construct
+        save_told = untold construct.Save
+
+        plain_output : AllOf (IsPlainItem tables.stores puts) (live rule.output)
+        plain_output = output_part (IsPlainItem tables.stores puts) plain_items place rule at
+
+        fair_output : AreFairItems tables puts rule.context (plainly catches) recalled (live rule.output)
+        fair_output =
+            live_fair tables puts whole.clean whole.alone rule.context (plainly catches) recalled rule.output plain_output writable.output.stores values layers
+            (matched_fair version tables puts facts rule.context rule.output c.window catches tried late offsets held plain_window writable.offsets plain_output)
+
+        played_is : (b : Bool) → ends rule.output ≡ b → played group rule ≡ live rule.output ++ (if b then [] else live group.on_match)
+        played_is true is = played_ended rule.output group.on_match is
+        played_is false is = played_on rule.output group.on_match is
+
+        early_output : saves_early changes (live rule.output ++ behind rule.output group.on_match) ≡ false
+        early_output = early_here queued chain recalled (live rule.output ++ behind rule.output group.on_match) (ap (saves_early facts.changes) (sym (played_is (ends rule.output) refl)) ∙ save_told)
+
+        behind_part : (P : Out → Type 0) → AllOf P (group_items group) → AllOf P (behind rule.output group.on_match)
+        behind_part P all = by_end (ends rule.output)
+          where
+            by_end : (b : Bool) → AllOf P (if b then [] else live group.on_match)
+            by_end true = tt
+            by_end false = match_part P all
+
+        unchanged : (n : ℕ) → is_among n c.to_save ≡ true → list_any (changes_option changes n) (live rule.output ++ behind rule.output group.on_match) ≡ false
+        unchanged n noted =
+            none_of_all (changes_option changes n) (live rule.output ++ behind rule.output group.on_match)
+            (all_joined (λ (item : Out). changes_option changes n item ≡ false) (live rule.output) (behind rule.output group.on_match)
+            (output_part (λ (item : Out). changes_option changes n item ≡ false) (pending n noted) place rule at) (behind_part (λ (item : Out). changes_option changes n item ≡ false) (pending n noted)))
+
+        room : queued + length rule.context + sum_by (item_effects (length rule.context)) (live rule.output) + sum_by (item_effects 0) (live group.on_match) ≤ queued + group_effects group
+        room = rule_fits group place rule queued at (omega (arith, chain.fits))
+
+        abbrev most : ℕ
+        most = spent_by facts rule.context (live rule.output) (spent_at k g)
+
+        abbrev least : ℕ
+        least = queued + length rule.context + sum_by (item_effects (length rule.context)) (live rule.output)
+
+        few : least ≤ 1024
+        few = omega (arith, room, chain.fits)
+
+        match_few : least + sum_by (item_effects 0) (live group.on_match) ≤ 1024
+        match_few = omega (arith, room, chain.fits)
+
+        match_for : ends rule.output ≡ false → IsReady version tables puts (enter_there d) (enter_here d) changes [] nothing recalled (spent_after [] (live group.on_match) most) (least + sum_by (item_effects 0) (live group.on_match)) match_few most least group.on_match []
+        match_for runs_on = match_ready queued chain recalled place rule at runs_on least match_few (omega (arith, room))
+
+        enters_for : (h : ℕ) → is_among h (flat_map entered (live rule.output)) ≡ true → EntersAlike version tables puts (enter_there d) (enter_here d) changes rule.context (plainly catches) recalled most least few h
+        enters_for h in_output e t remembered =
+            group_enters most least h (enters_output group place rule h at in_output) (λ less. enters.by_output place rule h at in_output (inside h less))
+            (omega (arith, room, chain.fits, entered_most (effects_within d tables.groups) chain.most h (live rule.output) (output_part (λ (item : Out). entered_effects (effects_within d tables.groups) item ≤ chain.most) chain.entered place rule at) in_output)) e t remembered
+
+        kept_size : length (items_in catches) ≡ taken_count
+        kept_size =
+            ap length held.kept ∙ length-drop (length c.window - taken_count) c.window ∙ back (length c.window) held.inside
+          where
+            back : (n : ℕ) → taken_count ≤ n → n - (n - taken_count) ≡ taken_count
+            back n h = omega arith
+
+        count_fits : taken_count ≤ length rule.context
+        count_fits = omega (arith, kept_size, caught_count facts rule.context rule.context catches held.caught, count_by-le-length is_matched rule.context)
+
+        recalled_is : matched.last ≡ recalled
+        recalled_is = λ i. record { kept = last_items taken_count c.window; skipped = skipped_count version rule.context; places = found i }
+
+        -- the state after the matched items are deleted
+        deleted_going : IsGoing tables puts changes (with_context facts rule.context (spent_at k g)) (queued + length rule.context) (live rule.output ++ behind rule.output group.on_match) recalled (core_back taken_count matched) deleted
+        deleted_going =
+            subst (λ (e : CoreEvent). IsGoing tables puts changes (with_context facts rule.context (spent_at k g)) (queued + length rule.context) (live rule.output ++ behind rule.output group.on_match) recalled e deleted)
+            (sym (back_is taken_count matched (omega (arith, going.queued, count_fits, room, chain.fits))))
+            (record {
+              alike = record {
+                left = (λ i. without_last (sym kept_size i) (going.alike.left i));
+                current = going.alike.current;
+                saved = same_saves (stores_in tables) c.to_save (record (c.event) { left = without_last taken_count c.event.left }) c.event refl refl ∙ going.alike.saved;
+                pass = going.alike.pass;
+                plain = unmarked_without (length (items_in catches)) s.left going.alike.plain;
+                sound = going.alike.sound;
+              };
+              going = going.going;
+              entered = going.entered;
+              seen = seen_now;
+              queued = omega (arith, going.queued, count_fits);
+              put = omega (arith, going.put);
+              remembered = recalled_is;
+              noted = going.noted;
+              pending = unchanged;
+            })
+          where
+            parts : c.window ≡ take (length c.window - taken_count) c.window ++ items_in catches
+            parts = sym (take-append-drop (length c.window - taken_count) c.window) ∙ ap (λ (xs : List Item). take (length c.window - taken_count) c.window ++ xs) (sym held.kept)
+
+            seen_now : Seen (with_context facts rule.context (spent_at k g)) (without_last taken_count c.event.left) (without_last taken_count c.window)
+            seen_now =
+                subst (λ (n : ℕ). Seen (with_context facts rule.context (spent_at k g)) (without_last n c.event.left) (without_last n c.window)) kept_size
+                (seen_more (min 64 (spent_at k g + units (items_in catches))) (with_context facts rule.context (spent_at k g)) (without_last (length (items_in catches)) c.event.left) (without_last (length (items_in catches)) c.window)
+                (omega (arith, units_most facts rule.context rule.context catches held.caught))
+                (seen_capped (spent_at k g + units (items_in catches)) (without_last (length (items_in catches)) c.event.left) (without_last (length (items_in catches)) c.window)
+                (seen_back (spent_at k g) c.event.left c.window (take (length c.window - taken_count) c.window) (items_in catches) parts going.seen)))
+
+        abbrev Done : List Out → Type 0
+        Done outputs =
+            IsAlike tables puts (then_match (core_of version tables) (enter_there d) group.on_match (core_output (core_of version tables) (enter_there d) outputs taken_count matched))
+            (act_if_any (own_of tables) (enter_here d) (output_if_any (map (tab_output tables.stores) group.on_match)) (act (own_of tables) (enter_here d) (plainly catches) (map (tab_output tables.stores) outputs) deleted))
+
+        -- an output that doesn't begin with `context`
+        deleting : most ≡ spent_after rule.context (live rule.output) (with_context facts rule.context (spent_at k g))
+            → IsAlike tables puts (then_match (core_of version tables) (enter_there d) group.on_match (core_act (core_of version tables) (enter_there d) rule.output false (core_back taken_count matched)))
+            (act_if_any (own_of tables) (enter_here d) (output_if_any (map (tab_output tables.stores) group.on_match)) (act (own_of tables) (enter_here d) (plainly catches) (map (tab_output tables.stores) rule.output) deleted))
+        deleting spent_is =
+            then_alike version tables puts (enter_there d) (enter_here d) changes recalled rule.context (plainly catches) most least few (spent_after [] (live group.on_match) most) (least + sum_by (item_effects 0) (live group.on_match)) match_few
+            rule.output group.on_match (with_context facts rule.context (spent_at k g)) (queued + length rule.context) (core_back taken_count matched) deleted
+            (record { quiet = uses_told; fair = fair_output; early = early_output; bound = omega (arith, spent_is); room = omega arith; enters = enters_for })
+            (λ runs_on. subst (λ (n : ℕ). IsReady version tables puts (enter_there d) (enter_here d) changes [] nothing recalled (spent_after [] (live group.on_match) most) (least + sum_by (item_effects 0) (live group.on_match)) match_few n least group.on_match []) spent_is (match_for runs_on))
+            match_told_so deleted_going
+
+        -- items that are put again
+        put_again : (items : List Item) (t : EventState) → t.stopped ≡ false → t.put + length items ≤ 1024 → Unmarked t.left → Unmarked items → put_items items t ≡ record t { left = t.left ++ items; put = t.put + length items }
+        put_again [] t on few_put plain plain_items_too =
+            let same : t.put ≡ t.put + 0 = omega arith in
+            λ i. record t { left = sym (append-nil t.left) i; put = same i }
+        put_again (x ∷ items) t on few_put plain plain_items_too =
+            ap (put_items items) one
+            ∙ put_again items (record t { left = t.left ++ x ∷ []; put = t.put + 1 }) on (omega (arith, few_put)) (unmarked_push t.left x plain plain_x) (All-tail (λ item. is_mark item ≡ false) x items plain_items_too)
+            ∙ (λ i. record t { left = append_assoc t.left (x ∷ []) items i; put = count i })
+          where
+            plain_x : is_mark x ≡ false
+            plain_x = All-head (λ item. is_mark item ≡ false) x items plain_items_too
+
+            under : (n : ℕ) → n < 4096 → nat_le 4096 n ≡ false
+            under n less = grind (arith, leb_tells)
+
+            one : put_item x t ≡ record t { left = t.left ++ x ∷ []; put = t.put + 1 }
+            one = λ i. if on i then t else (if under t.put (omega (arith, few_put)) i then record t { stopped = true } else record t { left = put_unmarked t.left x plain plain_x i; put = t.put + 1 })
+
+            count : t.put + 1 + length items ≡ t.put + suc (length items)
+            count = omega arith
+
+        plain_kept : Unmarked (items_in catches)
+        plain_kept = subst Unmarked (sym held.kept) (All-drop (λ item. is_mark item ≡ false) (length c.window - taken_count) c.window plain_window)
+
+        -- the matched items are the last of the text
+        last_is : without_last (length (items_in catches)) s.left ++ items_in catches ≡ s.left
+        last_is =
+            ap (λ (xs : List Item). without_last (length (items_in catches)) s.left ++ xs) end_is
+            ∙ take-append-drop (length s.left - length (items_in catches)) s.left
+          where
+            end_is : items_in catches ≡ drop (length s.left - length (items_in catches)) s.left
+            end_is =
+                held.kept
+                ∙ sym (last_of_text taken_count going.seen.before c.window held.inside)
+                ∙ (λ i. drop (length ((sym going.seen.parts ∙ going.alike.left) i) - sym kept_size i) ((sym going.seen.parts ∙ going.alike.left) i))
+
+        put_back : EventState
+        put_back = record s { put = s.put + length (items_in catches) }
+
+        put_back_is : put_items (items_in catches) deleted ≡ record s { put = s.put + length (items_in catches) }
+        put_back_is =
+            put_again (items_in catches) deleted going.going (omega (arith, going.put, kept_size, count_fits, room, chain.fits)) (unmarked_without (length (items_in catches)) s.left going.alike.plain) plain_kept
+            ∙ (λ i. record s { left = last_is i; put = s.put + length (items_in catches) })
+
+        again_going : (rest : List Out) → ((n : ℕ) → is_among n c.to_save ≡ true → list_any (changes_option changes n) rest ≡ false)
+            → IsGoing tables puts changes (spent_at k g) (queued + length rule.context) rest recalled matched (record s { put = s.put + length (items_in catches) })
+        again_going rest none =
+            record {
+              alike = record { left = going.alike.left; current = going.alike.current; saved = going.alike.saved; pass = going.alike.pass; plain = going.alike.plain; sound = going.alike.sound };
+              going = going.going;
+              entered = going.entered;
+              seen = going.seen;
+              queued = omega (arith, going.queued);
+              put = omega (arith, going.put, kept_size, count_fits);
+              remembered = recalled_is;
+              noted = going.noted;
+              pending = none;
+            }
