@@ -358,7 +358,7 @@ module _ (version : CoreVersion) (tables : Tables) (playable : IsPlayable tables
 
       -- ---- a record with an empty context is used here, and the nomatch output there
 
-      own_chosen : Chosen → EventState
+      abbrev own_chosen : Chosen → EventState
       own_chosen chosen = do_chosen (own_of tables) (enter_here d) (tab_group tables.stores group) chosen s
 
       empty_alike : (rule : Rule) (rest : List Rule) → group.using_keys ≡ false → is_nomatch_for group (rule ∷ rest) ≡ true
@@ -638,3 +638,149 @@ module _ (version : CoreVersion) (tables : Tables) (playable : IsPlayable tables
               noted = going.noted;
               pending = none;
             }
+
+        -- an output that begins with `context`, which leaves what was matched
+        leaving : (rest : List Out) → rule.output ≡ output.Context ∷ rest → Done (output.Context ∷ rest)
+        leaving rest is =
+            subst (λ (b : Bool). IsAlike tables puts (then_match (core_of version tables) (enter_there d) group.on_match (core_act (core_of version tables) (enter_there d) rest false matched))
+            (act_if_any (own_of tables) (enter_here d) (output_if_any (map (tab_output tables.stores) group.on_match)) (act (own_of tables) (enter_here d) (plainly catches) (map (tab_output tables.stores) rest) (if b then deleted else put_items (items_in catches) deleted)))) (sym going.going)
+            (subst (λ (t : EventState). IsAlike tables puts (then_match (core_of version tables) (enter_there d) group.on_match (core_act (core_of version tables) (enter_there d) rest false matched))
+            (act_if_any (own_of tables) (enter_here d) (output_if_any (map (tab_output tables.stores) group.on_match)) (act (own_of tables) (enter_here d) (plainly catches) (map (tab_output tables.stores) rest) t))) (sym put_back_is)
+            (then_alike version tables puts (enter_there d) (enter_here d) changes recalled rule.context (plainly catches) most least few (spent_after [] (live group.on_match) most) (least + sum_by (item_effects 0) (live group.on_match)) match_few
+            rest group.on_match (spent_at k g) (queued + length rule.context) matched (record s { put = s.put + length (items_in catches) })
+            (record {
+              quiet = ap (λ (items : List Out). acts_after_use (live items)) (sym is) ∙ uses_told;
+              fair = (subst (λ (items : List Out). AreFairItems tables puts rule.context (plainly catches) recalled (live items)) is fair_output).1;
+              early = ap (λ (items : List Out). saves_early changes (live items ++ behind items group.on_match)) (sym is) ∙ early_output;
+              bound = omega (arith, most_is);
+              room = omega (arith, least_is, sum_is);
+              enters = λ h in_output. enters_for h (ap (λ (items : List Out). is_among h (flat_map entered (live items))) is ∙ in_output);
+            })
+            (λ runs_on. match_less (match_for (ap ends is ∙ runs_on)))
+            (ap (λ (items : List Out). (list_any is_use (live items) && not (ends items)) && acts group.on_match) (sym is) ∙ match_told_so)
+            (again_going (live rest ++ behind rest group.on_match) (λ n noted. ap (λ (items : List Out). list_any (changes_option changes n) (live items ++ behind items group.on_match)) (sym is) ∙ unchanged n noted))))
+          where
+            most_is : most ≡ spent_after rule.context (live rest) (spent_at k g)
+            most_is = ap (λ (items : List Out). spent_by facts rule.context (live items) (spent_at k g)) is
+
+            least_is : least ≡ queued + length rule.context + sum_by (item_effects (length rule.context)) (output.Context ∷ live rest)
+            least_is = ap (λ (items : List Out). queued + length rule.context + sum_by (item_effects (length rule.context)) (live items)) is
+
+            sum_is : sum_by (item_effects (length rule.context)) (output.Context ∷ live rest) ≡ length rule.context + sum_by (item_effects (length rule.context)) (live rest)
+            sum_is = sum_by-cons (item_effects (length rule.context)) output.Context (live rest)
+
+            -- fewer effects are queued before the match output
+            match_less : IsReady version tables puts (enter_there d) (enter_here d) changes [] nothing recalled (spent_after [] (live group.on_match) most) (least + sum_by (item_effects 0) (live group.on_match)) match_few most least group.on_match []
+                → IsReady version tables puts (enter_there d) (enter_here d) changes [] nothing recalled (spent_after [] (live group.on_match) most) (least + sum_by (item_effects 0) (live group.on_match)) match_few
+                (spent_after rule.context (live rest) (spent_at k g)) (queued + length rule.context + sum_by (item_effects (length rule.context)) (live rest)) group.on_match []
+            match_less ready =
+                record {
+                  quiet = ready.quiet;
+                  fair = ready.fair;
+                  early = ready.early;
+                  bound = subst (λ (n : ℕ). spent_after [] (live group.on_match) n ≤ spent_after [] (live group.on_match) most) most_is ready.bound;
+                  room = omega (arith, ready.room, least_is, sum_is);
+                  enters = ready.enters;
+                }
+
+        by_output : (outputs : List Out) → rule.output ≡ outputs → Done outputs
+        by_output [] is = subst (λ (outputs : List Out). IsAlike tables puts (then_match (core_of version tables) (enter_there d) group.on_match (core_act (core_of version tables) (enter_there d) outputs false (core_back taken_count matched)))
+            (act_if_any (own_of tables) (enter_here d) (output_if_any (map (tab_output tables.stores) group.on_match)) (act (own_of tables) (enter_here d) (plainly catches) (map (tab_output tables.stores) outputs) deleted))) is
+            (deleting (ap (λ (items : List Out). spent_by facts rule.context (live items) (spent_at k g)) is ∙ ap (λ (items : List Out). spent_after rule.context (live items) (with_context facts rule.context (spent_at k g))) (sym is)))
+        by_output (output.Context ∷ rest) is = leaving rest is
+        by_output (item ∷ rest) is = subst (λ (outputs : List Out). IsAlike tables puts (then_match (core_of version tables) (enter_there d) group.on_match (core_act (core_of version tables) (enter_there d) outputs false (core_back taken_count matched)))
+            (act_if_any (own_of tables) (enter_here d) (output_if_any (map (tab_output tables.stores) group.on_match)) (act (own_of tables) (enter_here d) (plainly catches) (map (tab_output tables.stores) outputs) deleted))) is
+            (deleting (ap (λ (items : List Out). spent_by facts rule.context (live items) (spent_at k g)) is ∙ ap (λ (items : List Out). spent_after rule.context (live items) (with_context facts rule.context (spent_at k g))) (sym is)))
+
+        record_alike : IsAlike tables puts (core_done (core_of version tables) (enter_there d) group.on_match rule c) (own_chosen (tab_rule tables.stores group.using_keys rule, plainly catches))
+        record_alike = by_output rule.output refl
+
+    -- ---- the group
+
+    -- what an event has when the group is entered
+    module _ (queued : ℕ) (room : queued + effects_at (d + 1) g ≤ 1024) (c : CoreEvent) (s : EventState) (known_last : LastMatch)
+      (going : IsGoing tables puts (changes_within (d + 1) tables.groups) (spent_at k g) queued (output.Enter g ∷ []) known_last c s) where
+
+      chain_here : Chain queued d tables.groups group
+      chain_here = chain_of queued d tables.groups g group listed room
+
+      abbrev now : CoreEvent
+      now = one_more_entered c
+
+      abbrev own_now : EventState
+      own_now = record s { entered = s.entered + 1 }
+
+      pending_here : (n : ℕ) → is_among n c.to_save ≡ true → AllOf (λ (item : Out). changes_option changes n item ≡ false) (group_items group)
+      pending_here n noted = items_unchanged d tables.groups g n group listed (or_parts (changes_option (changes_within (d + 1) tables.groups) n (output.Enter g)) false (going.pending n noted)).0
+
+      entered_going : (last : LastMatch) → IsGoing tables puts changes (spent_at k g) queued [] last (record now { last = last }) own_now
+      entered_going last =
+          record {
+            alike = alike_remembering tables puts now own_now (entered_alike c s going.alike) last;
+            going = going.going;
+            entered = ap (λ (n : ℕ). n + 1) going.entered;
+            seen = going.seen;
+            queued = going.queued;
+            put = going.put;
+            remembered = refl;
+            noted = going.noted;
+            pending = λ n noted. refl;
+          }
+
+      abbrev with_taken : Taken → CoreEvent
+      with_taken taken = do_taken_with (core_of version tables) (enter_there d) press group taken now
+
+      abbrev own_with : Option Chosen → EventState
+      own_with chosen = do_group (own_of tables) (enter_here d) press (tab_group tables.stores group) chosen own_now
+
+      abbrev now_content : Rattle.rule_model.specs.Match.Content
+      now_content = content (stores_in tables) s.current
+
+      by_chosen : (own : Option Chosen) (taken : Taken)
+          → ChosenAlike (core_of version tables) tables facts whole.marks now_content (widths_hold tables s.current) (values_hold tables s.current) going.alike.sound.unset known group (length tables.groups) s.left c.window going.alike.plain
+          (subst (λ (xs : List Item). Seen known.spent xs c.window) going.alike.left (seen_more (spent_at k g) known.spent c.event.left c.window spent_known going.seen)) press common group.rules own taken
+          → IsAlike tables puts (with_taken taken) (own_with own)
+      by_chosen own taken (NoneChosen no_own no_taken) =
+          subst (λ (o : Option Chosen). IsAlike tables puts (with_taken taken) (own_with o)) (sym no_own)
+          (subst (λ (o : Option Rule). IsAlike tables puts (Rattle.core_meaning.specs.Steps.do_taken (core_of version tables) (enter_there d) press group o (with_places taken.1 now)) (own_with None)) (sym no_taken)
+          (none_alike queued chain_here (with_places taken.1 now) own_now (entered_going (record (c.last) { places = taken.1 })) pending_here))
+      by_chosen own taken (HereChosen rule rest is_own no_taken empties uses converted) =
+          subst (λ (o : Option Chosen). IsAlike tables puts (with_taken taken) (own_with o)) (sym is_own)
+          (subst (λ (o : Option Rule). IsAlike tables puts (Rattle.core_meaning.specs.Steps.do_taken (core_of version tables) (enter_there d) press group o (with_places taken.1 now)) (own_with (Some (tab_rule tables.stores group.using_keys rule, nothing)))) (sym no_taken)
+          (empty_alike queued chain_here (with_places taken.1 now) own_now (entered_going (record (c.last) { places = taken.1 })) pending_here rule rest uses converted))
+      by_chosen own taken (BothChosen rule place catches at is_own is_taken held untold) =
+          subst (λ (o : Option Chosen). IsAlike tables puts (with_taken taken) (own_with o)) (sym is_own)
+          (subst (λ (t : Taken). IsAlike tables puts (with_taken t) (own_with (Some (tab_rule tables.stores group.using_keys rule, plainly catches)))) (sym is_taken)
+          (record_alike queued chain_here (with_places (core_holds (core_of version tables) now_content c.window rule.context).1 now) own_now (entered_going (record (c.last) { places = (core_holds (core_of version tables) now_content c.window rule.context).1 })) pending_here
+          rule place at catches (core_holds (core_of version tables) now_content c.window rule.context) held untold refl))
+
+      converted_here : group.using_keys ≡ false → known.converted ≡ true → is_nomatch_for group (Rattle.core_constructs.specs.Empty.from_empty group.rules) ≡ true
+      converted_here uses told = told
+
+      pub group_alike : IsAlike tables puts (core_in_group (core_of version tables) (enter_there d) press (Some group) now) (in_group (own_of tables) (enter_here d) press (Some (tab_group tables.stores group)) own_now)
+      group_alike =
+          subst (λ (values : List (List Rattle.kmn_base.specs.declared.items.Element.Element)). IsAlike tables puts
+          (with_taken (core_choose (λ (rule : Rule). core_holds (core_of version tables) (content (stores_in tables) values) c.window rule.context) (core_takes group press) group.rules c.last.places))
+          (own_with (first (holds_with [] now_content s.left press) (map (tab_rule tables.stores group.using_keys) group.rules)))) (sym going.alike.current)
+          (by_chosen (first (holds_with [] now_content s.left press) (map (tab_rule tables.stores group.using_keys) group.rules))
+          (core_choose (λ (rule : Rule). core_holds (core_of version tables) now_content c.window rule.context) (core_takes group press) group.rules c.last.places)
+          (chosen_alike (core_of version tables) tables facts whole.marks now_content (widths_hold tables s.current) (values_hold tables s.current) going.alike.sound.unset known group (length tables.groups) s.left c.window going.alike.plain
+          (subst (λ (xs : List Item). Seen known.spent xs c.window) going.alike.left (seen_more (spent_at k g) known.spent c.event.left c.window spent_known going.seen)) press common group.rules c.last.places (whole.rules g group (reached, listed)) group_playable.rules converted_here))
+
+  -- ---- all groups
+
+  pub enters_within : (d k : ℕ) → k + d ≡ 50 → EntersWithin d k
+  enters_within zero k depth h among less used room c s known_last going =
+      record { left = going.alike.left; current = going.alike.current; saved = going.alike.saved; pass = going.alike.pass; plain = going.alike.plain; sound = going.alike.sound }
+  enters_within (suc d) k depth h among less used room c s known_last going = by_group (slice_get tables.groups h) refl (enters_within d (k + 1))
+    where
+      next : suc d ≡ d + 1
+      next = omega arith
+
+      by_group : (o : Option Group) → slice_get tables.groups h ≡ o → (k + 1 + d ≡ 50 → EntersWithin d (k + 1)) → IsAlike tables puts (enter_there (suc d) h c) (enter_here (suc d) (Numbered h) s)
+      by_group None none rest = missing_alike (suc d) h c s none going.alike
+      by_group (Some group) listed rest =
+          subst (λ (o : Option Group). IsAlike tables puts (core_in_group (core_of version tables) (enter_there d) press o (one_more_entered c)) (in_group (own_of tables) (enter_here d) press (slice_get (map (tab_group tables.stores) tables.groups) h) (record s { entered = s.entered + 1 }))) (sym listed)
+          (subst (λ (o : Option GroupMeaning). IsAlike tables puts (core_in_group (core_of version tables) (enter_there d) press (Some group) (one_more_entered c)) (in_group (own_of tables) (enter_here d) press o (record s { entered = s.entered + 1 }))) (sym (own_group h (Some group) listed))
+          (group_alike d k (omega (arith, depth)) (rest (omega (arith, depth))) h group among listed used (subst (λ (n : ℕ). used + effects_at n h ≤ 1024) next room) c s known_last
+          (subst (λ (n : ℕ). IsGoing tables puts (changes_within n tables.groups) (spent_at k h) used (output.Enter h ∷ []) known_last c s) next going)))
