@@ -12,9 +12,11 @@ pub mod Holds
 pub mod Items
 pub mod Marks
 pub mod Outputs
+pub mod Presses
 pub mod Rising
 pub mod SameOutputs
 pub mod Saves
+pub mod Untold
 pub mod Values
 pub mod Whole
 pub mod Windows
