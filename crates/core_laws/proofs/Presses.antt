@@ -154,7 +154,7 @@ module _ (version : CoreVersion) (tables : Tables) (playable : IsPlayable tables
           by_store (Some store) e = absurd (none-some value (same_Some None (Some value) e))
 
 pub whole_types_alike : (tables : Tables) → IsPlayable tables → IsWhole tables → TypesAlike tables
-unfolding core_texts, own_texts
+unfolding core_texts own_texts
 whole_types_alike tables playable whole version ended text presses common =
     ap (λ (kb : CoreKeyboard). core_texts_from kb presses (core_first kb.stores ended text)) (core_is version tables)
     ∙ presses_alike version tables playable whole presses common (core_first (stores_in tables) ended text) (own_first (own_of tables) text) (first_between version tables playable whole ended text)

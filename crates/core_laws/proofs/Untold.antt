@@ -1,10 +1,12 @@
 -- A keyboard of which no line, no group and nothing for the file is told.
-use Rattle.std.specs.Prelude.{◌≡◌, ℕ, zero, suc, ◌+◌, ◌<◌, ◌≤◌, Bool, true, false, not, ◌&&◌, ◌||◌, nat_eq, nat_lt, if◌then◌else◌, List, [], ◌∷◌, ◌++◌, filter, find, flat_map, length, map, slice_get, unwrap_or, Option, Some, None}
+use Rattle.std.specs.Prelude.{◌≡◌, ℕ, zero, suc, ◌+◌, ◌<◌, ◌≤◌, Bool, true, false, not, ◌&&◌, ◌||◌, nat_eq, nat_lt, cond, if◌then◌else◌, List, [], ◌∷◌, ◌++◌, encode_utf8_all, filter, filter_map, find, flat_map, length, map, slice_get, unwrap_or, Option, Some, None}
 use Rattle.std.specs.List.{list_any}
 use Rattle.std.proofs.Common.{refl, sym, ap, ◌∙◌, arith}
 use Rattle.std.proofs.Math.Path.{subst}
 use Rattle.std.proofs.lemmas.Bool.{or_parts}
 use Rattle.std.proofs.lemmas.Bool.Decides.{nat_tests}
+use Rattle.kmn_base.specs.declared.items.Element.{Element}
+use Rattle.kmn_base.specs.Names.{same_name}
 use Rattle.kmn_base.specs.Rising.{is_among, rising}
 use Rattle.rule_model.specs.declared.system.TheConstants.{KEY_DICTIONARY}
 use Rattle.rule_model.specs.declared.tables.Out.{Out}
@@ -12,7 +14,7 @@ use Rattle.rule_model.specs.declared.tables.Rule.{Rule}
 use Rattle.rule_model.specs.declared.tables.Group.{Group}
 use Rattle.rule_model.specs.declared.tables.Store.{Store}
 use Rattle.rule_model.specs.declared.tables.Tables.{Tables}
-use Rattle.rule_model.specs.Tab.{is_dictionary, store_elements, tab_dictionary}
+use Rattle.rule_model.specs.Tab.{distinct_onto, element_char, elements_of, is_dictionary, store_elements, tab_dictionary, words}
 use Rattle.core_constructs.specs.declared.construct.Construct.{Construct}
 use Rattle.core_constructs.specs.declared.construct.Construct.TheVariants as construct
 use Rattle.core_constructs.specs.declared.construct.GroupConstruct.{GroupConstruct}
@@ -103,7 +105,7 @@ each_group_construct P all group_construct.Nomatch = all.1.1.1.0
 
 module _ (flags : ℕ) (tables : Tables) (untold : IsUntold flags tables) where
   untold_rules : (number : ℕ) (group : Group) → Reached tables number group → (told_now : Construct) → list_any (is_told told_now tables (facts_of tables) (known_at tables number group) group) group.rules ≡ false
-  unfolding told, line_differences, group_lines
+  unfolding told line_differences group_lines
   untold_rules number group reached told_now = none_any (is_told told_now tables (facts_of tables) (known_at tables number group) group) group.rules (none_passes (is_told told_now tables (facts_of tables) (known_at tables number group) group) group.rules lines)
     where
       of_construct : lines_with tables (facts_of tables) (spent_in (facts_of tables) tables.groups) told_now ≡ []
@@ -120,7 +122,7 @@ module _ (flags : ℕ) (tables : Tables) (untold : IsUntold flags tables) where
           ∙ each_none (lines_at told_now tables (facts_of tables) (spent_in (facts_of tables) tables.groups)) (facts_of tables).reached number (none_rising (flat_map (lines_at told_now tables (facts_of tables) (spent_in (facts_of tables) tables.groups)) (facts_of tables).reached) of_construct) reached.0)
 
   untold_groups : (number : ℕ) (group : Group) → Reached tables number group → (told_now : GroupConstruct) → group_has (facts_of tables) group told_now ≡ false
-  unfolding told, group_differences
+  unfolding told group_differences
   untold_groups number group reached told_now =
       each_group_construct (λ (c : GroupConstruct). group_has (facts_of tables) group c ≡ false)
       (none_passes (group_has (facts_of tables) group) group_constructs
@@ -128,7 +130,7 @@ module _ (flags : ℕ) (tables : Tables) (untold : IsUntold flags tables) where
       (ap (differences_in (facts_of tables) number) (sym reached.1) ∙ each_none (differences_at tables (facts_of tables)) (facts_of tables).reached number untold.groups reached.0))) told_now
 
   untold_file : AllOf (λ (c : FileConstruct). file_has flags tables (facts_of tables) c ≡ false) file_constructs
-  unfolding told, file_differences
+  unfolding told file_differences
   untold_file = none_passes (file_has flags tables (facts_of tables)) file_constructs untold.file
 
   no_marks : (ms : List ℕ) → nat_lt 0 (length ms) ≡ false → ms ≡ []
@@ -162,18 +164,18 @@ module _ (tables : Tables) (fair : IsFair tables) (plain : IsPlain tables) where
   first_two : flat_map item_marks (live_items tables) ++ flat_map (store_marks tables.stores) (put_stores (live_items tables)) ≡ []
   first_two = first_none (flat_map item_marks (live_items tables) ++ flat_map (store_marks tables.stores) (put_stores (live_items tables))) (flat_map (store_marks tables.stores) (set_values (live_items tables))) marks_none
 
-  clean : (store : ℕ) → is_among store (puts_of tables) ≡ true → NoMarks (Rattle.rule_model.specs.Tab.elements_of tables.stores store)
+  clean : (store : ℕ) → is_among store (puts_of tables) ≡ true → NoMarks (elements_of tables.stores store)
   clean store among =
       each_none (store_marks tables.stores) (put_stores (live_items tables)) store (second_none (flat_map item_marks (live_items tables)) (flat_map (store_marks tables.stores) (put_stores (live_items tables))) first_two) among
 
-  clean_value : (value : ℕ) → is_among value (flat_map (set_value (puts_of tables)) (live_items tables)) ≡ true → NoMarks (Rattle.rule_model.specs.Tab.elements_of tables.stores value)
+  clean_value : (value : ℕ) → is_among value (flat_map (set_value (puts_of tables)) (live_items tables)) ≡ true → NoMarks (elements_of tables.stores value)
   clean_value value among =
       each_none (store_marks tables.stores) (set_values (live_items tables)) value
       (second_none (flat_map item_marks (live_items tables) ++ flat_map (store_marks tables.stores) (put_stores (live_items tables))) (flat_map (store_marks tables.stores) (set_values (live_items tables))) marks_none)
       (in_rising value (flat_map (set_value (puts_of tables)) (live_items tables)) among)
 
   plain_from : (items : List Out) → flat_map item_marks items ≡ [] → ((store : ℕ) → is_among store (flat_map put_store items) ≡ true → is_among store (puts_of tables) ≡ true)
-      → ((value : ℕ) → is_among value (flat_map (set_value (puts_of tables)) items) ≡ true → NoMarks (Rattle.rule_model.specs.Tab.elements_of tables.stores value)) → list_any (saves_nameless tables.stores) items ≡ false
+      → ((value : ℕ) → is_among value (flat_map (set_value (puts_of tables)) items) ≡ true → NoMarks (elements_of tables.stores value)) → list_any (saves_nameless tables.stores) items ≡ false
       → AllOf (IsPlainItem tables.stores (puts_of tables)) items
   plain_from [] none put value named = tt
   plain_from (item ∷ items) none put value named =
@@ -198,11 +200,26 @@ module _ (tables : Tables) (fair : IsFair tables) (plain : IsPlain tables) where
       fair_rules number group rules (λ told_now. (or_parts (is_told told_now tables (facts_of tables) (known_at tables number group) group rule) (list_any (is_told told_now tables (facts_of tables) (known_at tables number group) group) rules) (none told_now)).1))
 
   no_names : (stores : List Store) → list_any has_key_names stores ≡ false → store_elements (find is_dictionary stores) ≡ []
-  no_names stores none = ?
+  no_names [] none = refl
+  no_names (store ∷ stores) none = by_test (is_dictionary store) parts.0 (no_names stores parts.1)
+    where
+      parts : (has_key_names store ≡ false) × (list_any has_key_names stores ≡ false)
+      parts = or_parts (has_key_names store) (list_any has_key_names stores) none
+
+      no_elements : (elements : List Element) → not (nat_eq (length elements) 0) ≡ false → elements ≡ []
+      no_elements [] none = refl
+      no_elements (e ∷ elements) none = absurd (some (length (e ∷ elements)) (omega arith) none)
+        where
+          some : (n : ℕ) → 0 < n → not (nat_eq n 0) ≡ false → ⊥
+          some n less e = grind (arith, nat_tests)
+
+      by_test : (b : Bool) → (b && not (nat_eq (length store.elements) 0)) ≡ false → store_elements (find is_dictionary stores) ≡ [] → store_elements (cond b (Some store) (find is_dictionary stores)) ≡ []
+      by_test true named rest = no_elements store.elements named
+      by_test false named rest = rest
 
   dictionary_none : tab_dictionary tables.stores ≡ []
   unfolding tab_dictionary
-  dictionary_none = ?
+  dictionary_none = ap (λ (elements : List Element). distinct_onto same_name [] (words (encode_utf8_all (filter_map element_char elements)))) (no_names tables.stores fair.own)
 
   fair_whole : IsWhole tables
   fair_whole =
