@@ -117,9 +117,8 @@ abbrev pub plainly : List Catch → Caught
 plainly catches = record { catches = catches; key_place = None }
 
 module _ (kb : CoreKeyboard) (tables : Tables) (facts : Facts) (marks : facts.marks ≡ []) (content : Content) (widths : HasWidths facts (length tables.stores) content)
-  (values : HasValues facts.options (length tables.stores) tables.stores content) (unset : content Platform ≡ stated_platform)
-  (known : GroupFacts) (group : Group) (group_count : ℕ) (left window : List Item) (plain : Unmarked left) (seen : Seen known.spent left window) (press : KeyPress) (common : IsCommonPress press) where
-
+    (values : HasValues facts.options (length tables.stores) tables.stores content) (unset : content Platform ≡ stated_platform)
+    (known : GroupFacts) (group : Group) (group_count : ℕ) (left window : List Item) (plain : Unmarked left) (seen : Seen known.spent left window) (press : KeyPress) (common : IsCommonPress press) where
   abbrev here : Rule → Option Caught
   here rule = holds_with [] content left press (tab_rule tables.stores group.using_keys rule)
 

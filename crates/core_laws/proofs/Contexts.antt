@@ -220,6 +220,7 @@ module _ (options : List ℕ) (count : ℕ) (stores : List Store) (content : Con
   all_tried (p ∷ ps) alone layer words known below =
       let one = or_parts (asks_from_option options p) (list_any (asks_from_option options) ps) alone in
       let two = or_parts (asks_layer p) (list_any asks_layer ps) layer in
-      let three = or_parts (asks_empty_word stores p) (list_any (asks_empty_word stores) ps) words in
-      (tried_item p (flat_map stores_of_pattern ps) one.0 two.0 three.0 (All-head (λ p. has_system_id p ≡ true) p ps known) below,
-      all_tried ps one.1 two.1 three.1 (All-tail (λ p. has_system_id p ≡ true) p ps known) (rest_below (stores_of_pattern p) (flat_map stores_of_pattern ps) below))
+      let three = or_parts (asks_empty_word stores p) (list_any (asks_empty_word stores) ps) words in (
+        tried_item p (flat_map stores_of_pattern ps) one.0 two.0 three.0 (All-head (λ p. has_system_id p ≡ true) p ps known) below,
+        all_tried ps one.1 two.1 three.1 (All-tail (λ p. has_system_id p ≡ true) p ps known) (rest_below (stores_of_pattern p) (flat_map stores_of_pattern ps) below),
+      )

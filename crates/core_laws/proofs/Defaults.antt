@@ -42,8 +42,7 @@ characters_count : (items : List Item) → Unmarked items → length (characters
 characters_count items plain = sym (length-map (characters items) item.Char) ∙ ap length (map-characters items plain)
 
 module _ (version : CoreVersion) (tables : Tables) (puts : List ℕ) (changes : List (List ℕ)) (last : LastMatch) (press : KeyPress) (spent used : ℕ) (near : spent ≤ 61) (room : used + 1 ≤ 1024) (rest : List Out)
-  (c : CoreEvent) (s : EventState) (going : IsGoing tables puts changes spent used rest last c s) (plain_window : Unmarked c.window) where
-
+    (c : CoreEvent) (s : EventState) (going : IsGoing tables puts changes spent used rest last c s) (plain_window : Unmarked c.window) where
   passed_alike : IsAlike tables puts (pass_on c) (record s { pass = true })
   passed_alike =
       record {

@@ -269,8 +269,7 @@ module _ (version : CoreVersion) (tables : Tables) (playable : IsPlayable tables
     -- ---- an event in the group
 
     module _ (queued : ℕ) (chain : Chain queued d tables.groups group) (c : CoreEvent) (s : EventState) (going : IsGoing tables puts changes (spent_at k g) queued [] c.last c s)
-      (pending : (n : ℕ) → is_among n c.to_save ≡ true → AllOf (λ (item : Out). changes_option changes n item ≡ false) (group_items group)) where
-
+        (pending : (n : ℕ) → is_among n c.to_save ≡ true → AllOf (λ (item : Out). changes_option changes n item ≡ false) (group_items group)) where
       with_rest : (rest : List Out) → ((n : ℕ) → is_among n c.to_save ≡ true → list_any (changes_option changes n) rest ≡ false) → IsGoing tables puts changes (spent_at k g) queued rest c.last c s
       with_rest rest unchanged =
           record {
@@ -419,8 +418,7 @@ module _ (version : CoreVersion) (tables : Tables) (playable : IsPlayable tables
       -- ---- a record is used in both
 
       module _ (rule : Rule) (place : ℕ) (at : slice_get group.rules place ≡ Some rule) (catches : List Catch) (tried : Tried) (held : CatchesAlike facts c.window rule.context catches tried)
-        (untold : IsUntold tables facts known group rule) (found : c.last.places ≡ tried.1) where
-
+          (untold : IsUntold tables facts known group rule) (found : c.last.places ≡ tried.1) where
         abbrev recalled : LastMatch
         recalled = record { kept = last_items (compared_count rule.context) c.window; skipped = skipped_count version rule.context; places = tried.1 }
 
@@ -699,8 +697,7 @@ module _ (version : CoreVersion) (tables : Tables) (playable : IsPlayable tables
 
     -- what an event has when the group is entered
     module _ (queued : ℕ) (room : queued + effects_at (d + 1) g ≤ 1024) (c : CoreEvent) (s : EventState) (known_last : LastMatch)
-      (going : IsGoing tables puts (changes_within (d + 1) tables.groups) (spent_at k g) queued (output.Enter g ∷ []) known_last c s) where
-
+        (going : IsGoing tables puts (changes_within (d + 1) tables.groups) (spent_at k g) queued (output.Enter g ∷ []) known_last c s) where
       chain_here : Chain queued d tables.groups group
       chain_here = chain_of queued d tables.groups g group listed room
 

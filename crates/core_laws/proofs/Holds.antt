@@ -150,10 +150,9 @@ fits_start facts spent context short first = by_sum (spent + sum_by (width_in fa
     by_sum n w wide e = grind (arith, nat_tests)
 
 module _ (kb : CoreKeyboard) (facts : Facts) (stores : List Store) (count : ℕ) (content : Content) (widths : HasWidths facts count content)
-  (values : HasValues facts.options count stores content) (unset : content Platform ≡ stated_platform)
-  (spent : ℕ) (items : List Out) (context : List Pat) (fair : IsFairContext facts stores count spent items context)
-  (left window : List Item) (plain : Unmarked left) (seen : Seen spent left window) where
-
+    (values : HasValues facts.options count stores content) (unset : content Platform ≡ stated_platform)
+    (spent : ℕ) (items : List Out) (context : List Pat) (fair : IsFairContext facts stores count spent items context)
+    (left window : List Item) (plain : Unmarked left) (seen : Seen spent left window) where
   abbrev patterns_count : ℕ
   patterns_count = pattern_count (map (tab_pattern stores) context)
 
@@ -261,10 +260,9 @@ no_items [] none = refl
 no_items (x ∷ xs) none = absurd (omega (arith, none))
 
 module _ (kb : CoreKeyboard) (facts : Facts) (stores : List Store) (count : ℕ) (content : Content) (widths : HasWidths facts count content)
-  (values : HasValues facts.options count stores content) (unset : content Platform ≡ stated_platform)
-  (spent : ℕ) (items : List Out) (rest : List Pat) (fair : IsFairContext facts stores count spent items (pattern.Nul ∷ rest))
-  (left window : List Item) (plain : Unmarked left) (seen : Seen spent left window) (none : list_any is_nul rest ≡ false) where
-
+    (values : HasValues facts.options count stores content) (unset : content Platform ≡ stated_platform)
+    (spent : ℕ) (items : List Out) (rest : List Pat) (fair : IsFairContext facts stores count spent items (pattern.Nul ∷ rest))
+    (left window : List Item) (plain : Unmarked left) (seen : Seen spent left window) (none : list_any is_nul rest ≡ false) where
   abbrev context : List Pat
   context = pattern.Nul ∷ rest
 
@@ -456,8 +454,7 @@ unput_behind (pattern.Nul ∷ ps) some = some
 unput_behind (p ∷ ps) some = some
 
 module _ (kb : CoreKeyboard) (facts : Facts) (stores : List Store) (count : ℕ) (content : Content) (widths : HasWidths facts count content) (context : List Pat) (below : All (λ store. store < count) (flat_map stores_of_pattern context)) (some : list_any (asks_unput []) context ≡ true)
-  (spent : ℕ) (left window : List Item) (plain : Unmarked left) (seen : Seen spent left window) where
-
+    (spent : ℕ) (left window : List Item) (plain : Unmarked left) (seen : Seen spent left window) where
   window_unmarked : Unmarked window
   window_unmarked = subst Unmarked (ap (λ (xs : List Item). drop (length seen.before) xs) seen.parts ∙ behind seen.before window) (All-drop (λ item. is_mark item ≡ false) (length seen.before) left plain)
     where
@@ -500,9 +497,8 @@ abbrev pub IsFairIfMatched : Facts → List Store → (count spent : ℕ) → Li
 IsFairIfMatched facts stores count spent items context = list_any (asks_unput facts.marks) context ≡ false → IsFairContext facts stores count spent items context
 
 module _ (kb : CoreKeyboard) (facts : Facts) (marks : facts.marks ≡ []) (stores : List Store) (count : ℕ) (content : Content) (widths : HasWidths facts count content)
-  (values : HasValues facts.options count stores content) (unset : content Platform ≡ stated_platform)
-  (spent : ℕ) (items : List Out) (left window : List Item) (plain : Unmarked left) (seen : Seen spent left window) where
-
+    (values : HasValues facts.options count stores content) (unset : content Platform ≡ stated_platform)
+    (spent : ℕ) (items : List Out) (left window : List Item) (plain : Unmarked left) (seen : Seen spent left window) where
   by_nul : (context : List Pat) → HasNul context → IsFairContext facts stores count spent items context → HeldAlike facts window context (caught_of content (map (tab_pattern stores) context) left) (core_holds kb content window context)
   by_nul context (Without none first) fair = held_without kb facts stores count content widths values unset spent items context fair left window plain seen none first
   by_nul (pattern.Nul ∷ rest) (First none) fair =

@@ -91,8 +91,7 @@ pub record IsPlainItem (stores : List Store) (puts : List ℕ) (item : Out) : Ty
   pub named : saves_nameless stores item ≡ false
 
 module _ (tables : Tables) (puts : List ℕ) (clean : (store : ℕ) → is_among store puts ≡ true → NoMarks (elements_of tables.stores store))
-  (alone : shares_name tables.stores (rising (tab_options tables)) ≡ false) where
-
+    (alone : shares_name tables.stores (rising (tab_options tables)) ≡ false) where
   -- each store of the tables is no option, or is saved under itself
   pub noted : (n : ℕ) → n < length tables.stores → IsNoted (stores_in tables) n
   noted n less = by_option (is_among n (tab_options tables)) refl
@@ -155,9 +154,10 @@ module _ (tables : Tables) (puts : List ℕ) (clean : (store : ℕ) → is_among
     live_fair (output.Stop ∷ outputs) plain below value layer matched = (tt, tt)
     live_fair (item ∷ outputs) plain below value layer matched =
         let one = or_parts (sets_from_option (rising (tab_options tables)) item) (list_any (sets_from_option (rising (tab_options tables))) (live outputs)) value in
-        let two = or_parts (sets_layer item) (list_any sets_layer (live outputs)) layer in
-        (one_fair item (flat_map stores_of_output outputs) plain.0 below one.0 two.0 matched.0,
-        live_fair outputs plain.1 (rest_below (stores_of_output item) (flat_map stores_of_output outputs) below) one.1 two.1 matched.1)
+        let two = or_parts (sets_layer item) (list_any sets_layer (live outputs)) layer in (
+          one_fair item (flat_map stores_of_output outputs) plain.0 below one.0 two.0 matched.0,
+          live_fair outputs plain.1 (rest_below (stores_of_output item) (flat_map stores_of_output outputs) below) one.1 two.1 matched.1,
+        )
 
   -- a match or nomatch output puts nothing that was matched
   pub alone_matched : (last : LastMatch) (outputs : List Out) → All (λ item. needs_context item ≡ false) outputs → AllOf (λ (item : Out). needs_context item ≡ true → IsFairItem tables puts [] nothing last item) (live outputs)
@@ -222,8 +222,7 @@ unmarked_get (y ∷ xs) zero x plain listed = ap is_mark (sym (Rattle.std.proofs
 unmarked_get (y ∷ xs) (suc i) x plain listed = unmarked_get xs i x (All-tail (λ item. is_mark item ≡ false) y xs plain) listed
 
 module _ (version : CoreVersion) (tables : Tables) (puts : List ℕ) (facts : Facts) (context : List Pat) (items : List Out) (window : List Item) (catches : List Catch) (tried : Tried)
-  (late : has_late_nul context ≡ false) (offsets : counts_differently context items ≡ false) (held : CatchesAlike facts window context catches tried) (plain : Unmarked window) where
-
+    (late : has_late_nul context ≡ false) (offsets : counts_differently context items ≡ false) (held : CatchesAlike facts window context catches tried) (plain : Unmarked window) where
   -- what is remembered of a record that is used
   abbrev pub remembered : LastMatch
   remembered = record { kept = last_items (compared_count context) window; skipped = skipped_count version context; places = tried.1 }
@@ -325,9 +324,10 @@ module _ (version : CoreVersion) (tables : Tables) (puts : List ℕ) (facts : Fa
   matched_from [] points unmoved some all = tt
   matched_from (output.Stop ∷ outputs) points unmoved some all = (λ needs. absurd (false_true needs), tt)
   matched_from (item ∷ outputs) points unmoved some all =
-      let moved = or_parts (is_moved_output context item) (list_any (is_moved_output context) (live outputs)) unmoved in
-      (matched_item item (All-head (PointsInto context) item outputs points) moved.0 (λ here. some (λ i. here i || list_any puts_by_offset (live outputs))) all.0,
-      matched_from outputs (All-tail (PointsInto context) item outputs points) moved.1 (λ rest. some (behind (puts_by_offset item) rest)) all.1)
+      let moved = or_parts (is_moved_output context item) (list_any (is_moved_output context) (live outputs)) unmoved in (
+        matched_item item (All-head (PointsInto context) item outputs points) moved.0 (λ here. some (λ i. here i || list_any puts_by_offset (live outputs))) all.0,
+        matched_from outputs (All-tail (PointsInto context) item outputs points) moved.1 (λ rest. some (behind (puts_by_offset item) rest)) all.1,
+      )
     where
       behind : (b : Bool) → list_any puts_by_offset (live outputs) ≡ true → (b || list_any puts_by_offset (live outputs)) ≡ true
       behind true rest = refl

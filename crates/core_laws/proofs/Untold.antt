@@ -179,15 +179,16 @@ module _ (tables : Tables) (fair : IsFair tables) (plain : IsPlain tables) where
       → AllOf (IsPlainItem tables.stores (puts_of tables)) items
   plain_from [] none put value named = tt
   plain_from (item ∷ items) none put value named =
-      let parts = or_parts (saves_nameless tables.stores item) (list_any (saves_nameless tables.stores) items) named in
-      (record {
-        mark = first_none (item_marks item) (flat_map item_marks items) none;
-        put = λ store among. put store (among_left store (put_store item) (flat_map put_store items) among);
-        value = λ v among. value v (among_left v (set_value (puts_of tables) item) (flat_map (set_value (puts_of tables)) items) among);
-        named = parts.0;
-      },
-      plain_from items (second_none (item_marks item) (flat_map item_marks items) none) (λ store among. put store (among_right store (put_store item) (flat_map put_store items) among))
-      (λ v among. value v (among_right v (set_value (puts_of tables) item) (flat_map (set_value (puts_of tables)) items) among)) parts.1)
+      let parts = or_parts (saves_nameless tables.stores item) (list_any (saves_nameless tables.stores) items) named in (
+        record {
+          mark = first_none (item_marks item) (flat_map item_marks items) none;
+          put = λ store among. put store (among_left store (put_store item) (flat_map put_store items) among);
+          value = λ v among. value v (among_left v (set_value (puts_of tables) item) (flat_map (set_value (puts_of tables)) items) among);
+          named = parts.0;
+        },
+        plain_from items (second_none (item_marks item) (flat_map item_marks items) none) (λ store among. put store (among_right store (put_store item) (flat_map put_store items) among))
+            (λ v among. value v (among_right v (set_value (puts_of tables) item) (flat_map (set_value (puts_of tables)) items) among)) parts.1,
+      )
 
   fair_rule : (number : ℕ) (group : Group) (rule : Rule) → ((told_now : Construct) → is_told told_now tables (facts_of tables) (known_at tables number group) group rule ≡ false) → IsFairRule tables (facts_of tables) (known_at tables number group) group rule
   fair_rule number group rule none possible told_now = (λ i. not (sym possible i) && has_construct told_now tables (facts_of tables) (known_at tables number group) group rule) ∙ none told_now
@@ -195,9 +196,10 @@ module _ (tables : Tables) (fair : IsFair tables) (plain : IsPlain tables) where
   fair_rules : (number : ℕ) (group : Group) (rules : List Rule) → ((told_now : Construct) → list_any (is_told told_now tables (facts_of tables) (known_at tables number group) group) rules ≡ false)
       → AreFairRules tables (facts_of tables) (known_at tables number group) group rules
   fair_rules number group [] none = tt
-  fair_rules number group (rule ∷ rules) none =
-      (fair_rule number group rule (λ told_now. (or_parts (is_told told_now tables (facts_of tables) (known_at tables number group) group rule) (list_any (is_told told_now tables (facts_of tables) (known_at tables number group) group) rules) (none told_now)).0),
-      fair_rules number group rules (λ told_now. (or_parts (is_told told_now tables (facts_of tables) (known_at tables number group) group rule) (list_any (is_told told_now tables (facts_of tables) (known_at tables number group) group) rules) (none told_now)).1))
+  fair_rules number group (rule ∷ rules) none = (
+    fair_rule number group rule (λ told_now. (or_parts (is_told told_now tables (facts_of tables) (known_at tables number group) group rule) (list_any (is_told told_now tables (facts_of tables) (known_at tables number group) group) rules) (none told_now)).0),
+    fair_rules number group rules (λ told_now. (or_parts (is_told told_now tables (facts_of tables) (known_at tables number group) group rule) (list_any (is_told told_now tables (facts_of tables) (known_at tables number group) group) rules) (none told_now)).1),
+  )
 
   no_names : (stores : List Store) → list_any has_key_names stores ≡ false → store_elements (find is_dictionary stores) ≡ []
   no_names [] none = refl
