@@ -1,6 +1,5 @@
 //! Reads the ids of the keys of a touch layout.
 
-ghost use Rattle.std.specs.Prelude.{◌≡◌};
 ghost use Rattle.check_run.specs.Orders.{ids_work};
 ghost use Rattle.keyman_run.specs.Steps.{Gives, itself};
 
