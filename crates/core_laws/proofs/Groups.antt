@@ -35,14 +35,14 @@ use Rattle.core_meaning.specs.Keys.{core_char}
 use Rattle.core_meaning.specs.Laws.{IsCommonPress}
 use Rattle.core_meaning.specs.Contexts.{Tried, Taken, core_choose, core_holds, core_takes, compared_count}
 use Rattle.core_meaning.specs.Outputs.{core_act, core_act_alone, core_done, core_output, end_output, skipped_count, then_match, with_match}
-use Rattle.core_meaning.specs.Steps.{core_default, core_enter, core_in_group, core_unmatched, do_taken_with, one_more_entered, put_press, taken_in, with_places}
+use Rattle.core_meaning.specs.Steps.{core_default, core_enter, core_in_group, core_unmatched, do_taken_with, one_more_entered, put_press, taken_in, with_places, do_taken}
 use Rattle.core_constructs.specs.declared.construct.Construct.TheVariants as construct
 use Rattle.core_constructs.specs.declared.construct.GroupConstruct.TheVariants as group_construct
 use Rattle.core_constructs.specs.declared.facts.Facts.{Facts}
 use Rattle.core_constructs.specs.declared.facts.GroupFacts.{GroupFacts}
 use Rattle.core_constructs.specs.Changes.{changes_option, changes_within, saves_early}
 use Rattle.core_constructs.specs.Contexts.{asks_from_option, asks_layer, counts_differently, has_late_nul}
-use Rattle.core_constructs.specs.Empty.{fits_nomatch, has_empty_context, is_nomatch_for, same_outputs}
+use Rattle.core_constructs.specs.Empty.{fits_nomatch, has_empty_context, is_nomatch_for, same_outputs, from_empty}
 use Rattle.core_constructs.specs.Facts.{facts_of}
 use Rattle.core_constructs.specs.Marks.{group_items, live_items, rule_items}
 use Rattle.core_constructs.specs.Outputs.{acts, acts_after_use, does_something, ends, is_use, live, puts_match, sets_from_option, sets_layer}
@@ -70,6 +70,8 @@ use Rattle.core_laws.proofs.SameOutputs.{equal_outputs}
 use Rattle.core_laws.proofs.Saves.{same_saves}
 use Rattle.core_laws.proofs.Whole.{IsWhole, all_listed, puts_of, values_hold, widths_hold}
 use Rattle.core_laws.proofs.Windows.{Seen, back_is, backed, seen_back, seen_capped, seen_more, without_none}
+use Rattle.kmn_base.specs.declared.items.Element.{Element}
+use Rattle.rule_model.specs.Match.{Content}
 
 true_false : true ≡ false → ⊥
 true_false e = grind arith
@@ -187,9 +189,6 @@ module _ (version : CoreVersion) (tables : Tables) (playable : IsPlayable tables
     module _ (queued : ℕ) (chain : Chain queued d tables.groups group) (last : LastMatch) where
       abbrev Going : (spent used : ℕ) → List Out → CoreEvent → EventState → Type 0
       Going spent used rest c s = IsGoing tables puts changes spent used rest last c s
-
-      match_told : (told : Bool) → told ≡ false → told ≡ false
-      match_told told e = e
 
       own_values : (list_any (sets_from_option facts.options) (live group.on_match) ≡ false) × (list_any (sets_from_option facts.options) (live group.on_nomatch) ≡ false)
       own_values = or_parts (list_any (sets_from_option facts.options) (live group.on_match)) (list_any (sets_from_option facts.options) (live group.on_nomatch)) (whole.values g group (reached, listed))
@@ -616,9 +615,6 @@ module _ (version : CoreVersion) (tables : Tables) (playable : IsPlayable tables
                 ∙ sym (last_of_text taken_count going.seen.before c.window held.inside)
                 ∙ (λ i. drop (length ((sym going.seen.parts ∙ going.alike.left) i) - sym kept_size i) ((sym going.seen.parts ∙ going.alike.left) i))
 
-        put_back : EventState
-        put_back = record s { put = s.put + length (items_in catches) }
-
         put_back_is : put_items (items_in catches) deleted ≡ record s { put = s.put + length (items_in catches) }
         put_back_is =
             put_again (items_in catches) deleted going.going (omega (arith, going.put, kept_size, count_fits, room, chain.fits)) (unmarked_without (length (items_in catches)) s.left going.alike.plain) plain_kept
@@ -733,7 +729,7 @@ module _ (version : CoreVersion) (tables : Tables) (playable : IsPlayable tables
       abbrev own_with : Option Chosen → EventState
       own_with chosen = do_group (own_of tables) (enter_here d) press (tab_group tables.stores group) chosen own_now
 
-      abbrev now_content : Rattle.rule_model.specs.Match.Content
+      abbrev now_content : Content
       now_content = content (stores_in tables) s.current
 
       by_chosen : (own : Option Chosen) (taken : Taken)
@@ -742,11 +738,11 @@ module _ (version : CoreVersion) (tables : Tables) (playable : IsPlayable tables
           → IsAlike tables puts (with_taken taken) (own_with own)
       by_chosen own taken (NoneChosen no_own no_taken) =
           subst (λ (o : Option Chosen). IsAlike tables puts (with_taken taken) (own_with o)) (sym no_own)
-          (subst (λ (o : Option Rule). IsAlike tables puts (Rattle.core_meaning.specs.Steps.do_taken (core_of version tables) (enter_there d) press group o (with_places taken.1 now)) (own_with None)) (sym no_taken)
+          (subst (λ (o : Option Rule). IsAlike tables puts (do_taken (core_of version tables) (enter_there d) press group o (with_places taken.1 now)) (own_with None)) (sym no_taken)
           (none_alike queued chain_here (with_places taken.1 now) own_now (entered_going (record (c.last) { places = taken.1 })) pending_here))
       by_chosen own taken (HereChosen rule rest is_own no_taken empties uses converted) =
           subst (λ (o : Option Chosen). IsAlike tables puts (with_taken taken) (own_with o)) (sym is_own)
-          (subst (λ (o : Option Rule). IsAlike tables puts (Rattle.core_meaning.specs.Steps.do_taken (core_of version tables) (enter_there d) press group o (with_places taken.1 now)) (own_with (Some (tab_rule tables.stores group.using_keys rule, nothing)))) (sym no_taken)
+          (subst (λ (o : Option Rule). IsAlike tables puts (do_taken (core_of version tables) (enter_there d) press group o (with_places taken.1 now)) (own_with (Some (tab_rule tables.stores group.using_keys rule, nothing)))) (sym no_taken)
           (empty_alike queued chain_here (with_places taken.1 now) own_now (entered_going (record (c.last) { places = taken.1 })) pending_here rule rest uses converted))
       by_chosen own taken (BothChosen rule place catches at is_own is_taken held untold) =
           subst (λ (o : Option Chosen). IsAlike tables puts (with_taken taken) (own_with o)) (sym is_own)
@@ -754,12 +750,12 @@ module _ (version : CoreVersion) (tables : Tables) (playable : IsPlayable tables
           (record_alike queued chain_here (with_places (core_holds (core_of version tables) now_content c.window rule.context).1 now) own_now (entered_going (record (c.last) { places = (core_holds (core_of version tables) now_content c.window rule.context).1 })) pending_here
           rule place at catches (core_holds (core_of version tables) now_content c.window rule.context) held untold refl))
 
-      converted_here : group.using_keys ≡ false → known.converted ≡ true → is_nomatch_for group (Rattle.core_constructs.specs.Empty.from_empty group.rules) ≡ true
+      converted_here : group.using_keys ≡ false → known.converted ≡ true → is_nomatch_for group (from_empty group.rules) ≡ true
       converted_here uses told = told
 
       pub group_alike : IsAlike tables puts (core_in_group (core_of version tables) (enter_there d) press (Some group) now) (in_group (own_of tables) (enter_here d) press (Some (tab_group tables.stores group)) own_now)
       group_alike =
-          subst (λ (values : List (List Rattle.kmn_base.specs.declared.items.Element.Element)). IsAlike tables puts
+          subst (λ (values : List (List Element)). IsAlike tables puts
           (with_taken (core_choose (λ (rule : Rule). core_holds (core_of version tables) (content (stores_in tables) values) c.window rule.context) (core_takes group press) group.rules c.last.places))
           (own_with (first (holds_with [] now_content s.left press) (map (tab_rule tables.stores group.using_keys) group.rules)))) (sym going.alike.current)
           (by_chosen (first (holds_with [] now_content s.left press) (map (tab_rule tables.stores group.using_keys) group.rules))

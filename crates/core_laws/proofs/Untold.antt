@@ -152,9 +152,6 @@ module _ (flags : ℕ) (tables : Tables) (untold : IsUntold flags tables) where
       }
 
 module _ (tables : Tables) (fair : IsFair tables) (plain : IsPlain tables) where
-  items : List Out
-  items = live_items tables
-
   abbrev all_marks : List ℕ
   all_marks = (flat_map item_marks (live_items tables) ++ flat_map (store_marks tables.stores) (put_stores (live_items tables))) ++ flat_map (store_marks tables.stores) (set_values (live_items tables))
 
