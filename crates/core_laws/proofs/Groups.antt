@@ -1,14 +1,14 @@
--- A group of which nothing is told does the same in both engines, if the groups that it enters do.
+-- A group of which nothing is reported does the same in both engines, if the groups that it enters do.
 use Rattle.std.specs.Prelude.{◌≡◌, ℕ, zero, suc, ◌+◌, ◌-◌, ◌<◌, ◌≤◌, min, Bool, true, false, not, ◌&&◌, ◌||◌, nat_eq, nat_le, nat_lt, if◌then◌else◌, List, [], ◌∷◌, ◌++◌, flat_map, length, map, take, drop, slice_get, sum_by, is_some, option_map, Option, Some, None}
-use Rattle.std.specs.List.{All, list_any, list_all}
-use Rattle.std.proofs.Common.{refl, sym, ap, ◌∙◌, arith, inl, inr, append_assoc, append-nil, length-append, length-drop}
+use Rattle.std.specs.List.{list_any, list_all}
+use Rattle.std.proofs.Common.{refl, sym, ap, ◌∙◌, arith, inl, inr, append_assoc, append-nil, length-drop}
 use Rattle.std.proofs.Math.Path.{subst}
 use Rattle.std.proofs.lemmas.Bool.{or_parts, and_parts}
 use Rattle.std.proofs.lemmas.Bool.Decides.{leb_tells, nat_tests}
 use Rattle.std.proofs.lemmas.List.{take-append-drop}
 use Rattle.std.proofs.lemmas.List.Elements.{All-drop, All-head, All-tail}
 use Rattle.std.proofs.lemmas.List.Sums.{sum_by-cons, count_by-le-length}
-use Rattle.std.proofs.lemmas.Option.{none-some, slice_get-map, slice_get_past}
+use Rattle.std.proofs.lemmas.Option.{slice_get-map, slice_get_past}
 use Rattle.kmn_base.specs.declared.items.Item.{Item}
 use Rattle.kmn_base.specs.declared.keys.KeyPress.{KeyPress}
 use Rattle.kmn_base.specs.Lists.{is_mark, without_last}
@@ -27,15 +27,15 @@ use Rattle.rule_model.specs.Choose.{Chosen, first}
 use Rattle.rule_model.specs.Hold.{holds_with}
 use Rattle.rule_model.specs.Enter.{nothing, act_if_any, do_chosen, do_unmatched, do_group, in_group, enter_group}
 use Rattle.rule_model.specs.Patterns.{is_matched}
-use Rattle.rule_model.specs.Tab.{output_if_any, tab_group, tab_output, tab_rule, tab_options}
+use Rattle.rule_model.specs.Tab.{output_if_any, tab_group, tab_output, tab_rule}
 use Rattle.kmx_format.specs.Playable.{IsPlayable, IsPlayableGroup}
 use Rattle.kmx_format.specs.Writable.{IsWritableRule, IsWritableMatchOutput}
 use Rattle.core_meaning.specs.Events.{CoreVersion, LastMatch, CoreEvent, units, last_items, core_back}
 use Rattle.core_meaning.specs.Keys.{core_char}
 use Rattle.core_meaning.specs.Laws.{IsCommonPress}
 use Rattle.core_meaning.specs.Contexts.{Tried, Taken, core_choose, core_holds, core_takes, compared_count}
-use Rattle.core_meaning.specs.Outputs.{core_act, core_act_alone, core_done, core_output, end_output, skipped_count, then_match, with_match}
-use Rattle.core_meaning.specs.Steps.{core_default, core_enter, core_in_group, core_unmatched, do_taken_with, one_more_entered, put_press, taken_in, with_places, do_taken}
+use Rattle.core_meaning.specs.Outputs.{core_act, core_act_alone, core_done, core_output, skipped_count, then_match, with_match}
+use Rattle.core_meaning.specs.Steps.{core_default, core_enter, core_in_group, core_unmatched, do_taken_with, one_more_entered, put_press, with_places, do_taken}
 use Rattle.core_constructs.specs.declared.construct.Construct.TheVariants as construct
 use Rattle.core_constructs.specs.declared.construct.GroupConstruct.TheVariants as group_construct
 use Rattle.core_constructs.specs.declared.facts.Facts.{Facts}
@@ -44,32 +44,29 @@ use Rattle.core_constructs.specs.Changes.{changes_option, changes_within, saves_
 use Rattle.core_constructs.specs.Contexts.{asks_from_option, asks_layer, counts_differently, has_late_nul}
 use Rattle.core_constructs.specs.Empty.{fits_nomatch, has_empty_context, is_nomatch_for, same_outputs, from_empty}
 use Rattle.core_constructs.specs.Facts.{facts_of}
-use Rattle.core_constructs.specs.Marks.{group_items, live_items, rule_items}
-use Rattle.core_constructs.specs.Outputs.{acts, acts_after_use, does_something, ends, is_use, live, puts_match, sets_from_option, sets_layer}
+use Rattle.core_constructs.specs.Marks.{group_items, rule_items}
+use Rattle.core_constructs.specs.Outputs.{acts, acts_after_use, ends, is_use, live, puts_match, sets_from_option, sets_layer}
 use Rattle.core_constructs.specs.Queued.{effects_within, entered_effects, group_effects, item_effects}
 use Rattle.core_constructs.specs.Reached.{entered, group_entered, played, reached_within}
 use Rattle.core_constructs.specs.Records.{has_construct}
-use Rattle.core_constructs.specs.Spent.{begins_with_context, spent_after, spent_by, spent_within}
-use Rattle.core_constructs.specs.Told.{group_has}
-use Rattle.core_constructs.specs.Widths.{width_in, with_context}
+use Rattle.core_constructs.specs.Spent.{spent_after, spent_by, spent_within}
+use Rattle.core_constructs.specs.Widths.{with_context}
 use Rattle.core_constructs.proofs.Live.{played_ended, played_on}
 use Rattle.core_laws.specs.Laws.{known_at}
 use Rattle.core_laws.proofs.Alike.{stores_in, core_of, own_of, IsAlike, IsGoing, going_more}
 use Rattle.core_laws.proofs.Budget.{Chain, Enters, chain_of, entered_most, nomatch_fits, number_at, rule_fits, spent_next, spent_size, spent_up}
-use Rattle.core_laws.proofs.Caught.{AreCaught, caught_count, items_in, units_most}
-use Rattle.core_laws.proofs.Choice.{IsUntold, AreFairRules, ChosenAlike, NoneChosen, BothChosen, HereChosen, chosen_alike, plainly}
-use Rattle.core_laws.proofs.Compared.{nul_of, compared_matched}
+use Rattle.core_laws.proofs.Caught.{caught_count, items_in, units_most}
+use Rattle.core_laws.proofs.Choice.{IsUntold, ChosenAlike, NoneChosen, BothChosen, HereChosen, chosen_alike, plainly}
 use Rattle.core_laws.proofs.Defaults.{keys_alike}
 use Rattle.core_laws.proofs.Depths.{early_below, enters_match, enters_nomatch, enters_output, items_unchanged, none_of_all, reached_next, reached_up}
 use Rattle.core_laws.proofs.Holds.{CatchesAlike, last_of_text}
 use Rattle.core_laws.proofs.Items.{AllOf, all_at, all_first, all_joined, all_second, IsPlainItem, alone_matched, live_fair, matched_fair}
 use Rattle.core_laws.proofs.Marks.{Unmarked, put_unmarked, unmarked_push, unmarked_without}
-use Rattle.core_laws.proofs.Outputs.{AreFairItems, EntersAlike, Ends, GoesOn, Over, IsReady, alike_remembering, alone_alike, behind, ends_alike, if_any, output_alike, quiet_here, stopped_stays, then_alike}
-use Rattle.core_laws.proofs.Rising.{among_left}
+use Rattle.core_laws.proofs.Outputs.{AreFairItems, EntersAlike, Ends, GoesOn, Over, IsReady, alike_remembering, behind, ends_alike, if_any, output_alike, quiet_here, stopped_stays, then_alike}
 use Rattle.core_laws.proofs.SameOutputs.{equal_outputs}
 use Rattle.core_laws.proofs.Saves.{same_saves}
 use Rattle.core_laws.proofs.Whole.{IsWhole, all_listed, puts_of, values_hold, widths_hold}
-use Rattle.core_laws.proofs.Windows.{Seen, back_is, backed, seen_back, seen_capped, seen_more, without_none}
+use Rattle.core_laws.proofs.Windows.{Seen, back_is, seen_back, seen_capped, seen_more, without_none}
 use Rattle.kmn_base.specs.declared.items.Element.{Element}
 use Rattle.rule_model.specs.Match.{Content}
 
@@ -268,8 +265,7 @@ module _ (version : CoreVersion) (tables : Tables) (playable : IsPlayable tables
     -- ---- an event in the group
 
     module _ (queued : ℕ) (chain : Chain queued d tables.groups group) (c : CoreEvent) (s : EventState) (going : IsGoing tables puts changes (spent_at k g) queued [] c.last c s)
-      (pending : (n : ℕ) → is_among n c.to_save ≡ true → AllOf (λ (item : Out). changes_option changes n item ≡ false) (group_items group)) where
-
+        (pending : (n : ℕ) → is_among n c.to_save ≡ true → AllOf (λ (item : Out). changes_option changes n item ≡ false) (group_items group)) where
       with_rest : (rest : List Out) → ((n : ℕ) → is_among n c.to_save ≡ true → list_any (changes_option changes n) rest ≡ false) → IsGoing tables puts changes (spent_at k g) queued rest c.last c s
       with_rest rest unchanged =
           record {
@@ -418,8 +414,7 @@ module _ (version : CoreVersion) (tables : Tables) (playable : IsPlayable tables
       -- ---- a record is used in both
 
       module _ (rule : Rule) (place : ℕ) (at : slice_get group.rules place ≡ Some rule) (catches : List Catch) (tried : Tried) (held : CatchesAlike facts c.window rule.context catches tried)
-        (untold : IsUntold tables facts known group rule) (found : c.last.places ≡ tried.1) where
-
+          (untold : IsUntold tables facts known group rule) (found : c.last.places ≡ tried.1) where
         abbrev recalled : LastMatch
         recalled = record { kept = last_items (compared_count rule.context) c.window; skipped = skipped_count version rule.context; places = tried.1 }
 
@@ -695,8 +690,7 @@ module _ (version : CoreVersion) (tables : Tables) (playable : IsPlayable tables
 
     -- what an event has when the group is entered
     module _ (queued : ℕ) (room : queued + effects_at (d + 1) g ≤ 1024) (c : CoreEvent) (s : EventState) (known_last : LastMatch)
-      (going : IsGoing tables puts (changes_within (d + 1) tables.groups) (spent_at k g) queued (output.Enter g ∷ []) known_last c s) where
-
+        (going : IsGoing tables puts (changes_within (d + 1) tables.groups) (spent_at k g) queued (output.Enter g ∷ []) known_last c s) where
       chain_here : Chain queued d tables.groups group
       chain_here = chain_of queued d tables.groups g group listed room
 

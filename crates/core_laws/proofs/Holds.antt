@@ -1,5 +1,5 @@
--- A context of which nothing is told holds in Keyman's own engine if and only if it does in this product, and catches the same items.
-use Rattle.std.specs.Prelude.{◌≡◌, ℕ, zero, suc, ◌+◌, ◌-◌, ◌<◌, ◌≤◌, min, Bool, true, false, not, ◌&&◌, ◌||◌, nat_eq, nat_le, nat_lt, cond, if◌then◌else◌, List, [], ◌∷◌, ◌++◌, length, map, take, drop, flat_map, count_by, sum_by, slice_get, is_some, Option, Some, None}
+-- A context of which nothing is reported holds in Keyman's own engine if and only if it does in this product, and catches the same items.
+use Rattle.std.specs.Prelude.{◌≡◌, ℕ, ◌+◌, ◌-◌, ◌<◌, ◌≤◌, min, Bool, true, false, not, ◌&&◌, ◌||◌, nat_eq, nat_le, nat_lt, cond, if◌then◌else◌, List, [], ◌∷◌, ◌++◌, length, map, take, drop, flat_map, count_by, sum_by, is_some, Option, Some, None}
 use Rattle.std.specs.List.{All, cons_option, list_all, list_any}
 use Rattle.std.proofs.Common.{◌⊎◌, refl, sym, ap, ◌∙◌, arith, inl, inr, length-append, length-drop, append_assoc}
 use Rattle.std.proofs.Math.Path.{subst}
@@ -24,7 +24,7 @@ use Rattle.rule_model.specs.Hold.{is_true, is_at_start, pattern_count, has_room}
 use Rattle.rule_model.specs.Patterns.{is_matched, is_nul}
 use Rattle.rule_model.specs.Tab.{tab_pattern}
 use Rattle.kmx_format.specs.Writable.{stores_of_pattern, IsWritableContext}
-use Rattle.core_meaning.specs.Events.{weight, units, CoreKeyboard, is_18, last_items}
+use Rattle.core_meaning.specs.Events.{units, CoreKeyboard, last_items}
 use Rattle.core_meaning.specs.Contexts.{Tried, place_found, core_condition, core_match, core_holds, begins_with_nul, behind_nul, compared_count, first_places, has_items}
 use Rattle.core_meaning.specs.ContextLaws.{stated_platform, FindsAlike, AreAlike, AreTriedAlike, caught_of}
 use Rattle.core_meaning.proofs.ConditionsAlike.{conditions_are_alike}
@@ -33,7 +33,7 @@ use Rattle.core_constructs.specs.declared.facts.Facts.{Facts}
 use Rattle.core_constructs.specs.Contexts.{asks_empty_word, asks_from_option, asks_layer, asks_unput, counts_differently, has_late_nul, has_offset, puts_by_offset}
 use Rattle.core_constructs.specs.Contexts as told
 use Rattle.core_constructs.specs.Widths.{is_long, widest, width_in, with_context}
-use Rattle.core_laws.proofs.Caught.{AreCaught, HasWidths, all_caught, at_least_two, items_in, units_most, caught_count, item_at}
+use Rattle.core_laws.proofs.Caught.{AreCaught, HasWidths, all_caught, at_least_two, items_in, units_most}
 use Rattle.core_laws.proofs.Compared.{HasNul, Without, First, nul_of, counted, all_compared, compared_matched, text_caught, plain_matches, unput_fails}
 use Rattle.core_laws.proofs.Contexts.{HasValues, all_alike, all_tried, counts_alike}
 use Rattle.core_laws.proofs.Marks.{Unmarked, light, unmarked_at}
@@ -45,7 +45,7 @@ true_false e = grind arith
 false_true : false ≡ true → ⊥
 false_true e = grind arith
 
--- a context of which nothing is told, in a group that is entered when these units can be spent, before these live items
+-- a context of which nothing is reported, in a group that is entered when these units can be spent, before these live items
 pub record IsFairContext (facts : Facts) (stores : List Store) (count spent : ℕ) (items : List Out) (context : List Pat) : Type 0 where
   pub late : has_late_nul context ≡ false
   pub offsets : counts_differently context items ≡ false
@@ -150,10 +150,9 @@ fits_start facts spent context short first = by_sum (spent + sum_by (width_in fa
     by_sum n w wide e = grind (arith, nat_tests)
 
 module _ (kb : CoreKeyboard) (facts : Facts) (stores : List Store) (count : ℕ) (content : Content) (widths : HasWidths facts count content)
-  (values : HasValues facts.options count stores content) (unset : content Platform ≡ stated_platform)
-  (spent : ℕ) (items : List Out) (context : List Pat) (fair : IsFairContext facts stores count spent items context)
-  (left window : List Item) (plain : Unmarked left) (seen : Seen spent left window) where
-
+    (values : HasValues facts.options count stores content) (unset : content Platform ≡ stated_platform)
+    (spent : ℕ) (items : List Out) (context : List Pat) (fair : IsFairContext facts stores count spent items context)
+    (left window : List Item) (plain : Unmarked left) (seen : Seen spent left window) where
   abbrev patterns_count : ℕ
   patterns_count = pattern_count (map (tab_pattern stores) context)
 
@@ -167,7 +166,7 @@ module _ (kb : CoreKeyboard) (facts : Facts) (stores : List Store) (count : ℕ)
   items_here : (catches : List Catch) → catches_from content [] (map (tab_pattern stores) context) text_end ≡ Some catches → items_in catches ≡ text_end
   items_here catches e = text_caught content (map (tab_pattern stores) context) [] text_end catches e
 
-  -- the text that was caught lies in the window
+  -- the text that was caught is in the window
   reaches_end : (catches : List Catch) → catches_from content [] (map (tab_pattern stores) context) text_end ≡ Some catches → spent + sum_by (width_in facts context) context ≤ 63 → length text_end ≤ length window
   reaches_end catches e fits =
       seen.reaches (take (length left - patterns_count) left) text_end (sym (take-append-drop (length left - patterns_count) left))
@@ -261,10 +260,9 @@ no_items [] none = refl
 no_items (x ∷ xs) none = absurd (omega (arith, none))
 
 module _ (kb : CoreKeyboard) (facts : Facts) (stores : List Store) (count : ℕ) (content : Content) (widths : HasWidths facts count content)
-  (values : HasValues facts.options count stores content) (unset : content Platform ≡ stated_platform)
-  (spent : ℕ) (items : List Out) (rest : List Pat) (fair : IsFairContext facts stores count spent items (pattern.Nul ∷ rest))
-  (left window : List Item) (plain : Unmarked left) (seen : Seen spent left window) (none : list_any is_nul rest ≡ false) where
-
+    (values : HasValues facts.options count stores content) (unset : content Platform ≡ stated_platform)
+    (spent : ℕ) (items : List Out) (rest : List Pat) (fair : IsFairContext facts stores count spent items (pattern.Nul ∷ rest))
+    (left window : List Item) (plain : Unmarked left) (seen : Seen spent left window) (none : list_any is_nul rest ≡ false) where
   abbrev context : List Pat
   context = pattern.Nul ∷ rest
 
@@ -456,8 +454,7 @@ unput_behind (pattern.Nul ∷ ps) some = some
 unput_behind (p ∷ ps) some = some
 
 module _ (kb : CoreKeyboard) (facts : Facts) (stores : List Store) (count : ℕ) (content : Content) (widths : HasWidths facts count content) (context : List Pat) (below : All (λ store. store < count) (flat_map stores_of_pattern context)) (some : list_any (asks_unput []) context ≡ true)
-  (spent : ℕ) (left window : List Item) (plain : Unmarked left) (seen : Seen spent left window) where
-
+    (spent : ℕ) (left window : List Item) (plain : Unmarked left) (seen : Seen spent left window) where
   window_unmarked : Unmarked window
   window_unmarked = subst Unmarked (ap (λ (xs : List Item). drop (length seen.before) xs) seen.parts ∙ behind seen.before window) (All-drop (λ item. is_mark item ≡ false) (length seen.before) left plain)
     where
@@ -500,9 +497,8 @@ abbrev pub IsFairIfMatched : Facts → List Store → (count spent : ℕ) → Li
 IsFairIfMatched facts stores count spent items context = list_any (asks_unput facts.marks) context ≡ false → IsFairContext facts stores count spent items context
 
 module _ (kb : CoreKeyboard) (facts : Facts) (marks : facts.marks ≡ []) (stores : List Store) (count : ℕ) (content : Content) (widths : HasWidths facts count content)
-  (values : HasValues facts.options count stores content) (unset : content Platform ≡ stated_platform)
-  (spent : ℕ) (items : List Out) (left window : List Item) (plain : Unmarked left) (seen : Seen spent left window) where
-
+    (values : HasValues facts.options count stores content) (unset : content Platform ≡ stated_platform)
+    (spent : ℕ) (items : List Out) (left window : List Item) (plain : Unmarked left) (seen : Seen spent left window) where
   by_nul : (context : List Pat) → HasNul context → IsFairContext facts stores count spent items context → HeldAlike facts window context (caught_of content (map (tab_pattern stores) context) left) (core_holds kb content window context)
   by_nul context (Without none first) fair = held_without kb facts stores count content widths values unset spent items context fair left window plain seen none first
   by_nul (pattern.Nul ∷ rest) (First none) fair =

@@ -1,14 +1,14 @@
--- The items of outputs of which nothing is told.
-use Rattle.std.specs.Prelude.{◌≡◌, ℕ, zero, suc, ◌+◌, ◌-◌, ◌<◌, ◌≤◌, Bool, true, false, not, ◌&&◌, ◌||◌, nat_eq, cond, if◌then◌else◌, List, [], ◌∷◌, ◌++◌, length, map, take, drop, flat_map, count_by, slice_get, Option, Some, None, IsSomeAnd, sum_by}
+-- The items of outputs of which nothing is reported.
+use Rattle.std.specs.Prelude.{◌≡◌, ℕ, zero, suc, ◌+◌, ◌-◌, ◌<◌, ◌≤◌, Bool, true, false, not, ◌&&◌, ◌||◌, nat_eq, cond, if◌then◌else◌, List, [], ◌∷◌, ◌++◌, length, take, flat_map, count_by, slice_get, Option, Some, None, IsSomeAnd, sum_by}
 use Rattle.std.specs.Option.{option_map_or}
 use Rattle.std.specs.List.{All, list_any}
-use Rattle.std.proofs.Common.{refl, sym, ap, ◌∙◌, arith, inl, inr, get_or}
+use Rattle.std.proofs.Common.{refl, sym, ap, ◌∙◌, arith, inl, inr}
 use Rattle.std.proofs.Math.Path.{subst}
 use Rattle.std.proofs.lemmas.Bool.{or_parts}
 use Rattle.std.proofs.lemmas.Bool.Decides.{nat_tests}
 use Rattle.std.proofs.lemmas.List.Elements.{All-head, All-tail, All-drop}
 use Rattle.std.proofs.lemmas.List.Sums.{sum_by-cons, count_by-le-length}
-use Rattle.std.proofs.lemmas.Option.{none-some, get_or_from_slice_get, same_Some}
+use Rattle.std.proofs.lemmas.Option.{none-some, same_Some}
 use Rattle.kmn_base.specs.declared.items.Item.{Item}
 use Rattle.kmn_base.specs.Lists.{is_mark}
 use Rattle.kmn_base.specs.Rising.{is_among, rising}
@@ -22,11 +22,10 @@ use Rattle.rule_model.specs.declared.tables.Store.{Store}
 use Rattle.rule_model.specs.declared.tables.Tables.{Tables}
 use Rattle.rule_model.specs.Keyboard.{StoreMeaning}
 use Rattle.rule_model.specs.Match.{place_caught}
-use Rattle.rule_model.specs.Act.{place_for_index}
 use Rattle.rule_model.specs.Enter.{nothing}
 use Rattle.rule_model.specs.Patterns.{is_condition, is_matched, is_nul}
 use Rattle.rule_model.specs.Tab.{elements_of, tab_options}
-use Rattle.kmx_format.specs.Writable.{is_any, needs_context, stores_of_output, PointsTo, PointsInto}
+use Rattle.kmx_format.specs.Writable.{is_any, needs_context, stores_of_output, PointsInto}
 use Rattle.core_meaning.specs.Events.{CoreVersion, is_18, LastMatch, last_items, weight, units}
 use Rattle.core_meaning.specs.Contexts.{Tried, begins_with_nul, compared_count}
 use Rattle.core_meaning.specs.Options.{is_named, name_at, saved_under, last_option_named}
@@ -38,9 +37,9 @@ use Rattle.core_constructs.specs.Marks.{item_marks, put_store, set_value}
 use Rattle.core_constructs.specs.Outputs.{live, sets_from_option, sets_layer}
 use Rattle.core_constructs.specs.Told.{shares_name}
 use Rattle.core_laws.specs.Laws.{is_nameless, saves_nameless}
-use Rattle.core_laws.proofs.Actions.{IsFairItem, IsFairIndex, IsFairContext, IsFairContextAt, IsFairSet, IsFairSave, IsFairReset}
+use Rattle.core_laws.proofs.Actions.{IsFairItem}
 use Rattle.core_laws.proofs.Alike.{stores_in, NoMarks}
-use Rattle.core_laws.proofs.Caught.{AreCaught, ItemAt, any_place, caught_count, caught_size, items_in, item_at, units_least}
+use Rattle.core_laws.proofs.Caught.{ItemAt, any_place, caught_count, caught_size, item_at, units_least}
 use Rattle.core_laws.proofs.Choice.{plainly}
 use Rattle.core_laws.proofs.Contexts.{CountsAlike, counts_alike, names_any}
 use Rattle.core_laws.proofs.Holds.{CatchesAlike}
@@ -48,7 +47,7 @@ use Rattle.core_laws.proofs.Marks.{IsUnmarked, Unmarked}
 use Rattle.core_laws.proofs.Outputs.{AreFairItems}
 use Rattle.core_laws.proofs.Rising.{same_number, not_in_rising}
 use Rattle.core_laws.proofs.Saves.{IsNoted}
-use Rattle.core_laws.proofs.Values.{all_stores, IsStoreAt, meaning_at, number_of_other, saved_itself, store_at}
+use Rattle.core_laws.proofs.Values.{IsStoreAt, meaning_at, number_of_other, saved_itself, store_at}
 use Rattle.core_constructs.specs.Spent.{least_width}
 
 true_false : true ≡ false → ⊥
@@ -92,9 +91,8 @@ pub record IsPlainItem (stores : List Store) (puts : List ℕ) (item : Out) : Ty
   pub named : saves_nameless stores item ≡ false
 
 module _ (tables : Tables) (puts : List ℕ) (clean : (store : ℕ) → is_among store puts ≡ true → NoMarks (elements_of tables.stores store))
-  (alone : shares_name tables.stores (rising (tab_options tables)) ≡ false) where
-
-  -- each store of the tables is no option, or is saved under itself
+    (alone : shares_name tables.stores (rising (tab_options tables)) ≡ false) where
+  -- each store of the tables isn't an option, or is saved under itself
   pub noted : (n : ℕ) → n < length tables.stores → IsNoted (stores_in tables) n
   noted n less = by_option (is_among n (tab_options tables)) refl
     where
@@ -156,9 +154,10 @@ module _ (tables : Tables) (puts : List ℕ) (clean : (store : ℕ) → is_among
     live_fair (output.Stop ∷ outputs) plain below value layer matched = (tt, tt)
     live_fair (item ∷ outputs) plain below value layer matched =
         let one = or_parts (sets_from_option (rising (tab_options tables)) item) (list_any (sets_from_option (rising (tab_options tables))) (live outputs)) value in
-        let two = or_parts (sets_layer item) (list_any sets_layer (live outputs)) layer in
-        (one_fair item (flat_map stores_of_output outputs) plain.0 below one.0 two.0 matched.0,
-        live_fair outputs plain.1 (rest_below (stores_of_output item) (flat_map stores_of_output outputs) below) one.1 two.1 matched.1)
+        let two = or_parts (sets_layer item) (list_any sets_layer (live outputs)) layer in (
+          one_fair item (flat_map stores_of_output outputs) plain.0 below one.0 two.0 matched.0,
+          live_fair outputs plain.1 (rest_below (stores_of_output item) (flat_map stores_of_output outputs) below) one.1 two.1 matched.1,
+        )
 
   -- a match or nomatch output puts nothing that was matched
   pub alone_matched : (last : LastMatch) (outputs : List Out) → All (λ item. needs_context item ≡ false) outputs → AllOf (λ (item : Out). needs_context item ≡ true → IsFairItem tables puts [] nothing last item) (live outputs)
@@ -223,8 +222,7 @@ unmarked_get (y ∷ xs) zero x plain listed = ap is_mark (sym (same_Some y x lis
 unmarked_get (y ∷ xs) (suc i) x plain listed = unmarked_get xs i x (All-tail (λ item. is_mark item ≡ false) y xs plain) listed
 
 module _ (version : CoreVersion) (tables : Tables) (puts : List ℕ) (facts : Facts) (context : List Pat) (items : List Out) (window : List Item) (catches : List Catch) (tried : Tried)
-  (late : has_late_nul context ≡ false) (offsets : counts_differently context items ≡ false) (held : CatchesAlike facts window context catches tried) (plain : Unmarked window) where
-
+    (late : has_late_nul context ≡ false) (offsets : counts_differently context items ≡ false) (held : CatchesAlike facts window context catches tried) (plain : Unmarked window) where
   -- what is remembered of a record that is used
   abbrev pub remembered : LastMatch
   remembered = record { kept = last_items (compared_count context) window; skipped = skipped_count version context; places = tried.1 }
@@ -326,9 +324,10 @@ module _ (version : CoreVersion) (tables : Tables) (puts : List ℕ) (facts : Fa
   matched_from [] points unmoved some all = tt
   matched_from (output.Stop ∷ outputs) points unmoved some all = (λ needs. absurd (false_true needs), tt)
   matched_from (item ∷ outputs) points unmoved some all =
-      let moved = or_parts (is_moved_output context item) (list_any (is_moved_output context) (live outputs)) unmoved in
-      (matched_item item (All-head (PointsInto context) item outputs points) moved.0 (λ here. some (λ i. here i || list_any puts_by_offset (live outputs))) all.0,
-      matched_from outputs (All-tail (PointsInto context) item outputs points) moved.1 (λ rest. some (behind (puts_by_offset item) rest)) all.1)
+      let moved = or_parts (is_moved_output context item) (list_any (is_moved_output context) (live outputs)) unmoved in (
+        matched_item item (All-head (PointsInto context) item outputs points) moved.0 (λ here. some (λ i. here i || list_any puts_by_offset (live outputs))) all.0,
+        matched_from outputs (All-tail (PointsInto context) item outputs points) moved.1 (λ rest. some (behind (puts_by_offset item) rest)) all.1,
+      )
     where
       behind : (b : Bool) → list_any puts_by_offset (live outputs) ≡ true → (b || list_any puts_by_offset (live outputs)) ≡ true
       behind true rest = refl

@@ -1,11 +1,10 @@
 -- The values of options: their numbers, what a change of one leaves of the others, and their first values.
-use Rattle.std.specs.Prelude.{◌≡◌, ℕ, zero, suc, ◌+◌, ◌-◌, ◌<◌, ◌≤◌, ◌⊎◌, Bool, true, false, not, ◌&&◌, ◌||◌, nat_eq, cond, if◌then◌else◌, List, [], ◌∷◌, ◌++◌, length, map, slice_get, slice_set, unwrap_or, Option, Some, None}
+use Rattle.std.specs.Prelude.{◌≡◌, ℕ, zero, suc, ◌+◌, ◌-◌, ◌<◌, ◌⊎◌, Bool, true, false, not, ◌&&◌, ◌||◌, nat_eq, if◌then◌else◌, List, [], ◌∷◌, ◌++◌, length, map, slice_get, slice_set, unwrap_or, Option, Some, None}
 use Rattle.std.specs.List.{list_any}
 use Rattle.std.specs.Str.{bytes_eq}
 use Rattle.std.proofs.Common.{refl, sym, ap, ◌∙◌, arith, inl, inr, length-append}
 use Rattle.std.proofs.Math.Path.{subst}
-use Rattle.std.proofs.lemmas.Bool.{or_parts, and_parts, cases_order}
-use Rattle.std.proofs.lemmas.Bool.Decides.{nat_tests}
+use Rattle.std.proofs.lemmas.Bool.{or_parts, cases_order}
 use Rattle.std.proofs.lemmas.Option.{none-some, same_Some}
 use Rattle.std.proofs.lemmas.Slice.Eq.{bytes_eq-Decides}
 use Rattle.kmn_base.specs.declared.items.Element.{Element}
@@ -16,12 +15,12 @@ use Rattle.rule_model.specs.Content.{options_before, option_of, option_at, optio
 use Rattle.rule_model.specs.System.{system_options}
 use Rattle.rule_model.specs.Trace.{options_of}
 use Rattle.rule_model.specs.Tab.{elements_of, with_options, store_elements}
-use Rattle.rule_model.proofs.PlainOptions.{length-with_options, content_of_option, content_of_other}
+use Rattle.rule_model.proofs.PlainOptions.{length-with_options, content_of_other}
 use Rattle.rule_model.proofs.SystemOptions.{at_behind, content_by_option, own_elements}
 use Rattle.core_meaning.specs.Options.{name_at, is_named, last_option_named, saved_under}
 use Rattle.core_meaning.specs.ContextLaws.{stated_platform}
 use Rattle.core_constructs.specs.Told.{have_same_name, shares_name}
-use Rattle.core_laws.proofs.Rising.{equal_numbers, same_number, in_rising, not_in_rising}
+use Rattle.core_laws.proofs.Rising.{equal_numbers, same_number, in_rising}
 use Rattle.std.specs.Option.{option_map_or}
 
 true_false : true ≡ false → ⊥
