@@ -1,13 +1,12 @@
--- Each item of an output of which nothing is told does the same in Keyman's own engine and in this product.
-use Rattle.std.specs.Prelude.{◌≡◌, ℕ, zero, suc, ◌+◌, ◌-◌, ◌<◌, ◌≤◌, ◌⊎◌, Bool, true, false, ◌||◌, nat_eq, nat_le, if◌then◌else◌, List, [], ◌∷◌, ◌++◌, filter_map, length, map, slice_get, slice_set, sum_by, unwrap_or, option_and_then, Option, Some, None}
-use Rattle.std.specs.Option.{option_map_or}
+-- Each item of an output of which nothing is reported does the same in Keyman's own engine and in this product.
+use Rattle.std.specs.Prelude.{◌≡◌, ℕ, suc, ◌+◌, ◌-◌, ◌<◌, ◌≤◌, Bool, true, false, ◌||◌, nat_eq, nat_le, if◌then◌else◌, List, [], ◌∷◌, ◌++◌, length, slice_get, slice_set, sum_by, unwrap_or, option_and_then, Option, Some, None}
 use Rattle.std.specs.List.{list_any, cons_option}
 use Rattle.std.proofs.Common.{refl, sym, ap, ◌∙◌, arith, inl, inr}
 use Rattle.std.proofs.Math.Path.{subst}
 use Rattle.std.proofs.lemmas.Bool.{or_parts}
 use Rattle.std.proofs.lemmas.Bool.Decides.{leb_tells}
 use Rattle.std.proofs.lemmas.List.Elements.{All-head, All-tail}
-use Rattle.std.proofs.lemmas.Option.{none-some, same_Some}
+use Rattle.std.proofs.lemmas.Option.{none-some}
 use Rattle.kmn_base.specs.declared.items.Item.{Item}
 use Rattle.kmn_base.specs.declared.items.Item.TheVariants as item
 use Rattle.kmn_base.specs.declared.items.Element.{Element}
@@ -33,7 +32,7 @@ use Rattle.core_constructs.specs.Changes.{changes_option, is_saved_early}
 use Rattle.core_constructs.specs.Queued.{item_effects}
 use Rattle.core_constructs.specs.Spent.{least_width, put_units}
 use Rattle.core_laws.proofs.Marks.{IsUnmarked, Unmarked, put_unmarked, unmarked_push}
-use Rattle.core_laws.proofs.Alike.{stores_in, core_of, own_of, NoMarks, plain_element, IsAlike, IsGoing, going_more, sound_set, sound_save}
+use Rattle.core_laws.proofs.Alike.{stores_in, core_of, own_of, NoMarks, plain_element, IsGoing, going_more, sound_set, sound_save}
 use Rattle.core_laws.proofs.Rising.{among_both, equal_numbers, false_true, same_number}
 use Rattle.core_laws.proofs.Saves.{IsNoted, save_behind, save_noted, saves_current, set_before_saves, not_saved, same_saves}
 use Rattle.core_laws.proofs.Values.{content_of_plain, elements_of_own, same_option}
@@ -268,7 +267,7 @@ pub record IsFairIndex (puts : List ℕ) (caught : Caught) (last : LastMatch) (s
   pub here : place_for_index caught offset ≡ Some place
   pub there : place_found last.places offset ≡ place
 
--- `context` puts what was matched, at least so many units, and not more items than the context has
+-- `context` puts what was matched, at least the given number of units, and not more items than the context has
 pub record IsFairContext (context : List Pat) (caught : Caught) (last : LastMatch) : Type 0 where
   pub kept : last.kept ≡ items_caught caught
   pub plain : Unmarked last.kept

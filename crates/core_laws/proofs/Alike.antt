@@ -1,5 +1,5 @@
 -- The state of an event in Keyman's own engine and in this product: what is equal in both, and what each state keeps.
-use Rattle.std.specs.Prelude.{◌≡◌, ℕ, zero, suc, ◌+◌, ◌-◌, ◌<◌, ◌≤◌, Bool, true, false, nat_eq, if◌then◌else◌, List, [], ◌∷◌, ◌++◌, flat_map, length, map, slice_get, slice_set, unwrap_or, Option, Some, None, ◌⊎◌}
+use Rattle.std.specs.Prelude.{◌≡◌, ℕ, zero, suc, ◌<◌, ◌≤◌, Bool, true, false, nat_eq, List, [], ◌∷◌, flat_map, length, map, slice_get, slice_set, unwrap_or, Option, Some, None, ◌⊎◌}
 use Rattle.std.specs.List.{list_any}
 use Rattle.std.proofs.Common.{refl, sym, ap, ◌∙◌, arith, inl, inr}
 use Rattle.std.proofs.Math.Path.{subst}
@@ -150,7 +150,7 @@ module _ (tables : Tables) (puts : List ℕ) where
     pub plain : Unmarked s.left
     pub sound : IsSound s.current s.saved
 
-  -- the event goes on: so many units are spent, at most so many effects were queued and items put, and none of the stores that are noted
+  -- the event goes on: `spent` units are spent, at most `used` effects were queued and items put, and none of the stores that are noted
   -- to be saved is changed by the rest
   pub record IsGoing (changes : List (List ℕ)) (spent used : ℕ) (rest : List Out) (last : LastMatch) (c : CoreEvent) (s : EventState) : Type 0 where
     pub alike : IsAlike c s

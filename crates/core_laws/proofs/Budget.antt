@@ -1,5 +1,5 @@
 -- What an event can queue, and the units that it can have spent, when it enters a group: by the group that enters it.
-use Rattle.std.specs.Prelude.{◌≡◌, ℕ, zero, suc, ◌+◌, ◌-◌, ◌<◌, ◌≤◌, ◌⊎◌, min, max, Bool, true, false, not, ◌||◌, nat_eq, if◌then◌else◌, List, [], ◌∷◌, ◌++◌, length, map, flat_map, replicate, slice_get, slice_set, sum_by, unwrap_or, option_map, Option, Some, None}
+use Rattle.std.specs.Prelude.{◌≡◌, ℕ, zero, suc, ◌+◌, ◌<◌, ◌≤◌, ◌⊎◌, min, max, Bool, true, false, ◌||◌, nat_eq, if◌then◌else◌, List, [], ◌∷◌, length, map, flat_map, slice_get, slice_set, sum_by, unwrap_or, option_map, Option, Some, None}
 use Rattle.std.specs.List.{fold}
 use Rattle.std.proofs.Common.{refl, sym, ap, ◌∙◌, arith, inl, inr, length-set}
 use Rattle.std.proofs.Math.Path.{subst}
@@ -15,9 +15,9 @@ use Rattle.core_constructs.specs.Marks.{group_items}
 use Rattle.core_constructs.specs.Outputs.{ends, live}
 use Rattle.core_constructs.specs.Queued.{chain_effects, effects_within, entered_effects, group_effects, item_effects, rule_effects, with_effects}
 use Rattle.core_constructs.specs.Reached.{entered}
-use Rattle.core_constructs.specs.Spent.{after_group, after_groups, after_match, after_number, after_rule, after_some, raised, raised_by, spent_after, spent_by, spent_within}
+use Rattle.core_constructs.specs.Spent.{after_group, after_match, after_number, after_rule, after_some, raised, raised_by, spent_after, spent_by, spent_within}
 use Rattle.core_constructs.proofs.Depths.{spent_none, spent_more, effects_more}
-use Rattle.core_laws.proofs.Items.{AllOf, all_first, all_second, all_at}
+use Rattle.core_laws.proofs.Items.{AllOf}
 use Rattle.core_laws.proofs.Rising.{among_both, equal_numbers, same_number}
 use Rattle.core_laws.proofs.Values.{get_set_other}
 

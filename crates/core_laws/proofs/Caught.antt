@@ -1,5 +1,5 @@
 -- What the items of a context catch in this product: their places, and between which units they have.
-use Rattle.std.specs.Prelude.{◌≡◌, ℕ, zero, suc, ◌+◌, ◌-◌, ◌<◌, ◌≤◌, max, min, Bool, true, false, not, nat_eq, nat_lt, if◌then◌else◌, cond, List, [], ◌∷◌, ◌++◌, length, map, take, flat_map, filter_map, count_by, sum_by, position, slice_get, is_some, unwrap_or, option_and_then, Option, Some, None}
+use Rattle.std.specs.Prelude.{◌≡◌, ℕ, zero, suc, ◌+◌, ◌-◌, ◌<◌, ◌≤◌, Bool, true, false, not, nat_eq, if◌then◌else◌, cond, List, [], ◌∷◌, ◌++◌, length, map, take, flat_map, filter_map, count_by, sum_by, position, slice_get, is_some, option_and_then, Option, Some, None}
 use Rattle.std.specs.Option.{option_map_or}
 use Rattle.std.specs.List.{All, cons_option}
 use Rattle.std.proofs.Common.{refl, sym, ap, ◌∙◌, arith, append_assoc, append-nil, get_or}
@@ -19,7 +19,7 @@ use Rattle.rule_model.specs.declared.tables.Pat.{Pat}
 use Rattle.rule_model.specs.declared.tables.Pat.TheVariants as pattern
 use Rattle.rule_model.specs.declared.tables.Store.{Store}
 use Rattle.rule_model.specs.Keyboard.{Numbered}
-use Rattle.rule_model.specs.Match.{Content, is_item, place_of, place_caught, item_caught, element_at, is_element, is_same, same_item, matches, nothing_caught, catches_from}
+use Rattle.rule_model.specs.Match.{Content, is_item, place_of, place_caught, item_caught, element_at, is_element, is_same, same_item, nothing_caught, catches_from}
 use Rattle.rule_model.specs.Act.{item_list}
 use Rattle.rule_model.specs.Patterns.{is_matched}
 use Rattle.rule_model.specs.Tab.{tab_pattern}
@@ -31,7 +31,6 @@ use Rattle.core_constructs.specs.Contexts.{is_unmatched}
 use Rattle.core_constructs.specs.Spent.{least_width}
 use Rattle.core_constructs.specs.Widths.{char_units, element_units, item_width, store_width, widest, width_in}
 use Rattle.core_laws.proofs.Marks.{IsUnmarked, Unmarked, light, weighty, some_weight}
-use Rattle.core_laws.proofs.Windows.{units_of_both}
 
 false_true : false ≡ true → ⊥
 false_true e = grind arith

@@ -1,4 +1,4 @@
--- Keyman's own engine and this product use the same record of a group of which nothing is told.
+-- Keyman's own engine and this product use the same record of a group of which nothing is reported.
 use Rattle.std.specs.Prelude.{◌≡◌, ℕ, suc, ◌-◌, ◌<◌, Bool, true, false, not, ◌&&◌, ◌||◌, nat_eq, nat_le, slice_get, if◌then◌else◌, List, [], ◌∷◌, length, map, drop, Option, Some, None}
 use Rattle.std.specs.List.{All, list_all, list_any}
 use Rattle.std.proofs.Common.{refl, sym, ap, ◌∙◌, arith}
@@ -18,7 +18,7 @@ use Rattle.rule_model.specs.declared.tables.Pat.{Pat}
 use Rattle.rule_model.specs.declared.tables.Group.{Group}
 use Rattle.rule_model.specs.declared.tables.Rule.{Rule}
 use Rattle.rule_model.specs.declared.tables.Tables.{Tables}
-use Rattle.rule_model.specs.Keyboard.{Platform, OneKey, RuleMeaning}
+use Rattle.rule_model.specs.Keyboard.{Platform}
 use Rattle.rule_model.specs.Match.{Content, catches_from}
 use Rattle.rule_model.specs.Hold.{is_true, has_room, pattern_count, caught_by, holds_with}
 use Rattle.rule_model.specs.Choose.{Chosen, first_with, first}
@@ -26,7 +26,7 @@ use Rattle.rule_model.specs.Enter.{nothing}
 use Rattle.rule_model.specs.Tab.{tab_pattern, tab_rule}
 use Rattle.kmx_format.specs.Writable.{IsWritableRule}
 use Rattle.core_meaning.specs.Events.{CoreKeyboard}
-use Rattle.core_meaning.specs.Keys.{core_key_fits, has_side, names_either, names_alt_gr}
+use Rattle.core_meaning.specs.Keys.{core_key_fits}
 use Rattle.core_meaning.specs.Laws.{IsCommonKey, IsCommonPress}
 use Rattle.core_meaning.specs.Contexts.{Tried, Taken, core_holds, core_takes, core_choose}
 use Rattle.core_meaning.specs.ContextLaws.{stated_platform, caught_of}
@@ -35,7 +35,7 @@ use Rattle.core_constructs.specs.declared.construct.Construct.{Construct}
 use Rattle.core_constructs.specs.declared.construct.Construct.TheVariants as construct
 use Rattle.core_constructs.specs.declared.facts.Facts.{Facts}
 use Rattle.core_constructs.specs.declared.facts.GroupFacts.{GroupFacts}
-use Rattle.core_constructs.specs.Contexts.{asks_empty_word, asks_from_option, asks_layer, asks_unput}
+use Rattle.core_constructs.specs.Contexts.{asks_from_option, asks_layer, asks_unput}
 use Rattle.core_constructs.specs.Empty.{from_empty, has_empty_context, is_nomatch_for}
 use Rattle.core_constructs.specs.Keys.{has_both_sides, is_alt_graph}
 use Rattle.core_constructs.specs.Outputs.{live, sets_from_option, sets_layer}
@@ -52,7 +52,7 @@ true_false e = grind arith
 false_true : false ≡ true → ⊥
 false_true e = grind arith
 
--- ---- records of which nothing is told
+-- ---- records of which nothing is reported
 
 -- a record has no construct
 abbrev pub IsUntold : Tables → Facts → GroupFacts → Group → Rule → Type 0
@@ -80,7 +80,7 @@ module _ (tables : Tables) (facts : Facts) (known : GroupFacts) (group : Group) 
         writable = writable.context;
       }
 
-  -- LCTRL RALT without SHIFT is told, or has CTRL or ALT too, which is told with a side
+  -- LCTRL RALT without SHIFT is reported, or has CTRL or ALT too, which is reported with a side
   alt_gr : (lc ra rc la sh either : Bool) → (either && ((lc || rc) || (la || ra))) ≡ false → (((lc && ra) && not (rc || la)) && not (sh || either)) ≡ false → (lc && ra && not rc && not la && not sh) ≡ false
   alt_gr false ra rc la sh either sides right = refl
   alt_gr true false rc la sh either sides right = refl
@@ -218,7 +218,7 @@ module _ (kb : CoreKeyboard) (tables : Tables) (facts : Facts) (marks : facts.ma
 
   -- ---- the record that is used
 
-  -- none is used in both, or the same; or one only here, with an empty context, behind which all contexts are empty
+  -- none is used in both, or the same; or one only here, with an empty context, after which all contexts are empty
   pub data ChosenAlike (rules : List Rule) (own : Option Chosen) (taken : Taken) : Type 0 where
     NoneChosen : own ≡ None → taken.0 ≡ None → ChosenAlike rules own taken
     BothChosen : (rule : Rule) (place : ℕ) (catches : List Catch) → slice_get rules place ≡ Some rule → own ≡ Some (tab_rule tables.stores group.using_keys rule, plainly catches) → taken ≡ (Some rule, (there rule).1)

@@ -1,6 +1,6 @@
 -- Which items of a context are compared with the text, and how contexts without offsets match.
-use Rattle.std.specs.Prelude.{◌≡◌, ℕ, zero, suc, ◌+◌, ◌-◌, ◌<◌, ◌≤◌, Bool, true, false, not, ◌&&◌, ◌||◌, cond, if◌then◌else◌, List, [], ◌∷◌, ◌++◌, length, map, take, drop, count_by, slice_get, is_some, Option, Some, None}
-use Rattle.std.specs.List.{list_all, list_any}
+use Rattle.std.specs.Prelude.{◌≡◌, ℕ, suc, ◌+◌, Bool, true, false, not, cond, if◌then◌else◌, List, [], ◌∷◌, ◌++◌, length, map, drop, count_by, is_some, Option, Some, None}
+use Rattle.std.specs.List.{list_any}
 use Rattle.std.proofs.Common.{refl, sym, ap, ◌∙◌, arith, append_assoc, append-nil}
 use Rattle.std.proofs.lemmas.Bool.{or_parts}
 use Rattle.std.proofs.lemmas.List.Elements.{All-head, All-tail, filter_map-append}
@@ -17,9 +17,9 @@ use Rattle.rule_model.specs.declared.tables.Store.{Store}
 use Rattle.rule_model.specs.Keyboard.{Pattern, Numbered}
 use Rattle.rule_model.specs.Match.{Content, is_item, place_of, takes_item, matches, place_for, nothing_caught, catch_item, catches_from}
 use Rattle.rule_model.specs.Hold.{pattern_count}
-use Rattle.rule_model.specs.Patterns.{is_condition, is_matched, is_nul}
+use Rattle.rule_model.specs.Patterns.{is_matched, is_nul}
 use Rattle.rule_model.specs.Tab.{tab_pattern}
-use Rattle.core_meaning.specs.Contexts.{core_match, core_matches, core_place, fails, begins_with_nul, behind_nul, compared_count}
+use Rattle.core_meaning.specs.Contexts.{core_match, core_matches, core_place, fails, begins_with_nul, compared_count}
 use Rattle.core_meaning.specs.ContextLaws.{is_compared}
 use Rattle.core_constructs.specs.Contexts.{asks_unput, has_late_nul, has_offset}
 use Rattle.core_laws.proofs.Caught.{items_in}

@@ -1,8 +1,8 @@
--- Contexts of which nothing is told: each item is compared in the same way, and each condition is tried in the same way.
-use Rattle.std.specs.Prelude.{◌≡◌, ℕ, zero, suc, ◌+◌, ◌-◌, ◌<◌, ◌≤◌, Bool, true, false, not, ◌&&◌, ◌||◌, nat_eq, cond, if◌then◌else◌, List, [], ◌∷◌, ◌++◌, length, take, drop, flat_map, count_by, slice_get, slice_index_or, IsSomeAnd, Option, Some, None}
+-- Contexts of which nothing is reported: each item is compared in the same way, and each condition is tried in the same way.
+use Rattle.std.specs.Prelude.{◌≡◌, ℕ, zero, suc, ◌+◌, ◌-◌, ◌<◌, Bool, true, false, not, ◌&&◌, ◌||◌, nat_eq, cond, List, [], ◌∷◌, ◌++◌, length, take, flat_map, count_by, slice_get, slice_index_or, IsSomeAnd, Option, Some, None}
 use Rattle.std.specs.Option.{option_map_or}
 use Rattle.std.specs.List.{All, list_all, list_any}
-use Rattle.std.proofs.Common.{refl, sym, ap, ◌∙◌, arith, get_or, append_assoc, append-nil, length-append}
+use Rattle.std.proofs.Common.{refl, sym, ap, ◌∙◌, arith, get_or, append_assoc, length-append}
 use Rattle.std.proofs.Math.Path.{subst}
 use Rattle.std.proofs.Math.Seq.{take-append_seam}
 use Rattle.std.proofs.lemmas.Bool.{or_parts}
@@ -16,15 +16,15 @@ use Rattle.rule_model.specs.declared.tables.Pat.TheVariants as pattern
 use Rattle.rule_model.specs.declared.tables.Out.{Out}
 use Rattle.rule_model.specs.declared.tables.Store.{Store}
 use Rattle.rule_model.specs.declared.system.TheConstants.{LAYER, PLATFORM}
-use Rattle.rule_model.specs.Keyboard.{Numbered, Platform}
+use Rattle.rule_model.specs.Keyboard.{Platform}
 use Rattle.rule_model.specs.Match.{Content}
 use Rattle.rule_model.specs.Patterns.{is_matched, is_nul}
 use Rattle.rule_model.specs.System.{is_space}
 use Rattle.rule_model.specs.Tab.{elements_of}
-use Rattle.kmx_format.specs.Writable.{has_system_id, is_any, stores_of_pattern, PointsTo, PointsBack, IsWritableContext}
+use Rattle.kmx_format.specs.Writable.{has_system_id, is_any, stores_of_pattern, PointsTo, PointsBack}
 use Rattle.core_meaning.specs.Contexts.{has_empty_word}
 use Rattle.core_meaning.specs.ContextLaws.{IsAnyItem, NamesAny, is_compared, NamesCompared, IsAlike, AreAlike, stated_platform, HasItsElements, IsOnPlatform, IsTriedAlike, AreTriedAlike}
-use Rattle.core_constructs.specs.Contexts.{asks_empty_word, asks_from_option, asks_layer, begins_with_nul, counts_differently, has_offset, is_moved_output, is_moved_pattern, is_unmatched, puts_by_offset, unmatched_before}
+use Rattle.core_constructs.specs.Contexts.{asks_empty_word, asks_from_option, asks_layer, counts_differently, has_offset, is_moved_output, is_moved_pattern, is_unmatched, puts_by_offset, unmatched_before}
 use Rattle.core_constructs.specs.Contexts as told
 
 true_false : true ≡ false → ⊥

@@ -1,6 +1,5 @@
 -- A press for which a group has no record does the same in both engines, if the window has the character before the caret.
-use Rattle.std.specs.Prelude.{◌≡◌, ℕ, ◌+◌, ◌-◌, ◌<◌, ◌≤◌, ◌⊎◌, Bool, true, false, not, ◌&&◌, nat_eq, nat_lt, if◌then◌else◌, List, [], ◌∷◌, ◌++◌, length, map, is_some, slice_get, Option, Some, None}
-use Rattle.std.specs.List.{suffix_len}
+use Rattle.std.specs.Prelude.{◌≡◌, ℕ, ◌+◌, ◌-◌, ◌<◌, ◌≤◌, ◌⊎◌, Bool, true, false, not, ◌&&◌, nat_eq, nat_lt, if◌then◌else◌, List, [], ◌∷◌, length, is_some, slice_get, Option, Some, None}
 use Rattle.std.proofs.Common.{refl, sym, ap, ◌∙◌, arith, inl, inr, length-append}
 use Rattle.std.proofs.Math.Path.{subst}
 use Rattle.std.proofs.lemmas.Bool.Decides.{nat_tests}
@@ -8,7 +7,7 @@ use Rattle.std.proofs.lemmas.List.{length-map}
 use Rattle.kmn_base.specs.declared.items.Item.{Item}
 use Rattle.kmn_base.specs.declared.items.Item.TheVariants as item
 use Rattle.kmn_base.specs.declared.keys.KeyPress.{KeyPress}
-use Rattle.kmn_base.specs.Lists.{characters, is_mark, without_last}
+use Rattle.kmn_base.specs.Lists.{characters, without_last}
 use Rattle.kmn_base.proofs.Lists.{map-characters}
 use Rattle.virtual_keys.specs.declared.codes.TheConstants.{K_BKSP}
 use Rattle.virtual_keys.specs.Dictionary.{name_in}
@@ -16,7 +15,7 @@ use Rattle.virtual_keys.specs.Fits.{is_plain, char_of_press}
 use Rattle.rule_model.specs.declared.event_state.EventState.{EventState}
 use Rattle.rule_model.specs.declared.tables.Out.{Out}
 use Rattle.rule_model.specs.declared.tables.Tables.{Tables}
-use Rattle.rule_model.specs.Enter.{without_end_marks, without_last_character, deletes_back, delete_or_pass, default_of, by_default}
+use Rattle.rule_model.specs.Enter.{without_end_marks, without_last_character, delete_or_pass, default_of, by_default}
 use Rattle.rule_model.specs.Enter as own
 use Rattle.rule_model.specs.Tab.{tab_dictionary}
 use Rattle.core_meaning.specs.Events.{CoreVersion, LastMatch, CoreEvent, units, core_back, core_back_marks}
@@ -27,7 +26,7 @@ use Rattle.core_laws.proofs.Actions.{one_put_step}
 use Rattle.core_laws.proofs.Alike.{stores_in, own_of, IsAlike, IsGoing}
 use Rattle.core_laws.proofs.Marks.{Unmarked, light, no_marks_behind, unmarked_at, unmarked_without}
 use Rattle.core_laws.proofs.Saves.{same_saves}
-use Rattle.core_laws.proofs.Windows.{Seen, HasLast, back_is, backed, last_of, without_none}
+use Rattle.core_laws.proofs.Windows.{HasLast, back_is, backed, last_of, without_none}
 
 -- without marks at the end, nothing is deleted there
 no_end_marks : (items : List Item) → Unmarked items → without_end_marks items ≡ items

@@ -1,30 +1,24 @@
 -- What is found by a depth of groups, for a group and for the groups that it enters.
-use Rattle.std.specs.Prelude.{◌≡◌, ℕ, zero, suc, ◌+◌, ◌-◌, ◌<◌, ◌≤◌, ◌⊎◌, min, max, Bool, true, false, not, ◌||◌, nat_eq, if◌then◌else◌, List, [], ◌∷◌, ◌++◌, length, map, flat_map, replicate, slice_get, slice_set, sum_by, unwrap_or, option_map, Option, Some, None}
+use Rattle.std.specs.Prelude.{◌≡◌, ℕ, zero, suc, ◌+◌, Bool, true, false, ◌||◌, nat_eq, List, [], ◌∷◌, ◌++◌, flat_map, slice_get, unwrap_or, option_map, Option, Some, None}
 use Rattle.std.specs.List.{fold, list_any}
 use Rattle.std.specs.Ordering.{nat_cmp, match_ordering}
 use Rattle.std.specs.BTreeSet.{insert_key}
-use Rattle.std.proofs.Common.{refl, sym, ap, ◌∙◌, arith, inl, inr, Ordering, Less, Equal, Greater}
-use Rattle.std.proofs.Math.Path.{subst}
+use Rattle.std.proofs.Common.{refl, sym, ap, ◌∙◌, arith, Ordering, Less, Equal, Greater}
 use Rattle.std.proofs.lemmas.Bool.{or_parts}
-use Rattle.std.proofs.lemmas.Cmp.{ranked}
 use Rattle.std.proofs.lemmas.Option.{none-some, same_Some, slice_get-map}
 use Rattle.kmn_base.specs.Rising.{is_among, rising}
 use Rattle.rule_model.specs.declared.tables.Out.{Out}
 use Rattle.rule_model.specs.declared.tables.Out.TheVariants as output
 use Rattle.rule_model.specs.declared.tables.Rule.{Rule}
 use Rattle.rule_model.specs.declared.tables.Group.{Group}
-use Rattle.core_constructs.specs.declared.facts.Facts.{Facts}
 use Rattle.core_constructs.specs.Changes.{changes_option, changes_within, group_changes, is_saved_early, item_changes, saves_early}
-use Rattle.core_constructs.specs.Marks.{group_items, rule_items}
+use Rattle.core_constructs.specs.Marks.{group_items}
 use Rattle.core_constructs.specs.Outputs.{ends, live}
-use Rattle.core_constructs.specs.Queued.{chain_effects, counted, effects_within, entered_effects, group_effects, item_effects, rule_effects, with_effects}
-use Rattle.core_constructs.specs.Reached.{entered, entered_from, entered_in, group_entered, played, reached_within, rule_entered, with_entered}
-use Rattle.core_constructs.specs.Spent.{after_group, after_groups, after_match, after_number, after_rule, after_some, raised, raised_by, spent_after, spent_by, spent_within}
-use Rattle.core_constructs.proofs.Depths.{reached_none, reached_more, changes_none, changes_more, spent_none, spent_more, effects_more}
+use Rattle.core_constructs.specs.Reached.{entered, entered_from, entered_in, group_entered, played, reached_within, rule_entered}
+use Rattle.core_constructs.proofs.Depths.{reached_none, reached_more, changes_none, changes_more}
 use Rattle.core_constructs.proofs.Live.{played_ended, played_on}
-use Rattle.core_laws.proofs.Items.{AllOf, all_first, all_second, all_at}
+use Rattle.core_laws.proofs.Items.{AllOf}
 use Rattle.core_laws.proofs.Rising.{among_both, among_left, among_right, equal_numbers, in_fold, in_rising, not_in_rising, same_number, stays_in_fold}
-use Rattle.core_laws.proofs.Values.{get_set_other}
 
 true_false : true ≡ false → ⊥
 true_false e = grind arith
@@ -114,7 +108,7 @@ flat_second : (h : ℕ) (xs ys : List Out) → is_among h (flat_map entered ys) 
 flat_second h [] ys among = among
 flat_second h (x ∷ xs) ys among = among_right h (entered x) (flat_map entered (xs ++ ys)) (flat_second h xs ys among)
 
--- the groups that a record's output, the match output behind it, and the nomatch output enter
+-- the groups that a record's output, the match output after it, and the nomatch output enter
 pub enters_output : (group : Group) (place : ℕ) (rule : Rule) (h : ℕ) → slice_get group.rules place ≡ Some rule → is_among h (flat_map entered (live rule.output)) ≡ true → is_among h (group_entered group) ≡ true
 enters_output group place rule h listed among =
     among_left h (flat_map (rule_entered group) group.rules) (flat_map entered (live group.on_nomatch)) (among_at (rule_entered group) group.rules place rule h listed (by_end (ends rule.output) refl))

@@ -1,14 +1,14 @@
--- A group of which nothing is told does the same in both engines, if the groups that it enters do.
+-- A group of which nothing is reported does the same in both engines, if the groups that it enters do.
 use Rattle.std.specs.Prelude.{◌≡◌, ℕ, zero, suc, ◌+◌, ◌-◌, ◌<◌, ◌≤◌, min, Bool, true, false, not, ◌&&◌, ◌||◌, nat_eq, nat_le, nat_lt, if◌then◌else◌, List, [], ◌∷◌, ◌++◌, flat_map, length, map, take, drop, slice_get, sum_by, is_some, option_map, Option, Some, None}
-use Rattle.std.specs.List.{All, list_any, list_all}
-use Rattle.std.proofs.Common.{refl, sym, ap, ◌∙◌, arith, inl, inr, append_assoc, append-nil, length-append, length-drop}
+use Rattle.std.specs.List.{list_any, list_all}
+use Rattle.std.proofs.Common.{refl, sym, ap, ◌∙◌, arith, inl, inr, append_assoc, append-nil, length-drop}
 use Rattle.std.proofs.Math.Path.{subst}
 use Rattle.std.proofs.lemmas.Bool.{or_parts, and_parts}
 use Rattle.std.proofs.lemmas.Bool.Decides.{leb_tells, nat_tests}
 use Rattle.std.proofs.lemmas.List.{take-append-drop}
 use Rattle.std.proofs.lemmas.List.Elements.{All-drop, All-head, All-tail}
 use Rattle.std.proofs.lemmas.List.Sums.{sum_by-cons, count_by-le-length}
-use Rattle.std.proofs.lemmas.Option.{none-some, slice_get-map, slice_get_past}
+use Rattle.std.proofs.lemmas.Option.{slice_get-map, slice_get_past}
 use Rattle.kmn_base.specs.declared.items.Item.{Item}
 use Rattle.kmn_base.specs.declared.keys.KeyPress.{KeyPress}
 use Rattle.kmn_base.specs.Lists.{is_mark, without_last}
@@ -27,49 +27,48 @@ use Rattle.rule_model.specs.Choose.{Chosen, first}
 use Rattle.rule_model.specs.Hold.{holds_with}
 use Rattle.rule_model.specs.Enter.{nothing, act_if_any, do_chosen, do_unmatched, do_group, in_group, enter_group}
 use Rattle.rule_model.specs.Patterns.{is_matched}
-use Rattle.rule_model.specs.Tab.{output_if_any, tab_group, tab_output, tab_rule, tab_options}
+use Rattle.rule_model.specs.Tab.{output_if_any, tab_group, tab_output, tab_rule}
 use Rattle.kmx_format.specs.Playable.{IsPlayable, IsPlayableGroup}
 use Rattle.kmx_format.specs.Writable.{IsWritableRule, IsWritableMatchOutput}
 use Rattle.core_meaning.specs.Events.{CoreVersion, LastMatch, CoreEvent, units, last_items, core_back}
 use Rattle.core_meaning.specs.Keys.{core_char}
 use Rattle.core_meaning.specs.Laws.{IsCommonPress}
 use Rattle.core_meaning.specs.Contexts.{Tried, Taken, core_choose, core_holds, core_takes, compared_count}
-use Rattle.core_meaning.specs.Outputs.{core_act, core_act_alone, core_done, core_output, end_output, skipped_count, then_match, with_match}
-use Rattle.core_meaning.specs.Steps.{core_default, core_enter, core_in_group, core_unmatched, do_taken_with, one_more_entered, put_press, taken_in, with_places}
+use Rattle.core_meaning.specs.Outputs.{core_act, core_act_alone, core_done, core_output, skipped_count, then_match, with_match}
+use Rattle.core_meaning.specs.Steps.{core_default, core_enter, core_in_group, core_unmatched, do_taken_with, one_more_entered, put_press, with_places, do_taken}
 use Rattle.core_constructs.specs.declared.construct.Construct.TheVariants as construct
 use Rattle.core_constructs.specs.declared.construct.GroupConstruct.TheVariants as group_construct
 use Rattle.core_constructs.specs.declared.facts.Facts.{Facts}
 use Rattle.core_constructs.specs.declared.facts.GroupFacts.{GroupFacts}
 use Rattle.core_constructs.specs.Changes.{changes_option, changes_within, saves_early}
 use Rattle.core_constructs.specs.Contexts.{asks_from_option, asks_layer, counts_differently, has_late_nul}
-use Rattle.core_constructs.specs.Empty.{fits_nomatch, has_empty_context, is_nomatch_for, same_outputs}
+use Rattle.core_constructs.specs.Empty.{fits_nomatch, has_empty_context, is_nomatch_for, same_outputs, from_empty}
 use Rattle.core_constructs.specs.Facts.{facts_of}
-use Rattle.core_constructs.specs.Marks.{group_items, live_items, rule_items}
-use Rattle.core_constructs.specs.Outputs.{acts, acts_after_use, does_something, ends, is_use, live, puts_match, sets_from_option, sets_layer}
+use Rattle.core_constructs.specs.Marks.{group_items, rule_items}
+use Rattle.core_constructs.specs.Outputs.{acts, acts_after_use, ends, is_use, live, puts_match, sets_from_option, sets_layer}
 use Rattle.core_constructs.specs.Queued.{effects_within, entered_effects, group_effects, item_effects}
 use Rattle.core_constructs.specs.Reached.{entered, group_entered, played, reached_within}
 use Rattle.core_constructs.specs.Records.{has_construct}
-use Rattle.core_constructs.specs.Spent.{begins_with_context, spent_after, spent_by, spent_within}
-use Rattle.core_constructs.specs.Told.{group_has}
-use Rattle.core_constructs.specs.Widths.{width_in, with_context}
+use Rattle.core_constructs.specs.Spent.{spent_after, spent_by, spent_within}
+use Rattle.core_constructs.specs.Widths.{with_context}
 use Rattle.core_constructs.proofs.Live.{played_ended, played_on}
 use Rattle.core_laws.specs.Laws.{known_at}
 use Rattle.core_laws.proofs.Alike.{stores_in, core_of, own_of, IsAlike, IsGoing, going_more}
 use Rattle.core_laws.proofs.Budget.{Chain, Enters, chain_of, entered_most, nomatch_fits, number_at, rule_fits, spent_next, spent_size, spent_up}
-use Rattle.core_laws.proofs.Caught.{AreCaught, caught_count, items_in, units_most}
-use Rattle.core_laws.proofs.Choice.{IsUntold, AreFairRules, ChosenAlike, NoneChosen, BothChosen, HereChosen, chosen_alike, plainly}
-use Rattle.core_laws.proofs.Compared.{nul_of, compared_matched}
+use Rattle.core_laws.proofs.Caught.{caught_count, items_in, units_most}
+use Rattle.core_laws.proofs.Choice.{IsUntold, ChosenAlike, NoneChosen, BothChosen, HereChosen, chosen_alike, plainly}
 use Rattle.core_laws.proofs.Defaults.{keys_alike}
 use Rattle.core_laws.proofs.Depths.{early_below, enters_match, enters_nomatch, enters_output, items_unchanged, none_of_all, reached_next, reached_up}
 use Rattle.core_laws.proofs.Holds.{CatchesAlike, last_of_text}
 use Rattle.core_laws.proofs.Items.{AllOf, all_at, all_first, all_joined, all_second, IsPlainItem, alone_matched, live_fair, matched_fair}
 use Rattle.core_laws.proofs.Marks.{Unmarked, put_unmarked, unmarked_push, unmarked_without}
-use Rattle.core_laws.proofs.Outputs.{AreFairItems, EntersAlike, Ends, GoesOn, Over, IsReady, alike_remembering, alone_alike, behind, ends_alike, if_any, output_alike, quiet_here, stopped_stays, then_alike}
-use Rattle.core_laws.proofs.Rising.{among_left}
+use Rattle.core_laws.proofs.Outputs.{AreFairItems, EntersAlike, Ends, GoesOn, Over, IsReady, alike_remembering, behind, ends_alike, if_any, output_alike, quiet_here, stopped_stays, then_alike}
 use Rattle.core_laws.proofs.SameOutputs.{equal_outputs}
 use Rattle.core_laws.proofs.Saves.{same_saves}
 use Rattle.core_laws.proofs.Whole.{IsWhole, all_listed, puts_of, values_hold, widths_hold}
-use Rattle.core_laws.proofs.Windows.{Seen, back_is, backed, seen_back, seen_capped, seen_more, without_none}
+use Rattle.core_laws.proofs.Windows.{Seen, back_is, seen_back, seen_capped, seen_more, without_none}
+use Rattle.kmn_base.specs.declared.items.Element.{Element}
+use Rattle.rule_model.specs.Match.{Content}
 
 true_false : true ≡ false → ⊥
 true_false e = grind arith
@@ -187,9 +186,6 @@ module _ (version : CoreVersion) (tables : Tables) (playable : IsPlayable tables
     module _ (queued : ℕ) (chain : Chain queued d tables.groups group) (last : LastMatch) where
       abbrev Going : (spent used : ℕ) → List Out → CoreEvent → EventState → Type 0
       Going spent used rest c s = IsGoing tables puts changes spent used rest last c s
-
-      match_told : (told : Bool) → told ≡ false → told ≡ false
-      match_told told e = e
 
       own_values : (list_any (sets_from_option facts.options) (live group.on_match) ≡ false) × (list_any (sets_from_option facts.options) (live group.on_nomatch) ≡ false)
       own_values = or_parts (list_any (sets_from_option facts.options) (live group.on_match)) (list_any (sets_from_option facts.options) (live group.on_nomatch)) (whole.values g group (reached, listed))
@@ -614,9 +610,6 @@ module _ (version : CoreVersion) (tables : Tables) (playable : IsPlayable tables
                 ∙ sym (last_of_text taken_count going.seen.before c.window held.inside)
                 ∙ (λ i. drop (length ((sym going.seen.parts ∙ going.alike.left) i) - sym kept_size i) ((sym going.seen.parts ∙ going.alike.left) i))
 
-        put_back : EventState
-        put_back = record s { put = s.put + length (items_in catches) }
-
         put_back_is : put_items (items_in catches) deleted ≡ record s { put = s.put + length (items_in catches) }
         put_back_is =
             put_again (items_in catches) deleted going.going (omega (arith, going.put, kept_size, count_fits, room, chain.fits)) (unmarked_without (length (items_in catches)) s.left going.alike.plain) plain_kept
@@ -730,7 +723,7 @@ module _ (version : CoreVersion) (tables : Tables) (playable : IsPlayable tables
       abbrev own_with : Option Chosen → EventState
       own_with chosen = do_group (own_of tables) (enter_here d) press (tab_group tables.stores group) chosen own_now
 
-      abbrev now_content : Rattle.rule_model.specs.Match.Content
+      abbrev now_content : Content
       now_content = content (stores_in tables) s.current
 
       by_chosen : (own : Option Chosen) (taken : Taken)
@@ -739,11 +732,11 @@ module _ (version : CoreVersion) (tables : Tables) (playable : IsPlayable tables
           → IsAlike tables puts (with_taken taken) (own_with own)
       by_chosen own taken (NoneChosen no_own no_taken) =
           subst (λ (o : Option Chosen). IsAlike tables puts (with_taken taken) (own_with o)) (sym no_own)
-          (subst (λ (o : Option Rule). IsAlike tables puts (Rattle.core_meaning.specs.Steps.do_taken (core_of version tables) (enter_there d) press group o (with_places taken.1 now)) (own_with None)) (sym no_taken)
+          (subst (λ (o : Option Rule). IsAlike tables puts (do_taken (core_of version tables) (enter_there d) press group o (with_places taken.1 now)) (own_with None)) (sym no_taken)
           (none_alike queued chain_here (with_places taken.1 now) own_now (entered_going (record (c.last) { places = taken.1 })) pending_here))
       by_chosen own taken (HereChosen rule rest is_own no_taken empties uses converted) =
           subst (λ (o : Option Chosen). IsAlike tables puts (with_taken taken) (own_with o)) (sym is_own)
-          (subst (λ (o : Option Rule). IsAlike tables puts (Rattle.core_meaning.specs.Steps.do_taken (core_of version tables) (enter_there d) press group o (with_places taken.1 now)) (own_with (Some (tab_rule tables.stores group.using_keys rule, nothing)))) (sym no_taken)
+          (subst (λ (o : Option Rule). IsAlike tables puts (do_taken (core_of version tables) (enter_there d) press group o (with_places taken.1 now)) (own_with (Some (tab_rule tables.stores group.using_keys rule, nothing)))) (sym no_taken)
           (empty_alike queued chain_here (with_places taken.1 now) own_now (entered_going (record (c.last) { places = taken.1 })) pending_here rule rest uses converted))
       by_chosen own taken (BothChosen rule place catches at is_own is_taken held untold) =
           subst (λ (o : Option Chosen). IsAlike tables puts (with_taken taken) (own_with o)) (sym is_own)
@@ -751,12 +744,12 @@ module _ (version : CoreVersion) (tables : Tables) (playable : IsPlayable tables
           (record_alike queued chain_here (with_places (core_holds (core_of version tables) now_content c.window rule.context).1 now) own_now (entered_going (record (c.last) { places = (core_holds (core_of version tables) now_content c.window rule.context).1 })) pending_here
           rule place at catches (core_holds (core_of version tables) now_content c.window rule.context) held untold refl))
 
-      converted_here : group.using_keys ≡ false → known.converted ≡ true → is_nomatch_for group (Rattle.core_constructs.specs.Empty.from_empty group.rules) ≡ true
+      converted_here : group.using_keys ≡ false → known.converted ≡ true → is_nomatch_for group (from_empty group.rules) ≡ true
       converted_here uses told = told
 
       pub group_alike : IsAlike tables puts (core_in_group (core_of version tables) (enter_there d) press (Some group) now) (in_group (own_of tables) (enter_here d) press (Some (tab_group tables.stores group)) own_now)
       group_alike =
-          subst (λ (values : List (List Rattle.kmn_base.specs.declared.items.Element.Element)). IsAlike tables puts
+          subst (λ (values : List (List Element)). IsAlike tables puts
           (with_taken (core_choose (λ (rule : Rule). core_holds (core_of version tables) (content (stores_in tables) values) c.window rule.context) (core_takes group press) group.rules c.last.places))
           (own_with (first (holds_with [] now_content s.left press) (map (tab_rule tables.stores group.using_keys) group.rules)))) (sym going.alike.current)
           (by_chosen (first (holds_with [] now_content s.left press) (map (tab_rule tables.stores group.using_keys) group.rules))

@@ -1,5 +1,5 @@
--- A context of which nothing is told holds in Keyman's own engine if and only if it does in this product, and catches the same items.
-use Rattle.std.specs.Prelude.{◌≡◌, ℕ, zero, suc, ◌+◌, ◌-◌, ◌<◌, ◌≤◌, min, Bool, true, false, not, ◌&&◌, ◌||◌, nat_eq, nat_le, nat_lt, cond, if◌then◌else◌, List, [], ◌∷◌, ◌++◌, length, map, take, drop, flat_map, count_by, sum_by, slice_get, is_some, Option, Some, None}
+-- A context of which nothing is reported holds in Keyman's own engine if and only if it does in this product, and catches the same items.
+use Rattle.std.specs.Prelude.{◌≡◌, ℕ, ◌+◌, ◌-◌, ◌<◌, ◌≤◌, min, Bool, true, false, not, ◌&&◌, ◌||◌, nat_eq, nat_le, nat_lt, cond, if◌then◌else◌, List, [], ◌∷◌, ◌++◌, length, map, take, drop, flat_map, count_by, sum_by, is_some, Option, Some, None}
 use Rattle.std.specs.List.{All, cons_option, list_all, list_any}
 use Rattle.std.proofs.Common.{◌⊎◌, refl, sym, ap, ◌∙◌, arith, inl, inr, length-append, length-drop, append_assoc}
 use Rattle.std.proofs.Math.Path.{subst}
@@ -24,7 +24,7 @@ use Rattle.rule_model.specs.Hold.{is_true, is_at_start, pattern_count, has_room}
 use Rattle.rule_model.specs.Patterns.{is_matched, is_nul}
 use Rattle.rule_model.specs.Tab.{tab_pattern}
 use Rattle.kmx_format.specs.Writable.{stores_of_pattern, IsWritableContext}
-use Rattle.core_meaning.specs.Events.{weight, units, CoreKeyboard, is_18, last_items}
+use Rattle.core_meaning.specs.Events.{units, CoreKeyboard, last_items}
 use Rattle.core_meaning.specs.Contexts.{Tried, place_found, core_condition, core_match, core_holds, begins_with_nul, behind_nul, compared_count, first_places, has_items}
 use Rattle.core_meaning.specs.ContextLaws.{stated_platform, FindsAlike, AreAlike, AreTriedAlike, caught_of}
 use Rattle.core_meaning.proofs.ConditionsAlike.{conditions_are_alike}
@@ -33,7 +33,7 @@ use Rattle.core_constructs.specs.declared.facts.Facts.{Facts}
 use Rattle.core_constructs.specs.Contexts.{asks_empty_word, asks_from_option, asks_layer, asks_unput, counts_differently, has_late_nul, has_offset, puts_by_offset}
 use Rattle.core_constructs.specs.Contexts as told
 use Rattle.core_constructs.specs.Widths.{is_long, widest, width_in, with_context}
-use Rattle.core_laws.proofs.Caught.{AreCaught, HasWidths, all_caught, at_least_two, items_in, units_most, caught_count, item_at}
+use Rattle.core_laws.proofs.Caught.{AreCaught, HasWidths, all_caught, at_least_two, items_in, units_most}
 use Rattle.core_laws.proofs.Compared.{HasNul, Without, First, nul_of, counted, all_compared, compared_matched, text_caught, plain_matches, unput_fails}
 use Rattle.core_laws.proofs.Contexts.{HasValues, all_alike, all_tried, counts_alike}
 use Rattle.core_laws.proofs.Marks.{Unmarked, light, unmarked_at}
@@ -45,7 +45,7 @@ true_false e = grind arith
 false_true : false ≡ true → ⊥
 false_true e = grind arith
 
--- a context of which nothing is told, in a group that is entered when these units can be spent, before these live items
+-- a context of which nothing is reported, in a group that is entered when these units can be spent, before these live items
 pub record IsFairContext (facts : Facts) (stores : List Store) (count spent : ℕ) (items : List Out) (context : List Pat) : Type 0 where
   pub late : has_late_nul context ≡ false
   pub offsets : counts_differently context items ≡ false
@@ -166,7 +166,7 @@ module _ (kb : CoreKeyboard) (facts : Facts) (stores : List Store) (count : ℕ)
   items_here : (catches : List Catch) → catches_from content [] (map (tab_pattern stores) context) text_end ≡ Some catches → items_in catches ≡ text_end
   items_here catches e = text_caught content (map (tab_pattern stores) context) [] text_end catches e
 
-  -- the text that was caught lies in the window
+  -- the text that was caught is in the window
   reaches_end : (catches : List Catch) → catches_from content [] (map (tab_pattern stores) context) text_end ≡ Some catches → spent + sum_by (width_in facts context) context ≤ 63 → length text_end ≤ length window
   reaches_end catches e fits =
       seen.reaches (take (length left - patterns_count) left) text_end (sym (take-append-drop (length left - patterns_count) left))

@@ -1,14 +1,14 @@
--- The items of outputs of which nothing is told.
-use Rattle.std.specs.Prelude.{◌≡◌, ℕ, zero, suc, ◌+◌, ◌-◌, ◌<◌, ◌≤◌, Bool, true, false, not, ◌&&◌, ◌||◌, nat_eq, cond, if◌then◌else◌, List, [], ◌∷◌, ◌++◌, length, map, take, drop, flat_map, count_by, slice_get, Option, Some, None, IsSomeAnd}
+-- The items of outputs of which nothing is reported.
+use Rattle.std.specs.Prelude.{◌≡◌, ℕ, zero, suc, ◌+◌, ◌-◌, ◌<◌, ◌≤◌, Bool, true, false, not, ◌&&◌, ◌||◌, nat_eq, cond, if◌then◌else◌, List, [], ◌∷◌, ◌++◌, length, take, flat_map, count_by, slice_get, Option, Some, None, IsSomeAnd, sum_by}
 use Rattle.std.specs.Option.{option_map_or}
 use Rattle.std.specs.List.{All, list_any}
-use Rattle.std.proofs.Common.{refl, sym, ap, ◌∙◌, arith, inl, inr, get_or}
+use Rattle.std.proofs.Common.{refl, sym, ap, ◌∙◌, arith, inl, inr}
 use Rattle.std.proofs.Math.Path.{subst}
 use Rattle.std.proofs.lemmas.Bool.{or_parts}
 use Rattle.std.proofs.lemmas.Bool.Decides.{nat_tests}
 use Rattle.std.proofs.lemmas.List.Elements.{All-head, All-tail, All-drop}
 use Rattle.std.proofs.lemmas.List.Sums.{sum_by-cons, count_by-le-length}
-use Rattle.std.proofs.lemmas.Option.{none-some, get_or_from_slice_get}
+use Rattle.std.proofs.lemmas.Option.{none-some, same_Some}
 use Rattle.kmn_base.specs.declared.items.Item.{Item}
 use Rattle.kmn_base.specs.Lists.{is_mark}
 use Rattle.kmn_base.specs.Rising.{is_among, rising}
@@ -22,14 +22,13 @@ use Rattle.rule_model.specs.declared.tables.Store.{Store}
 use Rattle.rule_model.specs.declared.tables.Tables.{Tables}
 use Rattle.rule_model.specs.Keyboard.{StoreMeaning}
 use Rattle.rule_model.specs.Match.{place_caught}
-use Rattle.rule_model.specs.Act.{place_for_index}
 use Rattle.rule_model.specs.Enter.{nothing}
 use Rattle.rule_model.specs.Patterns.{is_condition, is_matched, is_nul}
 use Rattle.rule_model.specs.Tab.{elements_of, tab_options}
-use Rattle.kmx_format.specs.Writable.{is_any, needs_context, stores_of_output, PointsTo, PointsInto}
-use Rattle.core_meaning.specs.Events.{CoreVersion, is_18, LastMatch, last_items}
+use Rattle.kmx_format.specs.Writable.{is_any, needs_context, stores_of_output, PointsInto}
+use Rattle.core_meaning.specs.Events.{CoreVersion, is_18, LastMatch, last_items, weight, units}
 use Rattle.core_meaning.specs.Contexts.{Tried, begins_with_nul, compared_count}
-use Rattle.core_meaning.specs.Options.{is_named, name_at, saved_under}
+use Rattle.core_meaning.specs.Options.{is_named, name_at, saved_under, last_option_named}
 use Rattle.core_meaning.specs.Outputs.{skipped_count}
 use Rattle.core_constructs.specs.declared.facts.Facts.{Facts}
 use Rattle.core_constructs.specs.Contexts.{counts_differently, has_late_nul, has_offset, is_moved_output, is_unmatched, puts_by_offset, unmatched_before}
@@ -38,17 +37,18 @@ use Rattle.core_constructs.specs.Marks.{item_marks, put_store, set_value}
 use Rattle.core_constructs.specs.Outputs.{live, sets_from_option, sets_layer}
 use Rattle.core_constructs.specs.Told.{shares_name}
 use Rattle.core_laws.specs.Laws.{is_nameless, saves_nameless}
-use Rattle.core_laws.proofs.Actions.{IsFairItem, IsFairIndex, IsFairContext, IsFairContextAt, IsFairSet, IsFairSave, IsFairReset}
+use Rattle.core_laws.proofs.Actions.{IsFairItem}
 use Rattle.core_laws.proofs.Alike.{stores_in, NoMarks}
-use Rattle.core_laws.proofs.Caught.{AreCaught, ItemAt, any_place, caught_count, caught_size, items_in, item_at, units_least}
+use Rattle.core_laws.proofs.Caught.{ItemAt, any_place, caught_count, caught_size, item_at, units_least}
 use Rattle.core_laws.proofs.Choice.{plainly}
 use Rattle.core_laws.proofs.Contexts.{CountsAlike, counts_alike, names_any}
 use Rattle.core_laws.proofs.Holds.{CatchesAlike}
 use Rattle.core_laws.proofs.Marks.{IsUnmarked, Unmarked}
 use Rattle.core_laws.proofs.Outputs.{AreFairItems}
-use Rattle.core_laws.proofs.Rising.{same_number}
+use Rattle.core_laws.proofs.Rising.{same_number, not_in_rising}
 use Rattle.core_laws.proofs.Saves.{IsNoted}
-use Rattle.core_laws.proofs.Values.{all_stores, IsStoreAt, meaning_at, number_of_other, saved_itself, store_at}
+use Rattle.core_laws.proofs.Values.{IsStoreAt, meaning_at, number_of_other, saved_itself, store_at}
+use Rattle.core_constructs.specs.Spent.{least_width}
 
 true_false : true ≡ false → ⊥
 true_false e = grind arith
@@ -77,7 +77,7 @@ all_joined P (x ∷ xs) ys one other = (one.0, all_joined P xs ys one.1 other)
 -- those of one list among several
 pub all_at : {A B : Type 0} (P : B → Type 0) (f : A → List B) (xs : List A) (place : ℕ) (x : A) → AllOf P (flat_map f xs) → slice_get xs place ≡ Some x → AllOf P (f x)
 all_at P f [] place x all listed = absurd (none-some x listed)
-all_at P f (y ∷ xs) zero x all listed = subst (λ z. AllOf P (f z)) (Rattle.std.proofs.lemmas.Option.same_Some y x listed) (all_first P (f y) (flat_map f xs) all)
+all_at P f (y ∷ xs) zero x all listed = subst (λ z. AllOf P (f z)) (same_Some y x listed) (all_first P (f y) (flat_map f xs) all)
 all_at P f (y ∷ xs) (suc place) x all listed = all_at P f xs place x (all_second P (f y) (flat_map f xs) all) listed
 
 -- ---- items that any output may have
@@ -92,13 +92,13 @@ pub record IsPlainItem (stores : List Store) (puts : List ℕ) (item : Out) : Ty
 
 module _ (tables : Tables) (puts : List ℕ) (clean : (store : ℕ) → is_among store puts ≡ true → NoMarks (elements_of tables.stores store))
     (alone : shares_name tables.stores (rising (tab_options tables)) ≡ false) where
-  -- each store of the tables is no option, or is saved under itself
+  -- each store of the tables isn't an option, or is saved under itself
   pub noted : (n : ℕ) → n < length tables.stores → IsNoted (stores_in tables) n
   noted n less = by_option (is_among n (tab_options tables)) refl
     where
       by_name : (b : Bool) → is_named (stores_in tables) n ≡ b → is_among n (tab_options tables) ≡ true → saved_under (stores_in tables) n ≡ n
       by_name true named among = saved_itself (tab_options tables) tables.stores n less among alone named
-      by_name false named among = ap (λ (b : Bool). if b then Rattle.core_meaning.specs.Options.last_option_named (name_at (stores_in tables) n) 0 (stores_in tables) n else n) named
+      by_name false named among = ap (λ (b : Bool). if b then last_option_named (name_at (stores_in tables) n) 0 (stores_in tables) n else n) named
 
       by_option : (b : Bool) → is_among n (tab_options tables) ≡ b → IsNoted (stores_in tables) n
       by_option true among = inr (by_name (is_named (stores_in tables) n) refl among)
@@ -126,7 +126,7 @@ module _ (tables : Tables) (puts : List ℕ) (clean : (store : ℕ) → is_among
         record {
           below = All-head (λ store. store < length tables.stores) store (v ∷ more) below;
           value_below = All-head (λ store. store < length tables.stores) v more (All-tail (λ store. store < length tables.stores) store (v ∷ more) below);
-          other = Rattle.core_laws.proofs.Rising.not_in_rising v (tab_options tables) value;
+          other = not_in_rising v (tab_options tables) value;
           clean = λ among. plain.value v (ap (λ (b : Bool). is_among v (if b then v ∷ [] else [])) among ∙ (λ i. same_number v i || false));
         }
     one_fair (output.SetSystem id v) more plain below value layer matched = absurd (true_false layer)
@@ -218,7 +218,7 @@ any_below (p ∷ ps) (suc place) some = omega (arith, any_below ps place some)
 
 unmarked_get : (xs : List Item) (i : ℕ) (x : Item) → Unmarked xs → slice_get xs i ≡ Some x → IsUnmarked x
 unmarked_get [] i x plain listed = absurd (none-some x listed)
-unmarked_get (y ∷ xs) zero x plain listed = ap is_mark (sym (Rattle.std.proofs.lemmas.Option.same_Some y x listed)) ∙ All-head (λ item. is_mark item ≡ false) y xs plain
+unmarked_get (y ∷ xs) zero x plain listed = ap is_mark (sym (same_Some y x listed)) ∙ All-head (λ item. is_mark item ≡ false) y xs plain
 unmarked_get (y ∷ xs) (suc i) x plain listed = unmarked_get xs i x (All-tail (λ item. is_mark item ≡ false) y xs plain) listed
 
 module _ (version : CoreVersion) (tables : Tables) (puts : List ℕ) (facts : Facts) (context : List Pat) (items : List Out) (window : List Item) (catches : List Catch) (tried : Tried)
@@ -266,7 +266,7 @@ module _ (version : CoreVersion) (tables : Tables) (puts : List ℕ) (facts : Fa
         kept = sym held.kept;
         plain = plain_kept;
         count = subst (λ (xs : List Item). length xs ≤ length context) held.kept (omega (arith, caught_count facts context context catches held.caught, count_by-le-length is_matched context));
-        least = subst (λ (xs : List Item). Rattle.std.specs.Prelude.sum_by Rattle.core_constructs.specs.Spent.least_width context ≤ Rattle.core_meaning.specs.Events.units xs) held.kept (units_least facts context context catches held.caught);
+        least = subst (λ (xs : List Item). sum_by least_width context ≤ units xs) held.kept (units_least facts context context catches held.caught);
       }
   matched_item (output.ContextAt zero) points unmoved some item needs = absurd points
   matched_item (output.ContextAt (suc before)) points unmoved some item needs =
@@ -275,7 +275,7 @@ module _ (version : CoreVersion) (tables : Tables) (puts : List ℕ) (facts : Fa
         here = found.caught;
         there = kept_there;
         plain = unmarked_get (last_items (compared_count context) window) (suc before - 1 - skipped_count version context) found.item plain_kept kept_there;
-        least = subst (λ (n : ℕ). option_map_or Rattle.core_constructs.specs.Spent.least_width (slice_get context n) 0 ≤ Rattle.core_meaning.specs.Events.weight found.item) (sym index) found.least;
+        least = subst (λ (n : ℕ). option_map_or least_width (slice_get context n) 0 ≤ weight found.item) (sym index) found.least;
       }
     where
       at : IsMatchedAt context before

@@ -1,4 +1,4 @@
--- An output of which nothing is told does the same in Keyman's own engine and in this product, if the groups that it enters do.
+-- An output of which nothing is reported does the same in Keyman's own engine and in this product, if the groups that it enters do.
 use Rattle.std.specs.Prelude.{◌≡◌, ℕ, ◌+◌, ◌-◌, ◌≤◌, ◌⊎◌, Bool, true, false, not, ◌&&◌, ◌||◌, nat_le, if◌then◌else◌, List, [], ◌∷◌, ◌++◌, flat_map, length, map, sum_by}
 use Rattle.std.specs.List.{list_any}
 use Rattle.std.proofs.Common.{refl, sym, ap, ◌∙◌, arith, inl, inr, append-nil}
@@ -25,7 +25,7 @@ use Rattle.core_constructs.specs.Reached.{entered}
 use Rattle.core_constructs.specs.Spent.{put_units, spent_after}
 use Rattle.core_laws.proofs.Actions.{IsFairItem, act_step}
 use Rattle.core_laws.proofs.Alike.{core_of, own_of, IsAlike, IsGoing, going_more}
-use Rattle.core_laws.proofs.Rising.{among_left, among_right, same_number}
+use Rattle.core_laws.proofs.Rising.{among_left, same_number}
 
 true_false : true ≡ false → ⊥
 true_false e = grind arith
@@ -59,7 +59,7 @@ module _ (version : CoreVersion) (tables : Tables) (puts : List ℕ) (enter_ther
         ap (λ (b : Bool). act (own_of tables) enter_here caught (map (tab_output tables.stores) outputs) (if b then s else act_one (own_of tables) enter_here caught (tab_output tables.stores item) s)) stopped
         ∙ stopped_stays outputs s stopped
 
-    -- both states stay alike, and the event is stopped if the output has a `return`
+    -- both states stay the same, and the event is stopped if the output has a `return`
     pub record StaysAlike (c : CoreEvent) (t : EventState) (ended : Bool) : Type 0 where
       pub alike : IsAlike tables puts c t
       pub stopped : ended ≡ true → t.stopped ≡ true
@@ -243,14 +243,14 @@ module _ (version : CoreVersion) (tables : Tables) (puts : List ℕ) (enter_ther
         ends_behind item outputs more (spent_after context (live outputs) (spent - put_units context item)) (used + sum_by (item_effects (length context)) (item ∷ live outputs)) _ _ refl
         (next item outputs more refl refl (output_alike outputs more) spent used c s ready.fair.0 ready.fair.1 ready.quiet ready.early ready.bound ready.room ready.enters going)
 
-    -- however an output ends, both states are alike
+    -- however an output ends, both states are the same
     pub ends_alike : (spent used : ℕ) (outputs more : List Out) (acted : Acted) (s : EventState) → Ends spent used outputs more acted s → IsAlike tables puts acted.0 s
     ends_alike spent used outputs more acted s (GoesOn alone runs_on going) = going.alike
     ends_alike spent used outputs more acted s (Over alone alike none) = alike
 
--- ---- an output and the match output behind it
+-- ---- an output and the match output after it
 
--- the items of the match output that run behind an output
+-- the items of the match output that run after an output
 abbrev pub behind : List Out → List Out → List Out
 behind outputs on_match = if ends outputs then [] else live on_match
 
@@ -260,7 +260,7 @@ if_any tables enter [] s = refl
 if_any tables enter (item ∷ outputs) s = refl
 
 module _ (version : CoreVersion) (tables : Tables) (puts : List ℕ) (enter_there : Entering) (enter_here : Ref → EventState → EventState) (changes : List (List ℕ)) (last : LastMatch) where
-  -- what is known of a match output, if so many units are spent and effects queued before it
+  -- what is known of a match output, given the units that are spent and the effects that are queued before it
   abbrev pub IsMatchReady : (most least spent used : ℕ) → least ≤ 1024 → List Out → Type 0
   IsMatchReady most least spent used few on_match = IsReady version tables puts enter_there enter_here changes [] nothing last most least few spent used on_match []
 

@@ -1,5 +1,5 @@
--- A keyboard of which nothing is told types alike, press by press.
-use Rattle.std.specs.Prelude.{◌≡◌, ℕ, zero, suc, ◌+◌, ◌-◌, ◌<◌, ◌≤◌, Bool, true, false, ◌&&◌, nat_lt, if◌then◌else◌, List, [], ◌∷◌, ◌++◌, length, map, slice_get, option_map, Option, Some, None}
+-- A keyboard of which nothing is reported types the same in both engines, press by press.
+use Rattle.std.specs.Prelude.{◌≡◌, ℕ, zero, suc, ◌+◌, ◌-◌, ◌<◌, ◌≤◌, Bool, true, false, ◌&&◌, nat_lt, if◌then◌else◌, List, [], ◌∷◌, length, map, slice_get, option_map, Option, Some, None}
 use Rattle.std.specs.List.{All}
 use Rattle.std.proofs.Common.{refl, sym, ap, ◌∙◌, arith}
 use Rattle.std.proofs.Math.Path.{subst}
@@ -14,10 +14,9 @@ use Rattle.kmn_base.specs.Lists.{characters}
 use Rattle.kmn_base.specs.Rising.{is_among}
 use Rattle.kmn_base.proofs.Lists.{map-characters, unmarked}
 use Rattle.rule_model.specs.declared.event_state.EventState.{EventState}
-use Rattle.rule_model.specs.declared.tables.Out.TheVariants as output
 use Rattle.rule_model.specs.declared.tables.Tables.{Tables}
-use Rattle.rule_model.specs.Keyboard.{Keyboard, Numbered, StoreMeaning}
-use Rattle.rule_model.specs.Content.{content, elements_of_store, option_number}
+use Rattle.rule_model.specs.Keyboard.{Keyboard, StoreMeaning}
+use Rattle.rule_model.specs.Content.{elements_of_store}
 use Rattle.rule_model.specs.KeyEvent.{begin_event, after_key}
 use Rattle.rule_model.specs.System.{system_options}
 use Rattle.rule_model.specs.Tab.{tab, tab_options, with_options}
@@ -29,18 +28,17 @@ use Rattle.core_meaning.specs.Events.{CoreVersion, is_18, CoreKeyboard, core_key
 use Rattle.core_meaning.specs.Laws.{IsCommonPress}
 use Rattle.core_meaning.specs.Options.{core_save_all}
 use Rattle.core_meaning.specs.Steps.{core_begin, core_end, core_first, core_press, core_texts, core_texts_from, left_after, resets_context}
-use Rattle.core_constructs.specs.Changes.{changes_within}
 use Rattle.core_constructs.specs.Facts.{facts_of}
 use Rattle.core_constructs.specs.Spent.{spent_within}
 use Rattle.core_laws.specs.Laws.{own_first, own_texts, own_texts_from, TypesAlike}
-use Rattle.core_laws.proofs.Alike.{stores_in, core_of, own_of, NoMarks, IsSound, IsAlike, IsGoing}
+use Rattle.core_laws.proofs.Alike.{stores_in, core_of, own_of, NoMarks, IsSound, IsAlike}
 use Rattle.core_laws.proofs.Budget.{number_at}
 use Rattle.core_laws.proofs.Depths.{reached_start}
 use Rattle.core_laws.proofs.Groups.{enters_within}
 use Rattle.core_laws.proofs.Marks.{Unmarked}
 use Rattle.core_laws.proofs.Rising.{false_true}
 use Rattle.core_laws.proofs.Saves.{saves_current, saves_left}
-use Rattle.core_laws.proofs.Values.{all_stores, first_content, first_platform}
+use Rattle.core_laws.proofs.Values.{first_content, first_platform}
 use Rattle.core_laws.proofs.Whole.{IsWhole, puts_of}
 use Rattle.core_laws.proofs.Windows.{seen_first, seen_more}
 

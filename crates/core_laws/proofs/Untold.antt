@@ -1,14 +1,12 @@
--- A keyboard of which no line, no group and nothing for the file is told.
-use Rattle.std.specs.Prelude.{◌≡◌, ℕ, zero, suc, ◌+◌, ◌<◌, ◌≤◌, Bool, true, false, not, ◌&&◌, ◌||◌, nat_eq, nat_lt, cond, if◌then◌else◌, List, [], ◌∷◌, ◌++◌, encode_utf8_all, filter, filter_map, find, flat_map, length, map, slice_get, unwrap_or, Option, Some, None}
+-- A keyboard of which no line, no group and nothing for the file is reported.
+use Rattle.std.specs.Prelude.{◌≡◌, ℕ, ◌<◌, ◌≤◌, Bool, true, false, not, ◌&&◌, ◌||◌, nat_eq, nat_lt, cond, if◌then◌else◌, List, [], ◌∷◌, ◌++◌, encode_utf8_all, filter, filter_map, find, flat_map, length, map, Some}
 use Rattle.std.specs.List.{list_any}
 use Rattle.std.proofs.Common.{refl, sym, ap, ◌∙◌, arith}
-use Rattle.std.proofs.Math.Path.{subst}
 use Rattle.std.proofs.lemmas.Bool.{or_parts}
 use Rattle.std.proofs.lemmas.Bool.Decides.{nat_tests}
 use Rattle.kmn_base.specs.declared.items.Element.{Element}
 use Rattle.kmn_base.specs.Names.{same_name}
 use Rattle.kmn_base.specs.Rising.{is_among, rising}
-use Rattle.rule_model.specs.declared.system.TheConstants.{KEY_DICTIONARY}
 use Rattle.rule_model.specs.declared.tables.Out.{Out}
 use Rattle.rule_model.specs.declared.tables.Rule.{Rule}
 use Rattle.rule_model.specs.declared.tables.Group.{Group}
@@ -20,12 +18,9 @@ use Rattle.core_constructs.specs.declared.construct.Construct.TheVariants as con
 use Rattle.core_constructs.specs.declared.construct.GroupConstruct.{GroupConstruct}
 use Rattle.core_constructs.specs.declared.construct.GroupConstruct.TheVariants as group_construct
 use Rattle.core_constructs.specs.declared.construct.FileConstruct.{FileConstruct}
-use Rattle.core_constructs.specs.declared.facts.Facts.{Facts}
-use Rattle.core_constructs.specs.declared.facts.GroupFacts.{GroupFacts}
-use Rattle.core_constructs.specs.Contexts.{asks_unput}
 use Rattle.core_constructs.specs.Facts.{facts_of}
 use Rattle.core_constructs.specs.Marks.{item_marks, live_items, put_store, put_stores, set_value, set_values, store_marks}
-use Rattle.core_constructs.specs.Records.{can_match, constructs, has_construct, is_told}
+use Rattle.core_constructs.specs.Records.{constructs, has_construct, is_told}
 use Rattle.core_constructs.specs.Spent.{spent_in}
 use Rattle.core_constructs.specs.Told.{differences_at, difference_at, differences_in, file_constructs, file_differences, file_has, group_constructs, group_difference, group_differences, group_has, group_lines, has_key_names, line_differences, line_of, lines_at, lines_in, lines_with, told}
 use Rattle.core_laws.specs.Laws.{saves_nameless, Reached, known_at, IsFair, IsPlain, IsUntold, FairKeyboardsTypeAlike, UntoldKeyboardsTypeAlike}
@@ -80,7 +75,7 @@ none_any : {A : Type 0} (test : A → Bool) (xs : List A) → AllOf (λ (x : A).
 none_any test [] all = refl
 none_any test (x ∷ xs) all = λ i. all.0 i || none_any test xs all.1 i
 
--- ---- from what is told to what is known
+-- ---- from what is reported to what is known
 
 each_construct : (P : Construct → Type 0) → AllOf P constructs → (told_now : Construct) → P told_now
 each_construct P all construct.Use = all.0
@@ -152,9 +147,6 @@ module _ (flags : ℕ) (tables : Tables) (untold : IsUntold flags tables) where
       }
 
 module _ (tables : Tables) (fair : IsFair tables) (plain : IsPlain tables) where
-  items : List Out
-  items = live_items tables
-
   abbrev all_marks : List ℕ
   all_marks = (flat_map item_marks (live_items tables) ++ flat_map (store_marks tables.stores) (put_stores (live_items tables))) ++ flat_map (store_marks tables.stores) (set_values (live_items tables))
 

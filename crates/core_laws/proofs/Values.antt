@@ -1,27 +1,27 @@
 -- The values of options: their numbers, what a change of one leaves of the others, and their first values.
-use Rattle.std.specs.Prelude.{◌≡◌, ℕ, zero, suc, ◌+◌, ◌-◌, ◌<◌, ◌≤◌, ◌⊎◌, Bool, true, false, not, ◌&&◌, ◌||◌, nat_eq, cond, if◌then◌else◌, List, [], ◌∷◌, ◌++◌, length, map, slice_get, slice_set, unwrap_or, Option, Some, None}
+use Rattle.std.specs.Prelude.{◌≡◌, ℕ, zero, suc, ◌+◌, ◌-◌, ◌<◌, ◌⊎◌, Bool, true, false, not, ◌&&◌, ◌||◌, nat_eq, if◌then◌else◌, List, [], ◌∷◌, ◌++◌, length, map, slice_get, slice_set, unwrap_or, Option, Some, None}
 use Rattle.std.specs.List.{list_any}
 use Rattle.std.specs.Str.{bytes_eq}
 use Rattle.std.proofs.Common.{refl, sym, ap, ◌∙◌, arith, inl, inr, length-append}
 use Rattle.std.proofs.Math.Path.{subst}
-use Rattle.std.proofs.lemmas.Bool.{or_parts, and_parts, cases_order}
-use Rattle.std.proofs.lemmas.Bool.Decides.{nat_tests}
+use Rattle.std.proofs.lemmas.Bool.{or_parts, cases_order}
 use Rattle.std.proofs.lemmas.Option.{none-some, same_Some}
 use Rattle.std.proofs.lemmas.Slice.Eq.{bytes_eq-Decides}
 use Rattle.kmn_base.specs.declared.items.Element.{Element}
 use Rattle.kmn_base.specs.Rising.{is_among, rising}
 use Rattle.rule_model.specs.declared.tables.Store.{Store}
 use Rattle.rule_model.specs.Keyboard.{Ref, Numbered, Platform, StoreMeaning}
-use Rattle.rule_model.specs.Content.{options_before, option_of, option_at, option_number, content_of, content_at, content, elements_of_store, elements_at}
+use Rattle.rule_model.specs.Content.{options_before, option_of, option_at, option_number, content_of, content_at, content, elements_of_store, elements_at, store_number}
 use Rattle.rule_model.specs.System.{system_options}
 use Rattle.rule_model.specs.Trace.{options_of}
-use Rattle.rule_model.specs.Tab.{elements_of, with_options}
-use Rattle.rule_model.proofs.PlainOptions.{length-with_options, content_of_option, content_of_other}
+use Rattle.rule_model.specs.Tab.{elements_of, with_options, store_elements}
+use Rattle.rule_model.proofs.PlainOptions.{length-with_options, content_of_other}
 use Rattle.rule_model.proofs.SystemOptions.{at_behind, content_by_option, own_elements}
 use Rattle.core_meaning.specs.Options.{name_at, is_named, last_option_named, saved_under}
 use Rattle.core_meaning.specs.ContextLaws.{stated_platform}
 use Rattle.core_constructs.specs.Told.{have_same_name, shares_name}
-use Rattle.core_laws.proofs.Rising.{equal_numbers, same_number, in_rising, not_in_rising}
+use Rattle.core_laws.proofs.Rising.{equal_numbers, same_number, in_rising}
+use Rattle.std.specs.Option.{option_map_or}
 
 true_false : true ≡ false → ⊥
 true_false e = grind arith
@@ -171,7 +171,7 @@ module _ (options : List ℕ) (stores : List Store) where
       let at = store_at stores n less in
       ap (content_of current (options_before n (all_stores options stores))) (meaning_at options stores n at.store at.listed)
       ∙ ap (λ (b : Bool). if b then unwrap_or (slice_get current (options_before n (all_stores options stores))) [] else at.store.elements) other
-      ∙ sym (ap (λ (o : Option Store). Rattle.rule_model.specs.Tab.store_elements o) at.listed)
+      ∙ sym (ap (λ (o : Option Store). store_elements o) at.listed)
 
   pub elements_of_own : (n : ℕ) → n < length stores → elements_at (all_stores options stores) (Some n) ≡ elements_of stores n
   elements_of_own n less = own_elements options 0 n stores less
@@ -197,7 +197,7 @@ module _ (options : List ℕ) (stores : List Store) where
   content_kept current ref option value apart = by_number (option_number (all_stores options stores) ref) refl
     where
       by_number : (o : Option ℕ) → option_number (all_stores options stores) ref ≡ o → content (all_stores options stores) (slice_set current option value) ref ≡ content (all_stores options stores) current ref
-      by_number None is = alike (Rattle.rule_model.specs.Content.store_number (all_stores options stores) ref) is
+      by_number None is = alike (store_number (all_stores options stores) ref) is
         where
           alike : (n : Option ℕ) → option_at (all_stores options stores) n ≡ None → content_at (all_stores options stores) (slice_set current option value) n ≡ content_at (all_stores options stores) current n
           alike None is = refl
@@ -265,7 +265,7 @@ module _ (options : List ℕ) (stores : List Store) where
       at = store_at stores n less
 
       name_is : name_at (all_stores options stores) n ≡ at.store.name
-      name_is = ap (λ (o : Option StoreMeaning). Rattle.std.specs.Option.option_map_or (λ (store : StoreMeaning). store.name) o []) (meaning_at options stores n at.store at.listed)
+      name_is = ap (λ (o : Option StoreMeaning). option_map_or (λ (store : StoreMeaning). store.name) o []) (meaning_at options stores n at.store at.listed)
 
       has_name : nat_eq (length at.store.name) 0 ≡ false
       has_name = by_test (nat_eq (length at.store.name) 0) (ap (λ (name : List ℕ). not (nat_eq (length name) 0)) (sym name_is) ∙ named)

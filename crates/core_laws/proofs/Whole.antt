@@ -1,28 +1,24 @@
--- What is known of a keyboard of which nothing is told, in the form in which an event uses it.
-use Rattle.std.specs.Prelude.{◌≡◌, ℕ, zero, suc, ◌+◌, ◌<◌, ◌≤◌, min, max, Bool, true, false, not, ◌&&◌, ◌||◌, if◌then◌else◌, List, [], ◌∷◌, ◌++◌, length, map, slice_get, unwrap_or, option_map, Option, Some, None}
-use Rattle.std.specs.List.{All, list_any}
+-- What is known of a keyboard of which nothing is reported, in the form in which an event uses it.
+use Rattle.std.specs.Prelude.{◌≡◌, ℕ, zero, suc, ◌≤◌, min, Bool, true, false, if◌then◌else◌, List, [], ◌∷◌, length, map, slice_get, unwrap_or, option_map, Option, Some}
+use Rattle.std.specs.List.{All}
 use Rattle.std.proofs.Common.{refl, sym, ap, ◌∙◌, arith}
 use Rattle.std.proofs.Math.Path.{subst}
 use Rattle.std.proofs.lemmas.List.Elements.{All-head, All-tail}
 use Rattle.std.proofs.lemmas.Option.{none-some, same_Some, slice_get-map}
-use Rattle.kmn_base.specs.declared.items.Item.{Item}
 use Rattle.kmn_base.specs.declared.items.Element.{Element}
 use Rattle.kmn_base.specs.Rising.{is_among, rising}
 use Rattle.rule_model.specs.declared.tables.Group.{Group}
 use Rattle.rule_model.specs.declared.tables.Store.{Store}
 use Rattle.rule_model.specs.declared.tables.Tables.{Tables}
-use Rattle.rule_model.specs.Keyboard.{Numbered}
 use Rattle.rule_model.specs.Content.{content}
-use Rattle.rule_model.specs.Match.{is_item}
 use Rattle.rule_model.specs.Tab.{elements_of, store_elements, tab_dictionary, tab_options}
 use Rattle.core_meaning.specs.Events.{weight}
 use Rattle.core_constructs.specs.declared.construct.GroupConstruct.{GroupConstruct}
-use Rattle.core_constructs.specs.declared.facts.Facts.{Facts}
 use Rattle.core_constructs.specs.Facts.{facts_of}
 use Rattle.core_constructs.specs.Marks.{live_items, put_stores}
 use Rattle.core_constructs.specs.Queued.{effects_within}
 use Rattle.core_constructs.specs.Told.{group_has, shares_name}
-use Rattle.core_constructs.specs.Widths.{element_units, most_units, store_units, store_width}
+use Rattle.core_constructs.specs.Widths.{element_units, most_units, store_units}
 use Rattle.core_laws.specs.Laws.{sets_value_alone, misses_character, Reached, known_at}
 use Rattle.core_laws.proofs.Alike.{stores_in, NoMarks}
 use Rattle.core_laws.proofs.Budget.{number_at}

@@ -1,14 +1,13 @@
--- The window of Keyman's own engine in an event: each end of the text that is short enough lies in it, less what was deleted since.
-use Rattle.std.specs.Prelude.{◌≡◌, ℕ, zero, suc, ◌+◌, ◌-◌, ◌<◌, ◌≤◌, ◌⊎◌, min, Bool, true, false, nat_le, if◌then◌else◌, List, [], ◌∷◌, ◌++◌, length, take, drop}
-use Rattle.std.specs.Fn.{iterate}
-use Rattle.std.proofs.Common.{refl, sym, ap, ◌∙◌, arith, inl, inr, length-append, length-take, append_assoc, append-nil}
+-- The window of Keyman's own engine in an event: each end of the text that is short enough is in it, less what was deleted since.
+use Rattle.std.specs.Prelude.{◌≡◌, ℕ, zero, suc, ◌+◌, ◌-◌, ◌<◌, ◌≤◌, ◌⊎◌, min, Bool, false, nat_le, if◌then◌else◌, List, [], ◌∷◌, ◌++◌, length, take, drop}
+use Rattle.std.proofs.Common.{refl, sym, ap, ◌∙◌, arith, inl, inr, length-append, length-take, append_assoc}
 use Rattle.std.proofs.Math.Path.{subst}
 use Rattle.std.proofs.Math.Seq.{take-append_seam}
 use Rattle.std.proofs.lemmas.List.{take-append-drop, take-take, take_all, same_from_push}
 use Rattle.std.proofs.lemmas.Bool.Decides.{leb_tells}
 use Rattle.kmn_base.specs.declared.items.Item.{Item}
 use Rattle.kmn_base.specs.Lists.{without_last}
-use Rattle.core_meaning.specs.Events.{weight, units, window_of, CoreEvent, core_queue, delete_at_end, with_left, core_back, put_at_end, core_put}
+use Rattle.core_meaning.specs.Events.{weight, units, window_of, CoreEvent, core_queue, delete_at_end, with_left, core_back}
 use Rattle.core_meaning.specs.Laws.{IsLongestEnd, IsSeenWhole}
 use Rattle.core_meaning.proofs.Windows.{window_is_longest_end, short_ends_are_seen}
 
@@ -117,7 +116,7 @@ module _ (spent : ℕ) (left window : List Item) (x : Item) (seen : Seen spent l
           whole : end ≡ some.front ++ x ∷ []
           whole = some.parts ∙ ap (λ (y : Item). some.front ++ y ∷ []) (sym parts.1)
 
-  -- an item that is put gives back its units
+  -- an item that is put takes its units off those that are spent
   pub seen_put : Seen (spent - weight x) (left ++ x ∷ []) (window_of (window ++ x ∷ []))
   seen_put = record { before = parts.middle; parts = parts.parts; reaches = reaches_put }
     where

@@ -1,5 +1,5 @@
--- A keyboard of which nothing is told types the same texts in Keyman's own engine and in this product.
-use Rattle.std.specs.Prelude.{◌≡◌, ℕ, Bool, true, false, ◌&&◌, ◌||◌, nat_eq, nat_lt, List, [], ◌∷◌, length, map, slice_get, unwrap_or, Option, Some, None}
+-- A keyboard of which nothing is reported types the same texts in Keyman's own engine and in this product.
+use Rattle.std.specs.Prelude.{◌≡◌, ℕ, Bool, true, false, ◌&&◌, ◌||◌, nat_eq, nat_lt, List, [], ◌∷◌, length, map, slice_get, Option, Some, None}
 use Rattle.std.specs.List.{All, list_any}
 use Rattle.kmn_base.specs.declared.items.Item.TheVariants as item
 use Rattle.kmn_base.specs.declared.keys.KeyPress.{KeyPress}
@@ -8,7 +8,6 @@ use Rattle.kmn_base.specs.Rising.{is_among}
 use Rattle.rule_model.specs.declared.event_state.EventState.{EventState}
 use Rattle.rule_model.specs.declared.tables.Out.{Out}
 use Rattle.rule_model.specs.declared.tables.Out.TheVariants as output
-use Rattle.rule_model.specs.declared.tables.Rule.{Rule}
 use Rattle.rule_model.specs.declared.tables.Group.{Group}
 use Rattle.rule_model.specs.declared.tables.Store.{Store}
 use Rattle.rule_model.specs.declared.tables.Tables.{Tables}
@@ -22,7 +21,6 @@ use Rattle.core_meaning.specs.Laws.{IsCommonPress}
 use Rattle.core_meaning.specs.Steps.{core_texts}
 use Rattle.core_constructs.specs.declared.construct.Construct.{Construct}
 use Rattle.core_constructs.specs.declared.construct.GroupConstruct.{GroupConstruct}
-use Rattle.core_constructs.specs.declared.construct.FileConstruct.{FileConstruct}
 use Rattle.core_constructs.specs.declared.construct.FileConstruct.TheVariants as file_construct
 use Rattle.core_constructs.specs.declared.facts.Facts.{Facts}
 use Rattle.core_constructs.specs.declared.facts.GroupFacts.{GroupFacts}
@@ -59,7 +57,7 @@ TypesAlike tables =
     (version : CoreVersion) (ended : Bool) (text : List ℕ) (presses : List KeyPress) → All IsCommonPress presses
     → core_texts version tables ended text presses ≡ own_texts (tab tables) text presses
 
--- ---- what is not told, and differs
+-- ---- what is not reported, and differs
 
 abbrev pub is_nameless : Option Store → Bool
 is_nameless None = false
@@ -70,11 +68,11 @@ abbrev pub saves_nameless : List Store → Out → Bool
 saves_nameless stores (output.Save store) = is_nameless (slice_get stores store)
 saves_nameless stores _ = false
 
--- whether a match or nomatch output sets an option to the value of a store that is an option itself. This is told of records only
+-- whether a match or nomatch output sets an option to the value of a store that is an option itself. This is reported of records only
 abbrev pub sets_value_alone : Facts → Group → Bool
 sets_value_alone facts group = list_any (sets_from_option facts.options) (live group.on_match) || list_any (sets_from_option facts.options) (live group.on_nomatch)
 
--- whether a group uses keys, and the window may have lost so many units that K_BKSP finds no character in it
+-- whether a group uses keys, and the window may have lost more units than leave it a character for K_BKSP
 abbrev pub misses_character : GroupFacts → Group → Bool
 misses_character known group = group.using_keys && nat_lt 61 known.spent
 
@@ -85,7 +83,7 @@ Reached tables number group = (is_among number (facts_of tables).reached ≡ tru
 abbrev pub known_at : Tables → ℕ → Group → GroupFacts
 known_at tables number group = known_of (spent_in (facts_of tables) tables.groups) number group
 
--- a keyboard has none of three things that differ and are not told
+-- a keyboard has none of three things that differ and are not reported
 pub record IsPlain (tables : Tables) : Type 0 where
   pub named : list_any (saves_nameless tables.stores) (live_items tables) ≡ false
   pub values : (number : ℕ) (group : Group) → Reached tables number group → sets_value_alone (facts_of tables) group ≡ false
@@ -93,7 +91,7 @@ pub record IsPlain (tables : Tables) : Type 0 where
 
 -- ---- the laws
 
--- nothing is told of a record, or of a group that an event can enter, or of the file in its header, except for caps lock and keys with both sides
+-- nothing is reported of a record, or of a group that an event can enter, or of the file in its header, except for caps lock and keys with both sides
 pub record IsFair (tables : Tables) : Type 0 where
   pub rules : (number : ℕ) (group : Group) → Reached tables number group → (construct : Construct) → list_any (is_told construct tables (facts_of tables) (known_at tables number group) group) group.rules ≡ false
   pub groups : (number : ℕ) (group : Group) → Reached tables number group → (construct : GroupConstruct) → group_has (facts_of tables) group construct ≡ false
@@ -102,16 +100,16 @@ pub record IsFair (tables : Tables) : Type 0 where
   pub budget : file_has 0 tables (facts_of tables) file_construct.Budget ≡ false
   pub names : file_has 0 tables (facts_of tables) file_construct.Names ≡ false
 
--- such a keyboard types alike
+-- such a keyboard types the same in both engines
 abbrev pub FairKeyboardsTypeAlike : Type 0
 FairKeyboardsTypeAlike = (tables : Tables) → IsPlayable tables → IsFair tables → IsPlain tables → TypesAlike tables
 
--- nothing is told of a keyboard: no line, no group, and nothing for the file
+-- nothing is reported of a keyboard: no line, no group, and nothing for the file
 pub record IsUntold (flags : ℕ) (tables : Tables) : Type 0 where
   pub lines : (told flags tables).lines ≡ []
   pub groups : (told flags tables).groups ≡ []
   pub file : (told flags tables).file ≡ []
 
--- a keyboard of which nothing is told types alike
+-- a keyboard of which nothing is reported types the same in both engines
 abbrev pub UntoldKeyboardsTypeAlike : Type 0
 UntoldKeyboardsTypeAlike = (flags : ℕ) (tables : Tables) → IsPlayable tables → IsUntold flags tables → IsPlain tables → TypesAlike tables
