@@ -1,8 +1,7 @@
 //! Tests what a check prints for small sources, layouts and scripts, and its exit status.
 
 use check_run::check_run;
-use kmn_base::Seq;
-use kmn_outside::{Folder, MemoryFolder, MemorySink};
+use kmn_outside::{Folder, MemoryFolder};
 use run_tests::commands::{empty_folder, sink, words};
 use source_tests::fixtures::{is_row, parted, source_of};
 use std::alloc::Global;
@@ -179,15 +178,12 @@ in good.json good.keys good.keys ⇒ 2";
 
 /// Returns a folder with the files of the table of inputs.
 fn input_folder(alloc: Global) -> Result<MemoryFolder, Fail> {
-    let mut files = Vec::new(alloc);
+    let mut folder = empty_folder(alloc, 0, 0)?;
     for (name, text) in FILES {
         let text = source_of(alloc, text)?;
-        files.push((
-            Seq::from_slice(alloc, name.as_bytes())?,
-            Seq::from_slice(alloc, text.as_bytes())?,
-        ))?;
+        folder.write(alloc, name.as_bytes(), text.as_bytes())?;
     }
-    Ok(MemoryFolder::new(alloc, Seq::from_vec(files), Seq::new(alloc)))
+    Ok(folder)
 }
 
 /// Returns whether a run over the files of the table has the exit status and the printed text of its row.
@@ -196,7 +192,7 @@ fn is_run(alloc: Global, row: &str) -> Result<bool, Fail> {
     let (status, printed) = wanted.split_once(' ').unwrap_or((wanted, ""));
     let printed = source_of(alloc, printed)?;
     let mut folder = input_folder(alloc)?;
-    let mut sink = MemorySink::new(alloc, Seq::new(alloc));
+    let mut sink = sink(alloc, 0)?;
     let words = words(alloc, line)?;
     let ended = check_run(alloc, words.as_slice(), &mut folder, &mut sink);
     Ok(status.parse::<u8>().ok() == Some(ended.number()) && sink.written() == printed.as_bytes())
