@@ -10,7 +10,7 @@ use Rattle.rule_model.specs.declared.tables.Tables.{Tables}
 use Rattle.rule_model.specs.Event.{State}
 use Rattle.rule_model.specs.Keyboard.{Keyboard}
 use Rattle.rule_model.specs.KeyEvent.{begin_event, after_key}
-use Rattle.rule_model.specs.Tab.{tab}
+use Rattle.rule_model.specs.Tab.{tab, tab_options}
 use Rattle.kmx_format.specs.TablesOf.{tables_of}
 use Rattle.kmx_verifier.proofs.Playing.{valid_playable}
 use Rattle.core_conversions.specs.Laws.{PressesAreSame}
@@ -47,7 +47,7 @@ chain : (a b c : Keyboard) → PressesAreSame a b → PressesAreSame b c → Pre
 chain a b c one other = record { first = one.first ∙ other.first; each = λ press s. one.each press s ∙ other.each press s }
 
 played_same : (tables : Tables) → PressesAreSame (tab (with_played_version tables)) (tab tables)
-unfolding tab
+unfolding tab tab_options
 played_same tables = itself (tab tables)
 
 conversion_same : (how : Conversion) (tables : Tables) → PressesAreSame (tab (converted_tables how tables)) (tab tables)
