@@ -24,9 +24,9 @@ use Rattle.rule_model.specs.Act.{content_now}
 use Rattle.rule_model.specs.Choose.{Chosen, first, first_with}
 use Rattle.rule_model.specs.Enter.{do_group, in_group}
 use Rattle.rule_model.specs.Tab.{tab_pattern, tab_rule, tab_group, pattern_options, output_options, rule_options, group_options}
-use Rattle.core_conversions.specs.Conversions.{can_be_nomatch, has_empty_context, from_empty_context, nomatch_with, nomatch_of, group_with_nomatch}
-use Rattle.core_conversions.specs.Laws.{EmptyAsNomatchKeepsTraces}
-use Rattle.core_conversions.proofs.SameTraces.{keyboard, GroupsAlike, traces_same}
+use Rattle.core_conversions.specs.Conversions.{can_be_nomatch, has_empty_context, from_empty_context, nomatch_with, nomatch_of, empty_as_nomatch, group_with_nomatch}
+use Rattle.core_conversions.specs.Laws.{EmptyAsNomatchKeepsTraces, KeepsPresses}
+use Rattle.core_conversions.proofs.SameTraces.{keyboard, GroupsAlike, presses_same, traces_same}
 
 -- a list that has no items is empty
 no_items : {X : Type 0} (xs : List X) → nat_eq (length xs) 0 ≡ true → xs ≡ []
@@ -197,3 +197,6 @@ nomatch_alike =
 
 pub empty_as_nomatch_keeps_traces : EmptyAsNomatchKeepsTraces
 empty_as_nomatch_keeps_traces = traces_same group_with_nomatch nomatch_alike
+
+pub empty_as_nomatch_keeps_presses : KeepsPresses empty_as_nomatch
+empty_as_nomatch_keeps_presses = presses_same group_with_nomatch nomatch_alike

@@ -14,9 +14,9 @@ use Rattle.rule_model.specs.Patterns.{is_condition}
 use Rattle.rule_model.specs.Match.{Content, takes_item, catch_next, catches_from}
 use Rattle.rule_model.specs.Hold.{is_true, is_at_start, pattern_count, caught_by, fitting_place_with}
 use Rattle.rule_model.specs.Tab.{tab_pattern, tab_rule, pattern_options, output_options}
-use Rattle.core_conversions.specs.Conversions.{after_nuls, context_with_nul_first, rule_with_nul_first}
-use Rattle.core_conversions.specs.Laws.{NulFirstKeepsTraces}
-use Rattle.core_conversions.proofs.SameTraces.{RulesAlike, rules_alike, traces_same}
+use Rattle.core_conversions.specs.Conversions.{after_nuls, context_with_nul_first, nul_first, rule_with_nul_first}
+use Rattle.core_conversions.specs.Laws.{KeepsPresses, NulFirstKeepsTraces}
+use Rattle.core_conversions.proofs.SameTraces.{RulesAlike, presses_same, rules_alike, traces_same}
 
 -- two contexts hold in the same states, with the same catches, and name the same options
 record ContextsAlike (stores : List Store) (xs ys : List Pat) : Type 0 where
@@ -97,3 +97,6 @@ nul_first_alike =
 
 pub nul_first_keeps_traces : NulFirstKeepsTraces
 nul_first_keeps_traces = traces_same _ (rules_alike rule_with_nul_first nul_first_alike)
+
+pub nul_first_keeps_presses : KeepsPresses nul_first
+nul_first_keeps_presses = presses_same _ (rules_alike rule_with_nul_first nul_first_alike)

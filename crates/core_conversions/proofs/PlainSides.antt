@@ -12,9 +12,9 @@ use Rattle.rule_model.specs.declared.tables.Rule.{Rule}
 use Rattle.rule_model.specs.Match.{catches_from}
 use Rattle.rule_model.specs.Hold.{is_true, has_room, pattern_count, caught_by}
 use Rattle.rule_model.specs.Tab.{tab_rule}
-use Rattle.core_conversions.specs.Conversions.{without_control_sides, without_alt_sides, plain_flags, plain_key, plain_rule}
-use Rattle.core_conversions.specs.Laws.{PlainSidesKeepTraces}
-use Rattle.core_conversions.proofs.SameTraces.{RulesAlike, rules_alike, traces_same}
+use Rattle.core_conversions.specs.Conversions.{without_control_sides, without_alt_sides, plain_flags, plain_key, plain_rule, plain_sides}
+use Rattle.core_conversions.specs.Laws.{KeepsPresses, PlainSidesKeepTraces}
+use Rattle.core_conversions.proofs.SameTraces.{RulesAlike, presses_same, rules_alike, traces_same}
 
 -- a mask keeps a bit that it has
 has_masked : (flags mask bit : ℕ) → bit_and mask bit ≡ bit → has (bit_and flags mask) bit ≡ has flags bit
@@ -83,3 +83,6 @@ plain_alike =
 
 pub plain_sides_keep_traces : PlainSidesKeepTraces
 plain_sides_keep_traces = traces_same _ (rules_alike plain_rule plain_alike)
+
+pub plain_sides_keep_presses : KeepsPresses plain_sides
+plain_sides_keep_presses = presses_same _ (rules_alike plain_rule plain_alike)

@@ -30,6 +30,7 @@ use Rattle.rule_model.specs.System.{system_options}
 use Rattle.rule_model.specs.Tab.{tab, tab_rule, tab_output, tab_group, tab_options, tab_dictionary, output_options, rule_options, group_options, with_options}
 use Rattle.rule_model.specs.Trace.{step_then, steps_from, first_state, trace_of, trace}
 use Rattle.core_conversions.specs.Conversions.{with_groups}
+use Rattle.core_conversions.specs.Laws.{PressesAreSame}
 
 -- a keyboard without cased keys that chooses the first rule that holds
 abbrev pub keyboard : Ref → List StoreMeaning → List (List ℕ) → List GroupMeaning → Keyboard
@@ -201,6 +202,23 @@ traces_same convert alike tables events =
     let options = any_same_options in
     (λ i. trace (keyboard (Numbered tables.start_unicode) (options i ++ system_options) (tab_dictionary tables.stores) (map (tab_group tables.stores) (map convert tables.groups))) events)
     ∙ keyboards_same convert alike (Numbered tables.start_unicode) (with_options (tab_options tables) 0 tables.stores ++ system_options) (tab_dictionary tables.stores) tables.stores tables.groups events
+  where
+    any_same_options : with_options (flat_map group_options (map convert tables.groups)) 0 tables.stores ≡ with_options (flat_map group_options tables.groups) 0 tables.stores
+    any_same_options =
+        stores_same (flat_map group_options (map convert tables.groups)) (flat_map group_options tables.groups)
+        (λ n. any_same (nat_eq n) group_options convert (λ group. alike.options group n) tables.groups) 0 tables.stores
+
+-- and the same first state, and each press has the same effect
+pub presses_same : (convert : Group → Group) → GroupsAlike convert → (tables : Tables) → PressesAreSame (tab (with_groups convert tables)) (tab tables)
+unfolding tab tab_options
+presses_same convert alike tables =
+    let options = any_same_options in
+    record {
+      first = λ i. first_state (keyboard (Numbered tables.start_unicode) (options i ++ system_options) (tab_dictionary tables.stores) (map (tab_group tables.stores) (map convert tables.groups)));
+      each = λ press s.
+          (λ i. after_key (keyboard (Numbered tables.start_unicode) (options i ++ system_options) (tab_dictionary tables.stores) (map (tab_group tables.stores) (map convert tables.groups))) press s)
+          ∙ after_same convert alike (Numbered tables.start_unicode) (with_options (tab_options tables) 0 tables.stores ++ system_options) (tab_dictionary tables.stores) tables.stores tables.groups press s;
+    }
   where
     any_same_options : with_options (flat_map group_options (map convert tables.groups)) 0 tables.stores ≡ with_options (flat_map group_options tables.groups) 0 tables.stores
     any_same_options =

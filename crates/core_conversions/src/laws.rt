@@ -1,6 +1,6 @@
 //! Laws of the conversions in `specs/Conversions`, each the contract of a function with an empty body.
 
-ghost use Rattle.core_conversions.specs.Laws.{NulFirstKeepsTraces, PlainSidesKeepTraces, EmptyAsNomatchKeepsTraces, ConvertedKeepsTraces};
+ghost use Rattle.core_conversions.specs.Laws.{NulFirstKeepsTraces, PlainSidesKeepTraces, EmptyAsNomatchKeepsTraces, ConvertedKeepsTraces, ConversionsKeepPresses};
 
 /// States that tables take the same steps if each `nul` before the first matched item of a context comes before the conditions.
 #[tactic(auto, using(crate::proofs::NulFirst::nul_first_keeps_traces))]
@@ -24,4 +24,10 @@ pub fn empty_as_nomatch_keeps_traces()
 #[tactic(auto, using(crate::proofs::AllConverted::converted_keeps_traces))]
 pub fn converted_keeps_traces()
     ensures { ConvertedKeepsTraces }
+{}
+
+/// States that tables have the same first state after each conversion, and that each press has the same effect on each state.
+#[tactic(auto, using(crate::proofs::AllConverted::conversions_keep_presses))]
+pub fn conversions_keep_presses()
+    ensures { ConversionsKeepPresses }
 {}
